@@ -1,0 +1,62 @@
+-- Laws of a chunk of pixels as a sorted list of runs: the table with the runs is the table with the pixels.
+use mathlib.Core.Path.{_≡_, ap, _∙_}
+use mathlib.Core.Bool.{true, cond}
+use mathlib.Core.List.{List}
+use Prim.Native.Nat.{ℕ, _+_, _≤_, _<_}
+use native.Mathlib.Omega.{arith}
+use lib.ListN.{length, getD, take, drop, length-take}
+use lib.Seq.{length-take-le, getD-take}
+use lib.Dec.{leb}
+use borrow.Author.Tests.{le-leb, lt-leb}
+use Rattle.number.specs.Sum.{sumOf}
+use Rattle.entries.specs.Content.{Entry, pixelsOf, sound}
+use Rattle.entries.specs.Strip.{stripKeys, countOf}
+use Rattle.entries.specs.Adding.{putAll}
+use Rattle.entries.proofs.Gives.{Keys, keys-take, putAll-pixels}
+use Rattle.entries.proofs.Strips.{byte-keys, keys-drop}
+use Rattle.runs.specs.Run.{runKey, runCount}
+use Rattle.runs.specs.Sorting.{sorted}
+use Rattle.runs.proofs.sort.Order.{sorted-sum, sorted-length, sorted-rises}
+use Rattle.adding.specs.Walk.{giveBack}
+use Rattle.adding.specs.Trying.{piece}
+use Rattle.adding.proofs.merge.Backs.{back-all}
+
+-- a piece of a strip of bytes has keys
+pub piece-keys : (s : List ℕ) (from n : ℕ) → ((i : ℕ) → getD s i 0 < 256) → Keys (piece s from n)
+piece-keys s from n h = keys-take n (keys-drop from (byte-keys s h))
+
+-- len runs of L hold the pixels of a piece, and lie sorted in L′
+pub record Listed (s : List ℕ) (from n len : ℕ) (L L′ : List ℕ) : Type 0 where
+  pub bytes : (i : ℕ) → getD s i 0 < 256
+  pub sums : (c : ℕ) → sumOf (runCount c) (take len L) ≡ countOf c (piece s from n)
+  pub sorts : take len L′ ≡ sorted (take len L)
+  pub room : len ≤ length L
+  pub room′ : len ≤ length L′
+
+module _ {s : List ℕ} {from n len : ℕ} {L L′ : List ℕ} (r : Listed s from n len L L′) where
+  -- their keys rise
+  pub list-rises : (i j : ℕ) → i ≤ j → j < len → runKey (getD L′ i 0) ≤ runKey (getD L′ j 0)
+  list-rises i j h l =
+      let e : length (sorted (take len L)) ≡ len = sorted-length (take len L) ∙ length-take-le len L (r .room) in
+      let k : runKey (getD (take len L′) i 0) ≤ runKey (getD (take len L′) j 0)
+      = rw (r .sorts) (sorted-rises (take len L) i j h (rw e l)) in
+      rw (getD-take len L′ i 0 (omega arith), getD-take len L′ j 0 l) at k
+
+  -- the table with them is the table with the pixels
+  pub list-all : (es : List Entry) → sound 0 es ≡ true → giveBack (take len L′) es ≡ putAll es (piece s from n)
+  list-all es h =
+      back-all (take len L′) (piece s from n) es (piece-keys s from n (r .bytes)) h
+      (λ c. ap (sumOf (runCount c)) (r .sorts) ∙ sorted-sum (runCount c) (take len L) ∙ r .sums c)
+
+-- a piece has no more pixels than it was cut for
+pub piece-pixels : (es : List Entry) (s : List ℕ) (from n : ℕ) → pixelsOf (putAll es (piece s from n)) ≤ pixelsOf es + n
+piece-pixels es s from n = omega (arith, putAll-pixels es (piece s from n), length-take n (drop from (stripKeys s)))
+
+-- either column of a table that does not go in, and of one that does
+pub laid-shut : (room n : ℕ) (F : List Entry) (cs ds : List ℕ) → n ≡ length F → room < n
+    → cs ≡ cond (leb (length F) room) ds cs
+laid-shut room n F cs ds e h = rw (← e, lt-leb n room h)
+
+pub laid-open : (room n : ℕ) (F : List Entry) (cs ds : List ℕ) → n ≡ length F → n ≤ room
+    → ds ≡ cond (leb (length F) room) ds cs
+laid-open room n F cs ds e h = rw (← e, le-leb n room h)

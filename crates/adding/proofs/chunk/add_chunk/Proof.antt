@@ -1,0 +1,164 @@
+-- `add_chunk` meets its contract: the runs gathered and sorted hold the pixels of a piece; counted, they do not go in
+-- or are merged.
+use mathlib.Core.Path.{_≡_, ap, _∙_}
+use mathlib.Core.List.{List}
+use Prim.Native.Nat.{ℕ, _≤_, _<_}
+use native.Mathlib.Omega.{arith}
+use lib.ListN.{length, getD, take}
+use denote.Ref.{now}
+use borrow.Author.Needs.{needs}
+use Rattle.entries.specs.Content.{Entry, entries, keysInto, weightsInto}
+use Rattle.entries.specs.Adding.{putAll}
+use Rattle.entries.proofs.Slices.{keys-in-order, entries-length}
+use Rattle.adding.specs.Walk.{giveBack}
+use Rattle.adding.specs.Trying.{piece}
+use Rattle.adding.proofs.merge.Backs.{back-length-le}
+use Rattle.adding.proofs.chunk.Listing.{Listed, list-rises, list-all, piece-pixels, laid-shut, laid-open}
+use Rattle.adding.proofs.chunk.add_chunk.Statement.{statement}
+use Rattle.adding.proofs.chunk.add_chunk.Tie as tie
+
+-- with the runs sorted: the entry, the two lists, the table and the pixels
+abbrev st : tie.After-count-with-arg2 → tie.Start
+st c = c .before .before .before .before .before .before .before .before .before .before .before .before .before .before .before .before .before .before
+
+abbrev got : tie.After-count-with-arg2 → tie.After-gather
+got c = c .before .before .before .before .before .before .before .before .before .before .before
+
+abbrev len : tie.After-count-with-arg2 → ℕ
+len c = got c .gather .result .len
+
+abbrev list : tie.After-count-with-arg2 → List ℕ
+list c = c .before .before .before .before .before .before .sort-runs .last .0
+
+abbrev T : tie.After-count-with-arg2 → List Entry
+T c = entries (st c .args .used) (now (st c .args .keys)) (now (st c .args .weights))
+
+abbrev F : tie.After-count-with-arg2 → List Entry
+F c = putAll (T c) (piece (now (st c .args .strip)) (st c .args .from) (got c .gather .result .pixels))
+
+listed : (c : tie.After-count-with-arg2) → Listed (now (st c .args .strip)) (st c .args .from) (got c .gather .result .pixels) (len c) (got c .gather .last .1 .1 .1 .0) (list c)
+listed c = record {
+  bytes = λ i. omega (arith, c .before .before .before .before .before .before .before .before .before .before .before .before .before .before .before .shared-slice-known .given i);
+  sums = got c .gather .ensures .1;
+  sorts = c .before .before .before .before .before .before .sort-runs .ensures;
+  room = omega (arith, got c .gather .ensures .0 .2, got c .gather .kept .1 .1 .1 .0);
+  room′ = omega (arith, got c .gather .ensures .0 .2, got c .gather .kept .1 .1 .1 .0, c .before .before .before .before .before .before .sort-runs .kept .0);
+}
+
+in-keys : (c : tie.After-count-with-arg2) → st c .args .used ≤ length (now (st c .args .keys))
+in-keys c = omega (arith, st c .pre .0 .table .in-room, st c .pre .0 .table .keys-room)
+
+in-weights : (c : tie.After-count-with-arg2) → st c .args .used ≤ length (now (st c .args .weights))
+in-weights c = omega (arith, st c .pre .0 .table .in-room, st c .pre .0 .table .weights-room)
+
+keys-rise : (c : tie.After-count-with-arg2) → (p q : ℕ) → p ≤ q → q < st c .args .used → getD (now (st c .args .keys)) p 0 ≤ getD (now (st c .args .keys)) q 0
+keys-rise c = keys-in-order (st c .args .used) (now (st c .args .keys)) (now (st c .args .weights)) (in-keys c) (in-weights c) (st c .pre .0 .table .sounds)
+
+all : (c : tie.After-count-with-arg2) → giveBack (take (len c) (list c)) (T c) ≡ F c
+all c = list-all (listed c) (T c) (st c .pre .0 .table .sounds)
+
+given : (c : tie.After-count-with) → c .count-with .result ≡ length (giveBack (take (len (c .before)) (list (c .before))) (T (c .before)))
+given c = c .count-with .ensures (now (st (c .before) .args .weights)) (in-weights (c .before))
+
+used-is : (c : tie.After-count-with) → c .count-with .result ≡ length (F (c .before))
+used-is c = given c ∙ ap length (all (c .before))
+
+gather-requires : tie.Need-gather-requires
+gather-requires c κs = search needs
+
+sort-runs-requires : tie.Need-sort-runs-requires
+sort-runs-requires c κs = search needs
+
+count-with-requires : tie.Need-count-with-requires
+count-with-requires c κs =
+    ((in-keys c, listed c .room′, omega (arith, got c .gather .ensures .0 .2, st c .pre .1)), (keys-rise c, list-rises (listed c)))
+
+same-length : tie.Need-same-length
+same-length c = search needs
+
+same-length-2 : tie.Need-same-length-2
+same-length-2 c = search needs
+
+same-length-3 : tie.Need-same-length-3
+same-length-3 c = search needs
+
+returns : tie.Need-returns
+returns c =
+    let n = c .before in
+    let l = n .before in
+    let s = st l in
+    let shut = laid-shut (s .args .room) (n .count-with .result) (F l) in record {
+      some = got l .gather .ensures .0 .0;
+      within = got l .gather .ensures .0 .1;
+      used-is = used-is n;
+      keys-are = shut (now (s .args .keys)) (keysInto (F l) (now (s .args .keys))) (used-is n) (c .if1 .taken);
+      weights-are = shut (now (s .args .weights)) (weightsInto (F l) (now (s .args .weights))) (used-is n) (c .if1 .taken);
+    }
+
+merge-requires : tie.Need-merge-requires
+merge-requires c κs =
+    let n = c .before .before .before .before in
+    let l = n .before in
+    let s = st l in
+    let t = s .pre .0 .table in
+    let r : n .count-with .result ≤ s .args .room = c .before .before .before .if1 .left in
+    let len-T = entries-length (s .args .used) (now (s .args .keys)) (now (s .args .weights)) (in-keys l) (in-weights l) in
+    let small = piece-pixels (T l) (now (s .args .strip)) (s .args .from) (got l .gather .result .pixels) in (
+      (
+        omega (arith, given n, back-length-le (take (len l) (list l)) (T l), len-T),
+        omega (arith, r, t .keys-room),
+        omega (arith, r, t .weights-room),
+        listed l .room′,
+      ),
+      (
+        keys-rise l,
+        (list-rises (listed l), (given n, rw (all l) (omega (arith, s .pre .0 .total, small, got l .gather .ensures .0)))),
+      ),
+    )
+
+same-length-4 : tie.Need-same-length-4
+same-length-4 c = search needs
+
+same-length-5 : tie.Need-same-length-5
+same-length-5 c = search needs
+
+same-length-6 : tie.Need-same-length-6
+same-length-6 c = search needs
+
+same-length-7 : tie.Need-same-length-7
+same-length-7 c = search needs
+
+returns-2 : tie.Need-returns-2
+returns-2 c =
+    let m = c .before .before .before .before in
+    let n = m .before .before .before .before .before in
+    let l = n .before in
+    let s = st l in
+    let r : n .count-with .result ≤ s .args .room = m .before .before .before .before .if1 .left in
+    let open′ = laid-open (s .args .room) (n .count-with .result) (F l) in record {
+      some = got l .gather .ensures .0 .0;
+      within = got l .gather .ensures .0 .1;
+      used-is = used-is n;
+      keys-are = (rw (all l) at (m .merge .ensures .0))
+          ∙ open′ (now (s .args .keys)) (keysInto (F l) (now (s .args .keys))) (used-is n) r;
+      weights-are = (rw (all l) at (m .merge .ensures .1))
+          ∙ open′ (now (s .args .weights)) (weightsInto (F l) (now (s .args .weights))) (used-is n) r;
+    }
+
+pub add-chunk-spec : {M : Type 1} → statement M
+add-chunk-spec =
+    tie.close
+    (tie.spec
+    gather-requires
+    sort-runs-requires
+    count-with-requires
+    same-length
+    same-length-2
+    same-length-3
+    returns
+    merge-requires
+    same-length-4
+    same-length-5
+    same-length-6
+    same-length-7
+    returns-2)

@@ -1,0 +1,55 @@
+-- `add_one` meets its contract: one pixel of the strip is a piece of one.
+use mathlib.Core.Path.{_≡_, refl}
+use mathlib.Core.List.{[], _∷_}
+use Prim.Native.Nat.{ℕ, _*_}
+use native.Mathlib.Omega.{arith}
+use denote.Ref.{now}
+use borrow.Author.Needs.{needs}
+use Rattle.entries.specs.Strip.{keyAt}
+use Rattle.entries.proofs.Strips.{strip-one}
+use Rattle.adding.specs.Trying.{piece}
+use Rattle.adding.proofs.chunk.add_one.Statement.{statement}
+use Rattle.adding.proofs.chunk.add_one.Tie as tie
+
+-- with the pixel tried: the entry, the key, the piece
+abbrev st : tie.After-add-pixel → tie.Start
+st c = c .before .before .before .before .before .before .before
+
+abbrev keyed : tie.After-add-pixel → tie.After-key-at
+keyed c = c .before .before .before
+
+one : (c : tie.After-add-pixel)
+    → piece (now (st c .args .strip)) (st c .args .from) 1 ≡ keyAt (now (st c .args .strip)) (3 * st c .args .from) ∷ []
+one c = strip-one (st c .args .from) (now (st c .args .strip)) (st c .pre .bytes)
+
+mul-key-at : tie.Need-mul-key-at
+mul-key-at c = omega (arith, c .before .before .before .pre .bytes)
+
+key-at-requires : tie.Need-key-at-requires
+key-at-requires c κs = omega (arith, c .before .before .before .pre .bytes)
+
+add-pixel-requires : tie.Need-add-pixel-requires
+add-pixel-requires c κs =
+    let s = c .before .before .before .before .before .before in (s .pre .table, omega (arith, s .pre .total))
+
+same-length : tie.Need-same-length
+same-length c = search needs
+
+same-length-2 : tie.Need-same-length-2
+same-length-2 c = search needs
+
+returns : tie.Need-returns
+returns c =
+    let a = c .before .before .before .before in
+    let k = keyed a .key-at .ensures .0 in record {
+      some = omega arith;
+      within = omega arith;
+      used-is = rw (one a) (rw k at (a .add-pixel .ensures .0));
+      keys-are = rw (one a) (rw k at (a .add-pixel .ensures .1 .0));
+      weights-are = rw (one a) (rw k at (a .add-pixel .ensures .1 .1));
+    }
+
+pub add-one-spec : {M : Type 1} → statement M
+add-one-spec =
+    tie.close
+    (tie.spec mul-key-at key-at-requires add-pixel-requires same-length same-length-2 returns)

@@ -1,0 +1,15 @@
+-- Glossary.
+--   below k, hit k     the place of a key among keys that rise, and whether it stands there
+--   push i n v         v put in at place i, n values moved up
+--   allBelow ks i k    the last of the first i keys is below k
+--   giveBack           the runs of a list added to a table, the last one first
+--   Standing           a sound table stands in two slices
+--   Ready              a strip has pixels to add, and the total has place for them
+--   piece s from n     n pixels of a strip
+--   laidKeys, laidWeights   the slices with a table, where it goes in
+--   Tried              what was tried, and what the slices have
+pub mod Walk
+pub mod Trying
+unfoldable pub use Walk.{below, hit, push, allBelow, giveBack}
+unfoldable pub use Trying.{piece, laidKeys, laidWeights}
+pub use Trying.{Standing, Ready, Tried}

@@ -1,0 +1,110 @@
+// Pixels of a strip, tried at once: one alone where they are few, else a list of runs.
+ghost use mathlib.Core.Path.{_≡_};
+ghost use Prim.Native.Nat.{_≤_, _<_};
+ghost use lib.ListN.{length};
+ghost use Rattle.runs.specs.Sorting.{mostRuns};
+ghost use Rattle.adding.specs.Trying.{Ready, Tried};
+use super::merge::count_with;
+use super::merge::merge;
+use super::pixel::add_pixel;
+
+// Pixels tried, and the number of entries with them.
+pub struct Chunk {
+    pub used: usize,
+    pub pixels: usize,
+}
+
+// The pixel at `from`, as a chunk of one.
+pub fn add_one(
+    keys: &mut [u32],
+    weights: &mut [u32],
+    used: usize,
+    room: usize,
+    strip: &[u8],
+    from: usize,
+) -> Chunk
+    requires { ⌜ Ready used room (now keys) (now weights) (now strip) from 1 ⌝ }
+    ensures { λ r. ⌜ Tried used room (now (keys .entry)) (now (weights .entry)) (now (strip .entry)) from 1 (r .used) (r .pixels) (now (keys .exit)) (now (weights .exit)) ⌝ }
+{
+    let key = runs::gather::key_at(strip, 3 * from);
+    let next = add_pixel(keys, weights, used, room, key);
+    Chunk {
+        used: next,
+        pixels: 1,
+    }
+}
+
+// Pixels from `from` on, `most` at the most: as many as the list holds as runs. The two lists are
+// room to work in, of at most 65,536 places.
+fn add_chunk(
+    keys: &mut [u32],
+    weights: &mut [u32],
+    used: usize,
+    room: usize,
+    strip: &[u8],
+    from: usize,
+    most: usize,
+    list: &mut [u32],
+    other: &mut [u32],
+) -> Chunk
+    requires { ⌜ Ready used room (now keys) (now weights) (now strip) from most ⌝ }
+    requires { ⌜ (0 < length (now list)) × (length (now list) ≤ mostRuns) × (length (now list) ≤ length (now other)) ⌝ }
+    ensures { λ r. ⌜ Tried used room (now (keys .entry)) (now (weights .entry)) (now (strip .entry)) from most (r .used) (r .pixels) (now (keys .exit)) (now (weights .exit)) ⌝ }
+{
+    let got = runs::gather::gather(strip, from, most, list);
+    let len = got.len;
+    let pixels = got.pixels;
+    runs::sort::sort_runs(list, other, len);
+    let next = count_with(keys, used, list, len);
+    if room < next {
+        return Chunk { used: next, pixels };
+    }
+    merge(keys, weights, used, next, list, len);
+    Chunk { used: next, pixels }
+}
+
+// The same with lists as long as the pixels want: none for one pixel where they are few.
+pub fn add_some(
+    keys: &mut [u32],
+    weights: &mut [u32],
+    used: usize,
+    room: usize,
+    strip: &[u8],
+    from: usize,
+    most: usize,
+) -> Chunk
+    requires { ⌜ Ready used room (now keys) (now weights) (now strip) from most ⌝ }
+    ensures { λ r. ⌜ Tried used room (now (keys .entry)) (now (weights .entry)) (now (strip .entry)) from most (r .used) (r .pixels) (now (keys .exit)) (now (weights .exit)) ⌝ }
+{
+    if most < 32 {
+        return add_one(keys, weights, used, room, strip, from);
+    }
+    if most <= 4096 {
+        let mut list = [0u32; 4096];
+        let mut other = [0u32; 4096];
+        return add_chunk(
+            keys,
+            weights,
+            used,
+            room,
+            strip,
+            from,
+            most,
+            &mut list,
+            &mut other,
+        );
+    }
+    let mut list = [0u32; 65536];
+    let mut other = [0u32; 65536];
+    add_chunk(
+        keys,
+        weights,
+        used,
+        room,
+        strip,
+        from,
+        most,
+        &mut list,
+        &mut other,
+    )
+}

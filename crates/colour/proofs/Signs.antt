@@ -1,0 +1,86 @@
+-- A difference of two coordinates as a signed number of 32 bits, and its square, which is `sq` of the two.
+use Prim.Native.Nat.{ℕ, suc, _+_, _-_, _*_, _≤_}
+use mathlib.Core.Path.{_≡_, sym, ap, _∙_}
+use native.Mathlib.Decide.{decLe}
+use native.Mathlib.Omega.{arith}
+use lib.IntN.{
+  ℤ,
+  pos,
+  negsuc,
+  _-ℤ_,
+  _*ℤ_,
+  pos-+ℤ-pos,
+  +ℤ-negℤ-cancel,
+  +ℤ-comm,
+  pos-*ℤ-pos,
+  negsuc-*ℤ-negsuc,
+}
+use lib.Signed.{mag}
+use mir.Syntax.{w32}
+use mir.Val.{SFits, ofZ, toZ}
+use mir.ValLaws.{toZ-pos, toZ-ofZ}
+use Rattle.number.specs.Square.{gap, sq}
+use Rattle.number.proofs.Squares.{sq-most}
+use Rattle.colour.specs.Points.{mostCoordinate}
+
+-- ---- whole numbers with a sign
+
+-- what is added and taken away again
+difference-of-sum : (x y : ℕ) → pos (x + y) -ℤ pos y ≡ pos x
+difference-of-sum x y = ap (λ t. t -ℤ pos y) (sym (pos-+ℤ-pos x y)) ∙ +ℤ-negℤ-cancel (pos x) (pos y)
+
+-- down to a lower number the difference has no sign
+difference-down : (a b : ℕ) → b ≤ a → pos a -ℤ pos b ≡ pos (a - b)
+difference-down a b h =
+    let e : a ≡ a - b + b = omega arith in
+    ap (λ t. pos t -ℤ pos b) e ∙ difference-of-sum (a - b) b
+
+-- up to a higher number it has one
+difference-up : (a b t : ℕ) → b ≡ a + suc t → pos a -ℤ pos b ≡ negsuc t
+difference-up a b t e =
+    let m : pos b -ℤ pos (suc t) ≡ pos a = ap (λ n. pos n -ℤ pos (suc t)) e ∙ difference-of-sum a (suc t) in
+    ap (λ n. n -ℤ pos b) (sym (+ℤ-comm (negsuc t) (pos b) ∙ m)) ∙ +ℤ-negℤ-cancel (negsuc t) (pos b)
+
+-- d is n with or without a sign, and so its square is that of n
+record Off (n : ℕ) (d : ℤ) : Type 0 where
+  small : mag d ≤ n
+  product : d *ℤ d ≡ pos (n * n)
+
+-- the difference is the gap, with or without a sign
+difference-off : (a b : ℕ) → Off (gap a b) (pos a -ℤ pos b)
+difference-off a b = go (decLe b a)
+  where
+    go : Dec (b ≤ a) → Off (gap a b) (pos a -ℤ pos b)
+    go (yes h) =
+        let e : a - b ≡ gap a b = omega arith in
+        rw (difference-down a b h ∙ ap pos e) (record { small = omega arith; product = pos-*ℤ-pos _ _ })
+    go (no h) =
+        let t = b - a - 1 in
+        let z : b ≡ a + suc t = omega arith in
+        let e : gap a b ≡ suc t = omega arith in
+        rw (difference-up a b t z, e) (record { small = omega arith; product = negsuc-*ℤ-negsuc t t })
+
+-- ---- in 32 bits, for coordinates
+
+module _ (a b : ℕ) (h : a ≤ mostCoordinate) (g : b ≤ mostCoordinate) where
+  -- a coordinate is the same number with a sign and without, and so the difference is too
+  difference-same : toZ w32 a -ℤ toZ w32 b ≡ pos a -ℤ pos b
+  difference-same = rw (toZ-pos w32 a (omega arith), toZ-pos w32 b (omega arith))
+
+  -- the difference fits
+  pub difference-fits : SFits w32 (toZ w32 a -ℤ toZ w32 b)
+  difference-fits = rw difference-same (record { sfits = omega (arith, difference-off a b .small) })
+
+  -- its square is `sq`
+  pub square-is :
+      toZ w32 (ofZ w32 (toZ w32 a -ℤ toZ w32 b)) *ℤ toZ w32 (ofZ w32 (toZ w32 a -ℤ toZ w32 b)) ≡ pos (sq a b)
+  unfolding sq
+  square-is = rw (toZ-ofZ w32 (toZ w32 a -ℤ toZ w32 b) difference-fits, difference-same) (difference-off a b .product)
+
+  -- `sq` of two coordinates is at most the square of the greatest
+  pub square-most : sq a b ≤ mostCoordinate * mostCoordinate
+  square-most = sq-most a b mostCoordinate h g
+
+  -- `sq` is the same number with a sign and without
+  pub square-same : toZ w32 (sq a b) ≡ pos (sq a b)
+  square-same = toZ-pos w32 (sq a b) (omega (arith, square-most))

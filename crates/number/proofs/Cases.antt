@@ -1,0 +1,34 @@
+-- Case splits: on a Bool, and on how a number stands to another, with the values of the tests.
+use mathlib.Core.Path.{_≡_, refl}
+use mathlib.Core.Bool.{Bool, true, false}
+use mathlib.Core.Logic.{_⊎_, inl, inr}
+use Prim.Native.Nat.{ℕ, _≤_, _<_}
+use native.Mathlib.Omega.{arith}
+use lib.Dec.{ltb, eqb}
+use borrow.Author.Tests.{ltb-true, ltb-false, eqb-true, eqb-false}
+
+pub bool : (b : Bool) → (b ≡ true) ⊎ (b ≡ false)
+bool true = inl refl
+bool false = inr refl
+
+-- no test has both values
+pub never : {X : Type 0} → true ≡ false → X
+never e = absurd (let z : _≡_ {A = ℕ} 0 1 = cc in omega arith)
+
+-- how x stands to k, and what the tests say then
+pub data Cmp (x k : ℕ) : Type 0 where
+  lt : x < k → ltb x k ≡ true → Cmp x k
+  eq : x ≡ k → ltb x k ≡ false → eqb x k ≡ true → Cmp x k
+  gt : k < x → ltb x k ≡ false → eqb x k ≡ false → Cmp x k
+
+pub cmp : (x k : ℕ) → Cmp x k
+cmp x k = elim (bool (ltb x k)) [
+  | inl t ↦ lt (ltb-true x k t) t
+  | inr t ↦ elim (bool (eqb x k)) [
+    | inl u ↦ eq (eqb-true x k u) t u
+    | inr u ↦
+        let l : k ≤ x = ltb-false x k t in
+        let n : x ≡ k → ⊥ = eqb-false x k u in
+        gt (omega arith) t u
+  ]
+]

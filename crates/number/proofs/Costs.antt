@@ -1,0 +1,42 @@
+-- What a whole shade costs a weighted group, in the figures W, S and Q. Two inductions over the places; the rest is
+-- `omega`. The least cost stands last, with the one difference in it.
+use mathlib.Core.Path.{_≡_, ap}
+use Prim.Native.Nat.{ℕ, zero, suc, _+_, _-_, _*_, _≤_}
+use native.Mathlib.Omega.{arith}
+use Rattle.number.specs.Groups.{Group, W, S, Q, cost}
+use Rattle.number.specs.Square.{sq}
+use Rattle.number.specs.Sum.{sum}
+use Rattle.number.proofs.Squares.{sq-law}
+
+module _ (w x : ℕ → ℕ) where
+  -- the group of the places below n
+  abbrev upto : ℕ → Group
+  upto n = record { n = n; w = w; x = x }
+
+  -- `cost-law`, place after place
+  upto-cost : (n z : ℕ) → cost (upto n) z + 2 * (z * S (upto n)) ≡ Q (upto n) + W (upto n) * (z * z)
+  unfolding sum
+  upto-cost zero z = omega arith
+  upto-cost (suc n) z = omega (arith, upto-cost n z, ap (λ t. w n * t) (sq-law (x n) z))
+
+  -- `cauchy`, place after place: the step is the last place's weight times what a shade there costs the others
+  upto-cauchy : (n : ℕ) → S (upto n) * S (upto n) ≤ W (upto n) * Q (upto n)
+  unfolding sum
+  upto-cauchy zero = omega arith
+  upto-cauchy (suc n) = omega (arith, upto-cauchy n, ap (λ t. w n * t) (upto-cost n (x n)))
+
+-- a shade at z costs Q - 2zS + Wz²
+pub cost-law : (G : Group) (z : ℕ) → cost G z + 2 * (z * S G) ≡ Q G + W G * (z * z)
+cost-law G z = upto-cost (G .w) (G .x) (G .n) z
+
+-- S² is at most WQ
+pub cauchy : (G : Group) → S G * S G ≤ W G * Q G
+cauchy G = upto-cauchy (G .w) (G .x) (G .n)
+
+-- W times a cost is in two parts: the group's own, WQ - S², and the square of how far zW is from S
+pub cost-parts : (G : Group) (z : ℕ) → W G * cost G z + S G * S G ≡ W G * Q G + sq (S G) (z * W G)
+cost-parts G z = omega (arith, ap (λ t. W G * t) (cost-law G z), sq-law (S G) (z * W G))
+
+-- no shade does better than the group's own part
+pub cost-least : (G : Group) (z : ℕ) → W G * Q G - S G * S G ≤ W G * cost G z
+cost-least G z = omega (arith, cost-parts G z)

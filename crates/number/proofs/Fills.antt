@@ -1,0 +1,53 @@
+-- Laws of `fill`: its length, what its places hold, and how a loop that stores place after place builds it up.
+use mathlib.Core.List.{List, [], _∷_}
+use mathlib.Core.Path.{_≡_, refl, ap}
+use Prim.Native.Nat.{ℕ, zero, suc, _+_, _≤_, _<_}
+use native.Mathlib.Numerals.{add-one}
+use native.Mathlib.Omega.{arith}
+use lib.ListN.{length, getD, set}
+use Rattle.number.specs.Fill.{fill}
+
+-- filling keeps the length
+pub fill-length : (n : ℕ) (f : ℕ → ℕ) (d : List ℕ) → length (fill n f d) ≡ length d
+unfolding fill
+fill-length zero f d = refl
+fill-length (suc n) f [] = refl
+fill-length (suc n) f (x ∷ d) = ap suc (fill-length n (λ i. f (suc i)) d)
+
+-- a place past the filled ones keeps its value
+pub fill-kept : (n i : ℕ) (f : ℕ → ℕ) (d : List ℕ) → n ≤ i → getD (fill n f d) i 0 ≡ getD d i 0
+unfolding fill
+fill-kept zero i f d h = refl
+fill-kept (suc n) i f [] h = refl
+fill-kept (suc n) zero f (x ∷ d) h = absurd (omega arith)
+fill-kept (suc n) (suc i) f (x ∷ d) h = fill-kept n i (λ j. f (suc j)) d (omega arith)
+
+-- a filled place holds its value of f
+pub fill-at : (n i : ℕ) (f : ℕ → ℕ) (d : List ℕ) → i < n → i < length d → getD (fill n f d) i 0 ≡ f i
+unfolding fill
+fill-at zero i f d h l = absurd (omega arith)
+fill-at (suc n) i f [] h l = absurd (omega arith)
+fill-at (suc n) zero f (x ∷ d) h l = refl
+fill-at (suc n) (suc i) f (x ∷ d) h l = fill-at n i (λ j. f (suc j)) d (omega arith) (omega arith)
+
+-- no place is above m, if no value of f and no place of the list is
+pub fill-at-most : (n m : ℕ) (f : ℕ → ℕ) (d : List ℕ) → ((i : ℕ) → f i ≤ m) → ((i : ℕ) → getD d i 0 ≤ m) →
+    (i : ℕ) → getD (fill n f d) i 0 ≤ m
+unfolding fill
+fill-at-most zero m f d h low i = low i
+fill-at-most (suc n) m f [] h low i = low i
+fill-at-most (suc n) m f (x ∷ d) h low zero = h zero
+fill-at-most (suc n) m f (x ∷ d) h low (suc i) =
+    fill-at-most n m (λ j. f (suc j)) d (λ j. h (suc j)) (λ j. low (suc j)) i
+
+-- a store at the first place past the filled ones fills it; the count as the successor
+fill-suc : (n : ℕ) (f : ℕ → ℕ) (d : List ℕ) → n < length d → set (fill n f d) n (f n) ≡ fill (suc n) f d
+unfolding fill
+fill-suc zero f [] h = absurd (omega arith)
+fill-suc (suc n) f [] h = absurd (omega arith)
+fill-suc zero f (x ∷ d) h = refl
+fill-suc (suc n) f (x ∷ d) h = ap {B = List ℕ} (λ t. f zero ∷ t) (fill-suc n (λ i. f (suc i)) d (omega arith))
+
+-- a store at the first place past the filled ones fills one place more
+pub fill-more : (n : ℕ) (f : ℕ → ℕ) (d : List ℕ) → n < length d → set (fill n f d) n (f n) ≡ fill (n + 1) f d
+fill-more n f d h = rw (add-one n) (fill-suc n f d h)

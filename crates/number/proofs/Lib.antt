@@ -1,0 +1,22 @@
+-- Case splits on a Bool and on an order, for every proof that goes by cases.
+pub mod Cases
+-- Laws of sums over places: one place more, bounds, place by place, sums of sums.
+pub mod Sums
+-- Laws of sums over a list.
+pub mod ListSums
+-- Laws of counts: one place more, and no more than the places.
+pub mod Counts
+-- Laws of filled lists: length, what a place holds, one store more.
+pub mod Fills
+-- Searches: the first best of places is one only, and `firstBest` is it, over any order.
+pub mod Searches
+-- The squared difference without a difference, and its bounds.
+pub mod Squares
+-- The cost of a whole shade in two parts, and Cauchy's inequality.
+pub mod Costs
+-- The rounded mean: near, halves up, best on the grid, its bound, in range.
+pub mod Means
+-- Fractional shades: the least cost, and that the true mean attains it.
+pub mod Fractions
+-- What a reader may ask for: each theorem in full, with the proof it cites.
+pub mod Promises

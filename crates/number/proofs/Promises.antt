@@ -1,0 +1,79 @@
+-- What is shown of searches and of weighted groups: each theorem in full, under a sentence that says it.
+-- The proofs stand in Searches, Costs, Means and Fractions. W, S and Q are a group's pixel count, its weighted sum
+-- of coordinates, and that of their squares.
+use mathlib.Core.Path.{_≡_}
+use Prim.Native.Nat.{ℕ, _+_, _-_, _*_, _≤_, _<_}
+use Rattle.number.specs.Groups.{Group, W, S, Q, cost, roundedMean, scale}
+use Rattle.number.specs.Search.{Best, least, most}
+use Rattle.number.specs.Square.{gap, sq}
+use Rattle.number.proofs.Searches as Searches
+use Rattle.number.proofs.Costs as Costs
+use Rattle.number.proofs.Means as Means
+use Rattle.number.proofs.Fractions as Fractions
+
+-- ---- searches
+
+-- Of any set of places there is one first best only, with one value, whatever "better" means.
+pub first-best-only : {Beats : ℕ → ℕ → Type 0} {S : ℕ → Type 0} {f : ℕ → ℕ} {m n d e : ℕ} →
+    Best Beats S f m d → Best Beats S f n e → (m ≡ n) × (d ≡ e)
+first-best-only = Searches.best-only
+
+-- Of the places below n, `least` is the lowest one with the least value.
+pub least-is-best : (n : ℕ) (f : ℕ → ℕ) → 0 < n → Best (λ a b. a < b) (λ j. j < n) f (least n f) (f (least n f))
+least-is-best n f = Searches.first-is-best Searches.rising f n
+
+-- Of the places below n, `most` is the lowest one with the greatest value.
+pub most-is-best : (n : ℕ) (f : ℕ → ℕ) → 0 < n → Best (λ a b. b < a) (λ j. j < n) f (most n f) (f (most n f))
+most-is-best n f = Searches.first-is-best Searches.falling f n
+
+-- Whatever place is the lowest one with the least value, it is `least`.
+pub best-is-least : (n : ℕ) (f : ℕ → ℕ) {m d : ℕ} → 0 < n → Best (λ a b. a < b) (λ j. j < n) f m d → m ≡ least n f
+best-is-least n f = Searches.best-is-first Searches.rising f n
+
+-- Whatever place is the lowest one with the greatest value, it is `most`.
+pub best-is-most : (n : ℕ) (f : ℕ → ℕ) {m d : ℕ} → 0 < n → Best (λ a b. b < a) (λ j. j < n) f m d → m ≡ most n f
+best-is-most n f = Searches.best-is-first Searches.falling f n
+
+-- ---- what a whole shade costs
+
+-- W times the cost of a shade z is WQ - S², which is the group's own, and the square of how far zW is from S.
+pub cost-in-two-parts : (G : Group) (z : ℕ) → W G * cost G z + S G * S G ≡ W G * Q G + sq (S G) (z * W G)
+cost-in-two-parts = Costs.cost-parts
+
+-- Cauchy's inequality: S² is at most WQ, so that WQ - S² is a true difference.
+pub cauchy : (G : Group) → S G * S G ≤ W G * Q G
+cauchy = Costs.cauchy
+
+-- ---- the rounded mean
+
+-- The rounded mean is off the true mean by at most a half.
+pub rounded-mean-near : (G : Group) → 0 < W G → 2 * gap (S G) (roundedMean (W G) (S G) * W G) ≤ W G
+rounded-mean-near G = Means.mean-near (W G) (S G)
+
+-- A true mean of m and a half rounds to m + 1.
+pub rounded-mean-halves-up : (k m : ℕ) → 0 < k → roundedMean (2 * k) (2 * k * m + k) ≡ m + 1
+rounded-mean-halves-up = Means.mean-half-up
+
+-- No whole shade costs the group less than the rounded mean.
+pub rounded-mean-best : (G : Group) → 0 < W G → (z : ℕ) → cost G (roundedMean (W G) (S G)) ≤ cost G z
+rounded-mean-best = Means.mean-best
+
+-- 4W times the cost of the rounded mean is at most 4 (WQ - S²) + W².
+pub rounded-mean-bound : (G : Group) → 0 < W G →
+    4 * (W G * cost G (roundedMean (W G) (S G))) ≤ 4 * (W G * Q G - S G * S G) + W G * W G
+rounded-mean-bound = Means.mean-bound
+
+-- The rounded mean of coordinates that are at most `top` is at most `top`.
+pub rounded-mean-in-range : (G : Group) → 0 < W G → (top : ℕ) → ((i : ℕ) → i < G .n → G .x i ≤ top) →
+    roundedMean (W G) (S G) ≤ top
+rounded-mean-in-range = Means.mean-fits
+
+-- ---- fractional shades
+
+-- No shade a / k, whole or not, costs less than (WQ - S²) / W; both sides stand here times W and k².
+pub fraction-least : (G : Group) (k a : ℕ) → k * k * (W G * Q G - S G * S G) ≤ W G * cost (scale k G) a
+fraction-least = Fractions.fraction-least
+
+-- The true mean S / W costs just (WQ - S²) / W; both sides stand here times W and W².
+pub fraction-attained : (G : Group) → W G * cost (scale (W G) G) (S G) ≡ W G * W G * (W G * Q G - S G * S G)
+fraction-attained = Fractions.fraction-attained

@@ -1,0 +1,84 @@
+-- Laws of `sum`: how a loop builds one up, what it is at most, and how two sums compare or combine.
+-- Laws that compare take their reason place by place, `(i : ℕ) → i < n → ..`, so that any way of writing
+-- the summand will do.
+use mathlib.Core.Path.{_≡_, refl, ap}
+use mathlib.Core.Logic.{⊎-elim}
+use Prim.Native.Nat.{ℕ, zero, suc, _+_, _*_, _≤_, _<_}
+use native.Mathlib.Nat.{le-suc-iff}
+use native.Mathlib.Numerals.{add-one}
+use native.Mathlib.Omega.{arith}
+use lib.Arith.{le-zero}
+use Rattle.number.specs.Sum.{sum}
+
+-- ---- one place more, and fewer places
+
+-- one place more adds its value
+pub sum-more : (n : ℕ) (f : ℕ → ℕ) → sum (n + 1) f ≡ sum n f + f n
+unfolding sum
+sum-more n f = rw (add-one n)
+
+-- the sum over fewer places is at most the whole
+pub sum-part : (i n : ℕ) (f : ℕ → ℕ) → i ≤ n → sum i f ≤ sum n f
+unfolding sum
+sum-part i zero f h = rw (le-zero h) (omega arith)
+sum-part i (suc n) f h = ⊎-elim (λ l. omega (arith, sum-part i n f l)) (λ e. rw e (omega arith)) (le-suc-iff .0 h)
+
+-- each value is at most the sum
+pub sum-term : (i n : ℕ) (f : ℕ → ℕ) → i < n → f i ≤ sum n f
+sum-term i n f h = omega (arith, sum-part (i + 1) n f (omega arith), sum-more i f)
+
+-- ---- place by place
+
+-- values that are equal have equal sums
+pub sum-eq : (n : ℕ) (f g : ℕ → ℕ) → ((i : ℕ) → i < n → f i ≡ g i) → sum n f ≡ sum n g
+unfolding sum
+sum-eq zero f g h = refl
+sum-eq (suc n) f g h = omega (arith, sum-eq n f g (λ i l. h i (omega arith)), h n (omega arith))
+
+-- values that are at most others sum to at most as much
+pub sum-le : (n : ℕ) (f g : ℕ → ℕ) → ((i : ℕ) → i < n → f i ≤ g i) → sum n f ≤ sum n g
+unfolding sum
+sum-le zero f g h = omega arith
+sum-le (suc n) f g h = omega (arith, sum-le n f g (λ i l. h i (omega arith)), h n (omega arith))
+
+-- n values of at most m sum to at most n * m
+pub sum-bound : (n m : ℕ) (f : ℕ → ℕ) → ((i : ℕ) → i < n → f i ≤ m) → sum n f ≤ n * m
+unfolding sum
+sum-bound zero m f h = omega arith
+sum-bound (suc n) m f h = omega (arith, sum-bound n m f (λ i l. h i (omega arith)), h n (omega arith))
+
+-- values in two parts: the sum is that of the one part and that of the other
+pub sum-add : (n : ℕ) (f g h : ℕ → ℕ) → ((i : ℕ) → i < n → f i ≡ g i + h i) → sum n f ≡ sum n g + sum n h
+unfolding sum
+sum-add zero f g h e = refl
+sum-add (suc n) f g h e = omega (arith, sum-add n f g h (λ i l. e i (omega arith)), e n (omega arith))
+
+-- values with a factor in common: the sum has that factor
+pub sum-mul : (n c : ℕ) (f g : ℕ → ℕ) → ((i : ℕ) → i < n → f i ≡ c * g i) → sum n f ≡ c * sum n g
+unfolding sum
+sum-mul zero c f g h = omega arith
+sum-mul (suc n) c f g h = omega (arith, sum-mul n c f g (λ i l. h i (omega arith)), h n (omega arith))
+
+-- ---- nothing to sum
+
+-- zeros sum to zero
+pub sum-zero : (n : ℕ) → sum n (λ i. 0) ≡ 0
+unfolding sum
+sum-zero zero = refl
+sum-zero (suc n) = omega (arith, sum-zero n)
+
+-- weights that come to 0 leave nothing to sum
+pub sum-none : (n : ℕ) (w f : ℕ → ℕ) → sum n w ≡ 0 → sum n (λ i. w i * f i) ≡ 0
+unfolding sum
+sum-none zero w f e = refl
+sum-none (suc n) w f e =
+    let none : w n ≡ 0 = omega arith in
+    omega (arith, sum-none n w f (omega arith), ap (λ t. t * f n) none)
+
+-- ---- sums of sums
+
+-- rows first or columns first, the sum is the same
+pub sum-swap : (n k : ℕ) (f : ℕ → ℕ → ℕ) → sum n (λ i. sum k (λ j. f i j)) ≡ sum k (λ j. sum n (λ i. f i j))
+unfolding sum
+sum-swap zero k f = omega (arith, sum-zero k)
+sum-swap (suc n) k f = omega (arith, sum-swap n k f, sum-add k _ (λ j. sum n (λ i. f i j)) (f n) (λ j l. refl))

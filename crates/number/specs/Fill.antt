@@ -1,0 +1,9 @@
+-- Filling the front of a list.
+use Prim.Native.Nat.{ℕ, zero, suc}
+use mathlib.Core.List.{List, [], _∷_}
+
+-- the list d with f 0, .., f (n - 1) in its first n places, as far as it goes; the other places keep their values
+unfoldable pub fill : ℕ → (ℕ → ℕ) → List ℕ → List ℕ
+fill zero f d = d
+fill (suc n) f [] = []
+fill (suc n) f (x ∷ d) = f zero ∷ fill n (λ i. f (suc i)) d

@@ -1,0 +1,28 @@
+-- Glossary. Places are the numbers below a count; the count comes first.
+--   sum n f           f 0 + .. + f (n - 1)
+--   sumOf f xs        f added up over the elements of a list
+--   howMany n b       how many places below n pass the test b
+--   fill n f d        the list d with f 0 .. f (n - 1) in front, the rest kept
+--   firstBest t n f   the lowest place below n with the best value, `t a b` saying that a is better
+--   least, most       firstBest for the least and for the greatest value
+--   Best              a place is the first best of a set of places
+--   Order             a test and the relation it decides, fit for a search
+--   gap, sq           the difference of two numbers either way round, and its square
+--   Group, W, S, Q    a weighted group on one coordinate, and its three sums
+--   cost              what a whole shade costs a group
+--   roundedMean       the whole part of (2S + W) / (2W)
+--   scale             a group drawn k times as large
+pub mod Sum
+pub mod Count
+pub mod Fill
+pub mod Search
+pub mod Square
+pub mod Groups
+unfoldable pub use Sum.{sum, sumOf}
+unfoldable pub use Count.{howMany}
+unfoldable pub use Fill.{fill}
+unfoldable pub use Search.{firstBest, least, most}
+pub use Search.{Best, Order}
+unfoldable pub use Square.{gap, sq}
+unfoldable pub use Groups.{W, S, Q, cost, roundedMean, scale}
+pub use Groups.{Group}

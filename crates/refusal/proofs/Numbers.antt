@@ -1,0 +1,64 @@
+-- A refusal's number tells which refusal it is. The refusals are laid out by number, and each is found at its own.
+use Prim.Native.Nat.{ℕ, zero, suc}
+use mathlib.Core.Path.{_≡_, refl, sym, ap, _∙_}
+use mathlib.Core.List.{List, [], _∷_}
+use mathlib.Core.Option.{Option, none, some, Option·none-ne-some, Option·some-injective}
+use Rattle.refusal.specs.Numbers.{
+  Refusal,
+  BAD-STRIP,
+  BAD-TABLE,
+  FULL,
+  BAD-COUNT,
+  FEW-COLOURS,
+  BAD-LIMIT,
+  SHORT-ROOM,
+  BAD-CENTRE,
+  BAD-MEMBER,
+  BAD-PALETTE,
+  MANY-PIXELS,
+  BAD-HEADER,
+  BAD-SIZE,
+  BAD-DEPTH,
+  BAD-RASTER,
+  numberOf,
+  done,
+}
+
+-- what stands in a list at a place counted from 1; nothing at 0 and past the end
+abbrev nth : List Refusal → ℕ → Option Refusal
+nth [] n = none
+nth (r ∷ rs) zero = none
+nth (r ∷ rs) (suc zero) = some r
+nth (r ∷ rs) (suc (suc n)) = nth rs (suc n)
+
+-- the refusals by rising number
+abbrev refusals : List Refusal
+refusals =
+    BAD-STRIP ∷ BAD-TABLE ∷ FULL ∷ BAD-COUNT ∷ FEW-COLOURS ∷ BAD-LIMIT ∷ SHORT-ROOM ∷ BAD-CENTRE ∷ BAD-MEMBER ∷
+    BAD-PALETTE ∷ MANY-PIXELS ∷ BAD-HEADER ∷ BAD-SIZE ∷ BAD-DEPTH ∷ BAD-RASTER ∷ []
+
+-- each refusal stands at its number
+found : (refusal : Refusal) → nth refusals (numberOf refusal) ≡ some refusal
+found BAD-STRIP = refl
+found BAD-TABLE = refl
+found FULL = refl
+found BAD-COUNT = refl
+found FEW-COLOURS = refl
+found BAD-LIMIT = refl
+found SHORT-ROOM = refl
+found BAD-CENTRE = refl
+found BAD-MEMBER = refl
+found BAD-PALETTE = refl
+found MANY-PIXELS = refl
+found BAD-HEADER = refl
+found BAD-SIZE = refl
+found BAD-DEPTH = refl
+found BAD-RASTER = refl
+
+-- refusals of one number are one refusal
+pub number-only : (a b : Refusal) → numberOf a ≡ numberOf b → a ≡ b
+number-only a b e = Option·some-injective a b (sym (found a) ∙ ap (nth refusals) e ∙ found b)
+
+-- no refusal has the number of `done`
+pub number-not-done : (a : Refusal) → ¬ (numberOf a ≡ done)
+number-not-done a e = Option·none-ne-some a (sym (ap (nth refusals) e) ∙ found a)

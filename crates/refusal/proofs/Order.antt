@@ -1,0 +1,55 @@
+-- What `firstOf` answers, from what its rows say: by going down the rows with the value of each test.
+use mathlib.Core.Path.{_≡_, refl, sym, _∙_}
+use mathlib.Core.List.{List, [], _∷_}
+use mathlib.Core.Logic.{_⊎_, inl, inr, ⊎-elim}
+use Rattle.number.proofs.Cases.{bool}
+use Rattle.refusal.specs.Numbers.{Refusal, numberOf, done}
+use Rattle.refusal.specs.Order.{Row, firstOf, Given, NoneHolds}
+use Rattle.refusal.proofs.Numbers.{number-only, number-not-done}
+
+-- ---- the first row whose test holds
+
+-- what is given is what is answered
+pub first-of-given : (rows : List Row) (n : Refusal) → Given rows n → firstOf rows ≡ numberOf n
+first-of-given [] n g = absurd g
+first-of-given (r ∷ rows) n (inl (t, e)) = rw (t, e)
+first-of-given (r ∷ rows) n (inr (t, g)) = rw t (first-of-given rows n g)
+
+-- what is answered is what is given: the number says which refusal it is
+pub given-of-first : (rows : List Row) (n : Refusal) → firstOf rows ≡ numberOf n → Given rows n
+given-of-first [] n e = absurd (number-not-done n (sym e))
+given-of-first (r ∷ rows) n e =
+    ⊎-elim (λ t. inl (t, number-only _ n (rw t at e)))
+    (λ t. inr (t, given-of-first rows n (rw t at e))) (bool (r .when))
+
+-- one refusal alone is given
+pub given-only : (rows : List Row) (a b : Refusal) → Given rows a → Given rows b → a ≡ b
+given-only rows a b g h = number-only a b (sym (first-of-given rows a g) ∙ first-of-given rows b h)
+
+-- ---- no row's test holds
+
+-- where no test holds the answer is `done`
+pub first-of-none : (rows : List Row) → NoneHolds rows → firstOf rows ≡ done
+first-of-none [] g = refl
+first-of-none (r ∷ rows) (t, g) = rw t (first-of-none rows g)
+
+-- where the answer is `done` no test holds: a refusal's number is another
+pub none-of-first : (rows : List Row) → firstOf rows ≡ done → NoneHolds rows
+none-of-first [] e = tt
+none-of-first (r ∷ rows) e =
+    ⊎-elim (λ t. absurd (number-not-done (r .gives) (rw t at e)))
+    (λ t. (t, none-of-first rows (rw t at e))) (bool (r .when))
+
+-- ---- one of the two
+
+-- no test holds, or a refusal is given
+pub none-or-given : (rows : List Row) → NoneHolds rows ⊎ ((n : Refusal) × Given rows n)
+none-or-given [] = inl tt
+none-or-given (r ∷ rows) =
+    ⊎-elim (λ t. inr (r .gives, inl (t, refl)))
+    (λ t. ⊎-elim (λ g. inl (t, g)) (λ g. inr (g .0, inr (t, g .1))) (none-or-given rows)) (bool (r .when))
+
+-- the answer is `done` or a refusal's number
+pub done-or-refusal : (rows : List Row) → (firstOf rows ≡ done) ⊎ ((n : Refusal) × (firstOf rows ≡ numberOf n))
+done-or-refusal rows =
+    ⊎-elim (λ g. inl (first-of-none rows g)) (λ g. inr (g .0, first-of-given rows (g .0) (g .1))) (none-or-given rows)

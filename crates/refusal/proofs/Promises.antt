@@ -1,0 +1,36 @@
+-- What is shown of the refusals, for whoever cites them. Each body names the proof.
+use mathlib.Core.Path.{_≡_}
+use mathlib.Core.List.{List}
+use mathlib.Core.Logic.{_↔_, _⊎_}
+use Rattle.refusal.specs.Numbers.{Refusal, numberOf, done}
+use Rattle.refusal.specs.Order.{Row, firstOf, Given, NoneHolds}
+use Rattle.refusal.proofs.Numbers as numbers
+use Rattle.refusal.proofs.Order as order
+
+-- Two refusals of one number are one refusal.
+pub number-only : (a b : Refusal) → numberOf a ≡ numberOf b → a ≡ b
+number-only = numbers.number-only
+
+-- No refusal has the number that says "done".
+pub number-not-done : (a : Refusal) → ¬ (numberOf a ≡ done)
+number-not-done = numbers.number-not-done
+
+-- A refusal's number is answered exactly when its row is the first whose test holds.
+pub first-exactly : (rows : List Row) (n : Refusal) → (firstOf rows ≡ numberOf n) ↔ Given rows n
+first-exactly rows n = (order.given-of-first rows n, order.first-of-given rows n)
+
+-- "Done" is answered exactly when no row's test holds.
+pub done-exactly : (rows : List Row) → (firstOf rows ≡ done) ↔ NoneHolds rows
+done-exactly rows = (order.none-of-first rows, order.first-of-none rows)
+
+-- At most one refusal is that of the first row whose test holds.
+pub given-only : (rows : List Row) (a b : Refusal) → Given rows a → Given rows b → a ≡ b
+given-only = order.given-only
+
+-- Either no row's test holds, or some refusal is that of the first row whose test holds.
+pub none-or-given : (rows : List Row) → NoneHolds rows ⊎ ((n : Refusal) × Given rows n)
+none-or-given = order.none-or-given
+
+-- The answer is always "done" or the number of some refusal.
+pub done-or-refusal : (rows : List Row) → (firstOf rows ≡ done) ⊎ ((n : Refusal) × (firstOf rows ≡ numberOf n))
+done-or-refusal = order.done-or-refusal

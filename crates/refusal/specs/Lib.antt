@@ -1,0 +1,31 @@
+-- Glossary.
+--   Refusal            the fifteen refusals by name: BAD-STRIP, BAD-TABLE, .., BAD-RASTER
+--   numberOf refusal   its number, 1 to 15
+--   done               0, the answer where nothing is refused
+--   Row, row t r       a row of an order: the test t, and the refusal r given where it holds
+--   firstOf rows       the number of the first row whose test holds; done where none does
+--   Given rows r       r is the refusal of the first row whose test holds
+--   NoneHolds rows     no row's test holds
+pub mod Numbers
+pub mod Order
+unfoldable pub use Numbers.{numberOf, done}
+pub use Numbers.{
+  Refusal,
+  BAD-STRIP,
+  BAD-TABLE,
+  FULL,
+  BAD-COUNT,
+  FEW-COLOURS,
+  BAD-LIMIT,
+  SHORT-ROOM,
+  BAD-CENTRE,
+  BAD-MEMBER,
+  BAD-PALETTE,
+  MANY-PIXELS,
+  BAD-HEADER,
+  BAD-SIZE,
+  BAD-DEPTH,
+  BAD-RASTER,
+}
+unfoldable pub use Order.{row, firstOf, Given, NoneHolds}
+pub use Order.{Row}

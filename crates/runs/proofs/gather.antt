@@ -1,0 +1,2 @@
+-- The loop that gathers pixels as runs: what holds at each turn.
+pub mod Gathers

@@ -1,0 +1,18 @@
+use Rattle.runs.specs.Run.{runKey}
+use borrow.Author.Tests.{eq-eqb, ne-eqb}
+use mathlib.Core.Path.{sym, _∙_}
+use borrow.Author.Needs.{needs}
+use Rattle.runs.proofs.gather.joins.Statement.{statement}
+use Rattle.runs.proofs.gather.joins.Tie as tie
+
+run-key-requires : tie.Need-run-key-requires
+run-key-requires c κs = search needs
+
+returns : tie.Need-returns
+returns c = simp (eq-eqb _ _ (sym (c .before .run-key .ensures .0) ∙ c .if1 .taken))
+
+returns-2 : tie.Need-returns-2
+returns-2 c = simp (ne-eqb (runKey (c .before .before .args .run)) (c .before .before .args .key) (λ q. c .if1 .left (c .before .run-key .ensures .0 ∙ q)))
+
+pub joins-spec : {M : Type 1} → statement M
+joins-spec = tie.close (tie.spec run-key-requires returns returns-2)

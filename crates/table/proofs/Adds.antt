@@ -1,0 +1,107 @@
+-- Laws of the public call: what the outcome is on each way out of `add_strip`.
+use mathlib.Core.Path.{_≡_, refl, ap, sym, _∙_}
+use mathlib.Core.Bool.{true, false, not}
+use mathlib.Core.List.{List}
+use Prim.Native.Nat.{ℕ, _+_, _*_, _/_, _%_, _≤_, _<_}
+use native.Mathlib.Omega.{arith}
+use lib.ListN.{length}
+use lib.Dec.{ltb, eqb}
+use borrow.Author.Tests.{lt-ltb, le-ltb, eq-eqb, ne-eqb}
+use Rattle.refusal.specs.{numberOf, done, BAD-STRIP, BAD-TABLE, FULL}
+use Rattle.entries.specs.{entries, pixelsOf, stripKeys, takenOf, withTaken}
+use Rattle.entries.proofs.Strips.{strip-length}
+use Rattle.entries.proofs.Takes.{taken-at-most, taken-pixels}
+use Rattle.table.specs.Refusals.{roomOf, recordOf, badStrip, badTable, full, addRefusal}
+use Rattle.table.specs.Outcomes.{asItCame, withPixels, addStrip, AddMeets}
+use Rattle.table.specs.Taking.{TookMeets}
+use Rattle.table.specs.declared.Record.{Record}
+use Rattle.table.specs.declared.Added.{Added}
+use Rattle.table.proofs.Goods.{Good, good-of-test}
+
+module _ (rec : Record) (ks ws s : List ℕ) where
+  -- ---- what the outcome is, by the tests
+
+  -- 1
+  pub outcome-bad-strip : badStrip s ≡ true → addStrip rec ks ws s ≡ asItCame (numberOf BAD-STRIP) rec ks ws
+  unfolding addStrip
+  outcome-bad-strip a = simp a
+
+  -- 2
+  pub outcome-bad-table : badStrip s ≡ false → badTable rec ks ws ≡ true
+      → addStrip rec ks ws s ≡ asItCame (numberOf BAD-TABLE) rec ks ws
+  unfolding addStrip
+  outcome-bad-table a b = simp (a, b)
+
+  -- 3
+  pub outcome-full : badStrip s ≡ false → badTable rec ks ws ≡ false → full rec ks ws s ≡ true
+      → addStrip rec ks ws s
+      ≡ withPixels (numberOf FULL) (roomOf ks ws) (entries (rec .used) ks ws) (stripKeys s) ks ws
+  unfolding addStrip
+  outcome-full a b c = simp (a, b, c)
+
+  -- done
+  pub outcome-done : badStrip s ≡ false → badTable rec ks ws ≡ false → full rec ks ws s ≡ false
+      → addStrip rec ks ws s ≡ withPixels done (roomOf ks ws) (entries (rec .used) ks ws) (stripKeys s) ks ws
+  unfolding addStrip
+  outcome-done a b c = simp (a, b, c)
+
+  -- ---- what each way out owes
+
+  -- bytes not a multiple of 3
+  pub meets-bad-strip : (length s % 3 ≡ 0 → ⊥)
+      → AddMeets rec ks ws s (record { refusal = 1; taken = 0; rec = rec }) ks ws
+  meets-bad-strip h =
+      let o = outcome-bad-strip (ap not (ne-eqb (length s % 3) 0 h)) in
+      record { answer = rw o; keys = rw o; weights = rw o }
+
+  module _ (h : length s % 3 ≡ 0) where
+    whole : badStrip s ≡ false
+    whole = ap not (eq-eqb (length s % 3) 0 h)
+
+    -- a bad table
+    pub meets-bad-table : badTable rec ks ws ≡ true
+        → AddMeets rec ks ws s (record { refusal = 2; taken = 0; rec = rec }) ks ws
+    meets-bad-table b =
+        let o = outcome-bad-table whole b in record { answer = rw o; keys = rw o; weights = rw o }
+
+    -- as many pixels as a third of the bytes
+    pub count-is : length (stripKeys s) ≡ length s / 3
+    count-is = strip-length (length s / 3) s (omega arith)
+
+    -- the pixels taken
+    module _ (b : badTable rec ks ws ≡ false) {ks′ ws′ : List ℕ} {used taken : ℕ}
+        (t : TookMeets (roomOf ks ws) (entries (rec .used) ks ws) (stripKeys s) ks ws used taken ks′ ws′) where
+      pub taken-small : taken ≤ length s / 3
+      taken-small =
+          omega (arith, t .taken-is, taken-at-most (roomOf ks ws) (entries (rec .used) ks ws) (stripKeys s), count-is)
+
+      pixels-are : rec .pixels + taken ≡ pixelsOf (withTaken (roomOf ks ws) (entries (rec .used) ks ws) (stripKeys s))
+      pixels-are =
+          let g : pixelsOf (entries (rec .used) ks ws) ≡ rec .pixels
+          = ap (λ (r : Record). r .pixels) (good-of-test rec ks ws b .is) in
+          omega (arith, g, t .taken-is, taken-pixels (roomOf ks ws) (entries (rec .used) ks ws) (stripKeys s))
+
+      -- the answer with this number is the outcome's
+      answered : (n : ℕ)
+          → addStrip rec ks ws s ≡ withPixels n (roomOf ks ws) (entries (rec .used) ks ws) (stripKeys s) ks ws
+          → AddMeets rec ks ws s
+          (record { refusal = n; taken = taken; rec = record { used = used; pixels = rec .pixels + taken } }) ks′ ws′
+      answered n o = record {
+        answer = rw (o, pixels-are, t .used-is, t .taken-is);
+        keys = rw o (t .keys-are);
+        weights = rw o (t .weights-are);
+      }
+
+      -- a pixel is left
+      pub meets-full : taken < length s / 3
+          → AddMeets rec ks ws s
+          (record { refusal = 3; taken = taken; rec = record { used = used; pixels = rec .pixels + taken } }) ks′ ws′
+      meets-full l =
+          answered 3 (outcome-full whole b (rw (← t .taken-is) (lt-ltb taken (length (stripKeys s)) (omega (arith, count-is)))))
+
+      -- none is
+      pub meets-done : length s / 3 ≤ taken
+          → AddMeets rec ks ws s
+          (record { refusal = 0; taken = taken; rec = record { used = used; pixels = rec .pixels + taken } }) ks′ ws′
+      meets-done l =
+          answered 0 (outcome-done whole b (rw (← t .taken-is) (le-ltb taken (length (stripKeys s)) (omega (arith, count-is)))))

@@ -1,0 +1,99 @@
+-- The turns of the loops that take pixels, over the first `end` pixels of a strip: what a try asks, and what it leaves.
+use mathlib.Core.Path.{_≡_, refl, sym, _∙_}
+use mathlib.Core.Logic.{inl, inr}
+use mathlib.Core.List.{List, [], _∷_}
+use Prim.Native.Nat.{ℕ, zero, suc, _+_, _*_, _≤_, _<_}
+use native.Mathlib.Omega.{arith}
+use native.Mathlib.Nat.{not-suc-le-zero, le-of-suc-le-suc}
+use lib.ListN.{length, getD, take, drop}
+use lib.Seq.{length-take-le, take-take, take-all}
+use lib.Dec.{ltb}
+use borrow.Author.Tests.{ltb-true, ltb-false}
+use Rattle.number.proofs.Cases.{bool}
+use Rattle.colour.specs.{mostPixels}
+use Rattle.entries.specs.{Entry, entries, pixelsOf, stripKeys, withTaken}
+use Rattle.entries.proofs.Strips.{strip-at-least}
+use Rattle.entries.proofs.Takes.{taken-capped, withTaken-capped}
+use Rattle.adding.specs.{Ready, Tried, piece}
+use Rattle.adding.proofs.chunk.Listing.{piece-keys}
+use Rattle.table.specs.Taking.{Able, TookMeets}
+use Rattle.table.proofs.take.Turn.{Taking, taking-start, taking-done, taking-in, taking-out, taking-full}
+
+-- a piece within the first e of a list is a piece of the list
+piece-first : (p t e : ℕ) (xs : List ℕ) → t + p ≤ e → take p (drop t xs) ≡ take p (drop t (take e xs))
+piece-first p zero e xs h = sym (take-take p e xs (omega arith))
+piece-first p (suc t) zero xs h = absurd (let z : ⊥ = omega arith in z)
+piece-first p (suc t) (suc e) [] h = refl
+piece-first p (suc t) (suc e) (x ∷ xs) h = piece-first p t e xs (omega arith)
+
+-- before the first turn
+pub steps-start : (ks ws s : List ℕ) (used room end : ℕ) → Able used room ks ws s end
+    → Taking ks ws used room (take end (stripKeys s)) ks ws used 0
+steps-start ks ws s used room end a = taking-start ks ws used room (take end (stripKeys s)) (a .table)
+
+-- taking the first `end` pixels is taking all, where there are no more or the pixel total allows no more
+pub steps-whole : {room : ℕ} {es : List Entry} {ps ks ws : List ℕ} {used taken : ℕ} {ks′ ws′ : List ℕ} (end : ℕ)
+    → (end < length ps → mostPixels ≤ pixelsOf es + end) → TookMeets room es (take end ps) ks ws used taken ks′ ws′
+    → TookMeets room es ps ks ws used taken ks′ ws′
+steps-whole {room} {es} {ps} end h t = elim (bool (ltb end (length ps))) [
+  | inl l ↦
+      let m : mostPixels ≤ pixelsOf es + end = h (ltb-true end (length ps) l) in
+      let w : withTaken room es (take end ps) ≡ withTaken room es ps = withTaken-capped room es end ps m in
+      record {
+        taken-is = t .taken-is ∙ taken-capped room es end ps m;
+        used-is = rw w at (t .used-is);
+        keys-are = rw w at (t .keys-are);
+        weights-are = rw w at (t .weights-are);
+      }
+  | inr l ↦ rw (take-all end ps (ltb-false end (length ps) l)) at t
+]
+
+module _ {ks₀ ws₀ s : List ℕ} {used room end : ℕ} (a : Able used room ks₀ ws₀ s end) {ks ws : List ℕ} {now taken : ℕ}
+    (t : Taking ks₀ ws₀ used room (take end (stripKeys s)) ks ws now taken) where
+  length-first : length (take end (stripKeys s)) ≡ end
+  length-first = length-take-le end (stripKeys s) (strip-at-least end s (a .bytes))
+
+  -- after the last turn
+  pub steps-done : end ≤ taken
+      → TookMeets room (entries used ks₀ ws₀) (take end (stripKeys s)) ks₀ ws₀ now taken ks ws
+  steps-done l = taking-done t (omega (arith, length-first))
+
+  -- what a try of `most` pixels asks
+  pub steps-ready : (most : ℕ) → 0 < most → taken + most ≤ end → Ready now room ks ws s taken most
+  steps-ready most p l = record {
+    table = t .table;
+    total = omega (arith, t .pixels, a .total);
+    some = p;
+    bytes = omega (arith, a .bytes);
+  }
+
+  -- what a try left
+  module _ {most next n : ℕ} {ks′ ws′ : List ℕ} (r : Tried now room ks ws s taken most next n ks′ ws′)
+      (l : taken + n ≤ end) where
+    same : piece s taken n ≡ take n (drop taken (take end (stripKeys s)))
+    same = piece-first n taken end (stripKeys s) l
+
+    -- the pixels went in
+    pub steps-in : ((i : ℕ) → getD s i 0 < 256) → next ≤ room
+        → Taking ks₀ ws₀ used room (take end (stripKeys s)) ks′ ws′ next (taken + n)
+    steps-in b h =
+        taking-in t n (omega (arith, length-first)) (rw same at (r .used-is)) (rw same at (r .keys-are))
+        (rw same at (r .weights-are)) h (omega (arith, a .total)) (rw same at (piece-keys s taken n b))
+
+    -- one pixel went in
+    pub steps-in-one : n ≡ 1 → ((i : ℕ) → getD s i 0 < 256) → next ≤ room
+        → Taking ks₀ ws₀ used room (take end (stripKeys s)) ks′ ws′ next (taken + 1)
+    steps-in-one z b h = rw z at (steps-in b h)
+
+    -- they did not, and all is as it was
+    pub steps-out : room < next → Taking ks₀ ws₀ used room (take end (stripKeys s)) ks′ ws′ now taken
+    steps-out h =
+        taking-out t n (omega (arith, length-first)) (rw same at (r .used-is)) (rw same at (r .keys-are))
+        (rw same at (r .weights-are)) h
+
+    -- one pixel did not, which is the end
+    pub steps-full : n ≡ 1 → room < next
+        → TookMeets room (entries used ks₀ ws₀) (take end (stripKeys s)) ks₀ ws₀ now taken ks′ ws′
+    steps-full z h =
+        taking-full t (omega (arith, length-first)) n z (rw same at (r .used-is)) (rw same at (r .keys-are))
+        (rw same at (r .weights-are)) h

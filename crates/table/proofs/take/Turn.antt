@@ -1,0 +1,212 @@
+-- The loops that take pixels: what holds at each turn, of the pixels ps that are to be taken. A turn tries a piece of
+-- them; it goes in whole, or is tried again smaller, or is one pixel that does not go in.
+use mathlib.Core.Path.{_≡_, refl, sym, ap, _∙_}
+use mathlib.Core.Bool.{true, false, cond}
+use mathlib.Core.List.{List, [], _∷_, _++_}
+use Prim.Native.Nat.{ℕ, zero, suc, _+_, _-_, _≤_, _<_}
+use native.Mathlib.Omega.{arith}
+use lib.ListN.{length, getD, take, drop, length-drop, take-append-drop, drop-of-length-le}
+use lib.Seq.{length-take-le, drop-drop, drop-cons}
+use lib.Dec.{leb}
+use borrow.Author.Tests.{le-leb, lt-leb}
+use Rattle.colour.specs.{mostPixels}
+use Rattle.entries.specs.{
+  Entry,
+  entries,
+  keysInto,
+  weightsInto,
+  pixelsOf,
+  sound,
+  put,
+  putAll,
+  stops,
+  takenOf,
+  withTaken,
+}
+use Rattle.entries.proofs.Gives.{Keys, putAll-length, putAll-pixels, putAll-sound}
+use Rattle.entries.proofs.Slices.{
+  entries-length,
+  entries-keys,
+  entries-weights,
+  entries-laid,
+  laid-length,
+  laid-kept,
+  drop-later,
+}
+use Rattle.entries.proofs.Takes.{stops-at-room, fits-taken, taken-append, withTaken-append}
+use Rattle.adding.specs.{Standing, laidKeys, laidWeights}
+use Rattle.table.specs.Taking.{TookMeets}
+
+-- `taken` of the pixels are in the table, and taking the rest from here gives what taking all gives
+pub record Taking (ks₀ ws₀ : List ℕ) (used room : ℕ) (ps ks ws : List ℕ) (now taken : ℕ) : Type 0 where
+  pub table : Standing now room ks ws
+  pub keys-length : length ks ≡ length ks₀
+  pub weights-length : length ws ≡ length ws₀
+  pub within : taken ≤ length ps
+  pub pixels : pixelsOf (entries now ks ws) ≡ pixelsOf (entries used ks₀ ws₀) + taken
+  pub taken-is : taken + takenOf room (entries now ks ws) (drop taken ps) ≡ takenOf room (entries used ks₀ ws₀) ps
+  pub table-is : withTaken room (entries now ks ws) (drop taken ps) ≡ withTaken room (entries used ks₀ ws₀) ps
+  pub keys-kept : drop now ks ≡ drop now ks₀
+  pub weights-kept : drop now ws ≡ drop now ws₀
+
+pub taking-start : (ks ws : List ℕ) (used room : ℕ) (ps : List ℕ) → Standing used room ks ws
+    → Taking ks ws used room ps ks ws used 0
+taking-start ks ws used room ps t = record {
+  table = t;
+  keys-length = refl;
+  weights-length = refl;
+  within = omega arith;
+  pixels = omega arith;
+  taken-is = omega arith;
+  table-is = refl;
+  keys-kept = refl;
+  weights-kept = refl;
+}
+
+module _ {ks₀ ws₀ : List ℕ} {used room : ℕ} {ps ks ws : List ℕ} {now taken : ℕ}
+    (t : Taking ks₀ ws₀ used room ps ks ws now taken) where
+  -- the table at hand
+  abbrev E : List Entry
+  E = entries now ks ws
+
+  in-keys : now ≤ length ks
+  in-keys = omega (arith, t .table .in-room, t .table .keys-room)
+
+  in-weights : now ≤ length ws
+  in-weights = omega (arith, t .table .in-room, t .table .weights-room)
+
+  length-E : length (entries now ks ws) ≡ now
+  length-E = entries-length now ks ws in-keys in-weights
+
+  -- where no more pixels go in, the answer is what is there
+  taking-stop : takenOf room (entries now ks ws) (drop taken ps) ≡ 0
+      → TookMeets room (entries used ks₀ ws₀) ps ks₀ ws₀ now taken ks ws
+  taking-stop z =
+      let e : entries now ks ws ≡ withTaken room (entries used ks₀ ws₀) ps = rw z at (t .table-is) in record {
+        taken-is = omega (arith, t .taken-is, z);
+        used-is = rw (← e) (sym length-E);
+        keys-are = rw (← e, length-E, ← t .keys-kept, entries-keys now ks ws in-keys in-weights)
+            (sym (take-append-drop now ks));
+        weights-are = rw (← e, length-E, ← t .weights-kept, entries-weights now ks ws in-keys in-weights)
+            (sym (take-append-drop now ws));
+      }
+
+  -- all pixels are taken
+  pub taking-done : length ps ≤ taken → TookMeets room (entries used ks₀ ws₀) ps ks₀ ws₀ now taken ks ws
+  taking-done l = taking-stop (rw (drop-of-length-le ps {i = taken} l))
+
+  -- ---- a turn that tries p pixels
+
+  module _ (p : ℕ) (l : taken + p ≤ length ps) where
+    -- the pixels tried, and the table with them
+    abbrev C : List ℕ
+    C = take p (drop taken ps)
+
+    abbrev F : List Entry
+    F = putAll (entries now ks ws) (take p (drop taken ps))
+
+    length-C : length (take p (drop taken ps)) ≡ p
+    length-C = length-take-le p (drop taken ps) (rw length-drop (omega arith))
+
+    parts : drop taken ps ≡ take p (drop taken ps) ++ drop (taken + p) ps
+    parts =
+        sym (take-append-drop p (drop taken ps))
+        ∙ ap (λ (r : List ℕ). take p (drop taken ps) ++ r) (drop-drop p taken ps)
+
+    pixels-F : pixelsOf F ≡ pixelsOf (entries used ks₀ ws₀) + (taken + p)
+    pixels-F = omega (arith, putAll-pixels (entries now ks ws) (take p (drop taken ps)), length-C, t .pixels)
+
+    module _ {ks′ ws′ : List ℕ} {now′ : ℕ} (un : now′ ≡ length F) (uk : ks′ ≡ laidKeys room F ks)
+        (uw : ws′ ≡ laidWeights room F ws) where
+      -- they go in
+      module _ (h : now′ ≤ room) (m : pixelsOf (entries used ks₀ ws₀) + (taken + p) ≤ mostPixels)
+          (keys : Keys (take p (drop taken ps))) where
+        opens : leb (length F) room ≡ true
+        opens = rw (← un) (le-leb now′ room h)
+
+        keys-laid : ks′ ≡ keysInto F ks
+        keys-laid = uk ∙ simp opens
+
+        weights-laid : ws′ ≡ weightsInto F ws
+        weights-laid = uw ∙ simp opens
+
+        read : entries now′ ks′ ws′ ≡ F
+        read = rw (un, keys-laid, weights-laid) (entries-laid _ _ _)
+
+        keys-same : length ks′ ≡ length ks
+        keys-same =
+            rw keys-laid (laid-length (λ (e : Entry). e .key) F ks (omega (arith, un, h, t .table .keys-room)))
+
+        weights-same : length ws′ ≡ length ws
+        weights-same =
+            rw weights-laid (laid-length (λ (e : Entry). e .weight) F ws (omega (arith, un, h, t .table .weights-room)))
+
+        all-taken : takenOf room (entries now ks ws) (take p (drop taken ps)) ≡ length (take p (drop taken ps))
+        all-taken =
+            fits-taken room (entries now ks ws) keys (t .table .sounds) (omega (arith, un, h)) (omega (arith, pixels-F, m))
+
+        grows : now ≤ now′
+        grows = omega (arith, putAll-length (entries now ks ws) (take p (drop taken ps)), length-E, un)
+
+        pub taking-in : Taking ks₀ ws₀ used room ps ks′ ws′ now′ (taken + p)
+        taking-in = record {
+          table = record {
+            in-room = h;
+            keys-room = omega (arith, t .table .keys-room, keys-same);
+            weights-room = omega (arith, t .table .weights-room, weights-same);
+            sounds = rw read (putAll-sound (entries now ks ws) keys (t .table .sounds));
+          };
+          keys-length = keys-same ∙ t .keys-length;
+          weights-length = weights-same ∙ t .weights-length;
+          within = l;
+          pixels = rw read pixels-F;
+          taken-is = rw read (omega (
+            arith,
+            rw parts at (t .taken-is),
+            taken-append room (entries now ks ws) C (drop (taken + p) ps) all-taken,
+            length-C,
+          ));
+          table-is = rw read
+              (sym (withTaken-append room (entries now ks ws) C (drop (taken + p) ps) all-taken) ∙ (rw parts at (t .table-is)));
+          keys-kept = rw (un, keys-laid) (laid-kept (λ (e : Entry). e .key) F ks)
+              ∙ drop-later now now′ ks ks₀ grows (t .keys-kept);
+          weights-kept = rw (un, weights-laid) (laid-kept (λ (e : Entry). e .weight) F ws)
+              ∙ drop-later now now′ ws ws₀ grows (t .weights-kept);
+        }
+
+      -- they do not go in, and all is as it was
+      module _ (h : room < now′) where
+        shuts : leb (length F) room ≡ false
+        shuts = rw (← un) (lt-leb now′ room h)
+
+        pub taking-out : Taking ks₀ ws₀ used room ps ks′ ws′ now taken
+        taking-out =
+            let k : ks′ ≡ ks = uk ∙ simp shuts in let w : ws′ ≡ ws = uw ∙ simp shuts in rw (k, w) t
+
+  -- where a pixel alone does not go in, that is the end
+  module _ (l : taken < length ps) where
+    one : take 1 (drop taken ps) ≡ getD ps taken 0 ∷ []
+    one = rw (drop-cons ps taken 0 l)
+
+    taking-at : room < length (put (getD ps taken 0) (entries now ks ws))
+        → TookMeets room (entries used ks₀ ws₀) ps ks₀ ws₀ now taken ks ws
+    taking-at h =
+        let s : stops room (entries now ks ws) (getD ps taken 0) ≡ true
+        = stops-at-room room (entries now ks ws) (getD ps taken 0) (t .table .sounds)
+        (omega (arith, length-E, t .table .in-room)) h in
+        taking-stop (rw (drop-cons ps taken 0 l) (simp s))
+
+-- the same, of what a turn left
+pub taking-full : {ks₀ ws₀ : List ℕ} {used room : ℕ} {ps ks ws : List ℕ} {now taken : ℕ}
+    → Taking ks₀ ws₀ used room ps ks ws now taken → (l : taken < length ps) → {ks′ ws′ : List ℕ} {now′ : ℕ} (p : ℕ)
+    → p ≡ 1 → now′ ≡ length (putAll (entries now ks ws) (take p (drop taken ps)))
+    → ks′ ≡ laidKeys room (putAll (entries now ks ws) (take p (drop taken ps))) ks
+    → ws′ ≡ laidWeights room (putAll (entries now ks ws) (take p (drop taken ps))) ws
+    → room < now′ → TookMeets room (entries used ks₀ ws₀) ps ks₀ ws₀ now taken ks′ ws′
+taking-full {ks₀} {ws₀} {used} {room} {ps} {ks} {ws} {now} {taken} t l {ks′} {ws′} {now′} p z un uk uw h =
+    let b : leb (length (putAll (entries now ks ws) (take p (drop taken ps)))) room ≡ false
+    = rw (← un) (lt-leb now′ room h) in
+    let k : ks′ ≡ ks = uk ∙ simp b in
+    let w : ws′ ≡ ws = uw ∙ simp b in
+    let n : room < length (putAll (entries now ks ws) (take p (drop taken ps))) = rw (← un) h in
+    rw (k, w) (taking-at t l (rw (z, one t l) at n))

@@ -1,0 +1,35 @@
+-- Glossary.
+--   Record        used, pixels: how many entries are used, and the pixel total
+--   Added         refusal, taken, rec: the answer of an add
+--   roomOf        the shorter of the two lent slices, capped at 1,048,576
+--   recordOf      the record of a table
+--   sameRecord    two records say the same
+--   badStrip      the test of 1 BAD STRIP
+--   badTable      the test of 2 BAD TABLE; badEntries its part on the used entries
+--   full          the test of 3 FULL
+--   addRows       these tests in the order of adding, with their refusals
+--   addRefusal    the number of the first that holds
+--   Outcome       the answer and both slices at exit
+--   addStrip      the outcome of adding a strip
+--   AddMeets      the contract: answer and slices are those of the outcome
+--   Able, TookMeets   what the functions that take a strip's pixels ask and answer
+--   fallsAt       a key that the next one is not above; emptyAt a weight of 0; weightAt the weight at a place
+pub mod Refusals
+pub mod Outcomes
+pub mod Taking
+pub mod Testing
+unfoldable pub use Refusals.{
+  roomOf,
+  recordOf,
+  sameRecord,
+  badStrip,
+  badEntries,
+  badTable,
+  full,
+  addRows,
+  addRefusal,
+}
+unfoldable pub use Outcomes.{asItCame, withPixels, handsBack, addStrip}
+pub use Outcomes.{Outcome, AddMeets}
+pub use Taking.{Able, TookMeets}
+unfoldable pub use Testing.{fallsAt, emptyAt, weightAt}

@@ -1,0 +1,46 @@
+-- What adding a strip leaves: the answer, and both slices, on every input.
+use Prim.Native.Nat.{ℕ}
+use mathlib.Core.Path.{_≡_}
+use mathlib.Core.Bool.{Bool, cond, _||_}
+use mathlib.Core.List.{List}
+use lib.Dec.{eqb}
+use Rattle.refusal.specs.{numberOf, BAD-STRIP, BAD-TABLE}
+use Rattle.entries.specs.{Entry, entries, keysInto, weightsInto, stripKeys, takenOf, withTaken}
+use Rattle.table.specs.Refusals.{roomOf, recordOf, addRefusal}
+use Rattle.table.specs.declared.Record.{Record}
+use Rattle.table.specs.declared.Added.{Added}
+
+-- the answer, and the two lent slices at exit
+pub record Outcome : Type 0 where
+  pub answer : Added
+  pub keys : List ℕ
+  pub weights : List ℕ
+
+-- refused with this number: nothing is taken, the record is handed back as it came in, and no slice changes
+abbrev pub asItCame : ℕ → Record → List ℕ → List ℕ → Outcome
+asItCame n rec ks ws = record { answer = record { refusal = n; taken = 0; rec = rec }; keys = ks; weights = ws }
+
+-- the pixels of a list taken from first to last, as far as they go in: record and table are those of the pixels taken,
+-- and places past the used entries keep their values
+abbrev pub withPixels : ℕ → ℕ → List Entry → List ℕ → List ℕ → List ℕ → Outcome
+withPixels n room es ps ks ws = record {
+  answer = record { refusal = n; taken = takenOf room es ps; rec = recordOf (withTaken room es ps) };
+  keys = keysInto (withTaken room es ps) ks;
+  weights = weightsInto (withTaken room es ps) ws;
+}
+
+-- the refusals before the first pixel: FULL is not one
+abbrev pub handsBack : ℕ → Bool
+handsBack n = eqb n (numberOf BAD-STRIP) || eqb n (numberOf BAD-TABLE)
+
+-- the whole outcome of a call
+unfoldable pub addStrip : Record → List ℕ → List ℕ → List ℕ → Outcome
+addStrip rec ks ws s =
+    cond (handsBack (addRefusal rec ks ws s)) (asItCame (addRefusal rec ks ws s) rec ks ws)
+    (withPixels (addRefusal rec ks ws s) (roomOf ks ws) (entries (rec .used) ks ws) (stripKeys s) ks ws)
+
+-- the contract: the answer and both slices are those of the outcome
+pub record AddMeets (rec : Record) (ks ws s : List ℕ) (r : Added) (ks′ ws′ : List ℕ) : Type 0 where
+  pub answer : r ≡ addStrip rec ks ws s .answer
+  pub keys : ks′ ≡ addStrip rec ks ws s .keys
+  pub weights : ws′ ≡ addStrip rec ks ws s .weights

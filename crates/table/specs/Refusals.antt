@@ -1,0 +1,48 @@
+-- When adding a strip is refused: one test a row of document 01's table, and the order of the rows.
+use Prim.Native.Nat.{ℕ, _%_, min}
+use mathlib.Core.Bool.{Bool, not, _&&_, _||_}
+use mathlib.Core.List.{List, [], _∷_}
+use lib.ListN.{length}
+use lib.Dec.{ltb, eqb}
+use Rattle.refusal.specs.{Row, row, firstOf, BAD-STRIP, BAD-TABLE, FULL}
+use Rattle.colour.specs.{mostPixels}
+use Rattle.entries.specs.{Entry, entries, pixelsOf, sound, stripKeys, mostEntries, takenOf}
+use Rattle.table.specs.declared.Record.{Record}
+
+-- the room: the shorter of the two lent slices, capped at 1,048,576
+abbrev pub roomOf : List ℕ → List ℕ → ℕ
+roomOf ks ws = min (min (length ks) (length ws)) mostEntries
+
+-- the record of a table: how many entries are used, and the pixel total, which is the sum of the weights
+abbrev pub recordOf : List Entry → Record
+recordOf es = record { used = length es; pixels = pixelsOf es }
+
+-- two records say the same
+abbrev pub sameRecord : Record → Record → Bool
+sameRecord a b = eqb (a .used) (b .used) && eqb (a .pixels) (b .pixels)
+
+-- BAD STRIP: pixel bytes not a multiple of 3
+abbrev pub badStrip : List ℕ → Bool
+badStrip s = not (eqb (length s % 3) 0)
+
+-- the used entries are no table of this record: a key above 16,777,215 or not above the one before, a weight of 0,
+-- a record that is not theirs, or a pixel total above 16,777,216
+abbrev pub badEntries : Record → List Entry → Bool
+badEntries rec es = not (sound 0 es) || (not (sameRecord (recordOf es) rec) || ltb mostPixels (rec .pixels))
+
+-- BAD TABLE: used entries above the room, or used entries that are no table of this record
+abbrev pub badTable : Record → List ℕ → List ℕ → Bool
+badTable rec ks ws = ltb (roomOf ks ws) (rec .used) || badEntries rec (entries (rec .used) ks ws)
+
+-- FULL: a pixel is left that does not go in
+abbrev pub full : Record → List ℕ → List ℕ → List ℕ → Bool
+full rec ks ws s = ltb (takenOf (roomOf ks ws) (entries (rec .used) ks ws) (stripKeys s)) (length (stripKeys s))
+
+-- the order in which adding a strip refuses: 1, 2, 3
+abbrev pub addRows : Record → List ℕ → List ℕ → List ℕ → List Row
+addRows rec ks ws s =
+    row (badStrip s) BAD-STRIP ∷ row (badTable rec ks ws) BAD-TABLE ∷ row (full rec ks ws s) FULL ∷ []
+
+-- the number of the first that holds, 0 where none does
+abbrev pub addRefusal : Record → List ℕ → List ℕ → List ℕ → ℕ
+addRefusal rec ks ws s = firstOf (addRows rec ks ws s)

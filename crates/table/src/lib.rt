@@ -1,0 +1,88 @@
+// The colour table: every colour of a sheet once, by rising key, with its weight in pixels.
+//
+// Calls; none requires anything of its caller
+//   add_strip   takes a strip's pixels in order.   Refuses 1 BAD STRIP, 2 BAD TABLE, 3 FULL, in this order.
+//   bad_table   the test behind BAD TABLE.         Refuses nothing.
+//   room_of     the room of two lent slices.       Refuses nothing.
+// A refusal hands the record back and writes nothing; FULL keeps the pixels taken before it.
+//
+// Files: test.rt (the test), take.rt (taking pixels, one by one or in chunks).
+// Read next: specs/Lib.antt (what the words mean), proofs/Promises.antt (what is shown).
+ghost use Rattle.table.specs.Outcomes.{AddMeets};
+use refusal::BAD_STRIP;
+use refusal::BAD_TABLE;
+use refusal::DONE;
+use refusal::FULL;
+
+mod take;
+mod test;
+
+pub use test::bad_table;
+pub use test::room_of;
+
+// The most entries of a table.
+pub const MOST_ENTRIES: usize = 1048576;
+
+// The most pixels of a table.
+pub const MOST_PIXELS: u64 = 16777216;
+
+// How many entries are used, and the pixels: the sum of the used weights.
+pub struct Record {
+    pub used: usize,
+    pub pixels: u64,
+}
+
+// The answer of an add: 0, or the number of the refusal; the pixels taken; the record as it is then.
+pub struct Added {
+    pub refusal: u8,
+    pub taken: usize,
+    pub rec: Record,
+}
+
+// Adds the pixels of a strip of R, G, B bytes to the table in `keys` and `weights`, from first to last.
+// Refuses, in this order:
+//   1 BAD STRIP   the strip's bytes are not a multiple of 3;
+//   2 BAD TABLE   the record and the used entries are no table (see bad_table);
+//   3 FULL        the next pixel meets a total of 16,777,216, or is a new colour with no room.
+// 1 and 2 hand the record back and leave both slices as they came. 3 answers the pixels taken, and
+// record and slices are those of these pixels. Places past the used entries keep their values.
+pub fn add_strip(rec: Record, keys: &mut [u32], weights: &mut [u32], strip: &[u8]) -> Added
+    ensures { λ r. ⌜ AddMeets rec (now (keys .entry)) (now (weights .entry)) (now (strip .entry)) r (now (keys .exit)) (now (weights .exit)) ⌝ }
+{
+    if strip.len() % 3 != 0 {
+        return Added {
+            refusal: BAD_STRIP,
+            taken: 0,
+            rec,
+        };
+    }
+    if bad_table(rec, keys, weights) {
+        return Added {
+            refusal: BAD_TABLE,
+            taken: 0,
+            rec,
+        };
+    }
+    let used = rec.used;
+    let before = rec.pixels;
+    let room = room_of(keys.len(), weights.len());
+    let count = strip.len() / 3;
+    let took = take::take_strip(keys, weights, used, before, room, strip, count);
+    let taken = took.taken;
+    let after = Record {
+        used: took.used,
+        pixels: before + taken as u64,
+    };
+    if taken < count {
+        return Added {
+            refusal: FULL,
+            taken,
+            rec: after,
+        };
+    }
+    Added {
+        refusal: DONE,
+        taken,
+        rec: after,
+    }
+}
