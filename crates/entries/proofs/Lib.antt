@@ -10,3 +10,5 @@ pub mod Slices
 pub mod Strips
 -- Which pixels of a list are taken, and the table with them.
 pub mod Takes
+-- Sound entries, place by place.
+pub mod Rows

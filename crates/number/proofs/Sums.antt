@@ -82,3 +82,9 @@ pub sum-swap : (n k : ℕ) (f : ℕ → ℕ → ℕ) → sum n (λ i. sum k (λ 
 unfolding sum
 sum-swap zero k f = omega (arith, sum-zero k)
 sum-swap (suc n) k f = omega (arith, sum-swap n k f, sum-add k _ (λ j. sum n (λ i. f i j)) (f n) (λ j l. refl))
+
+-- the first place taken off a sum
+pub sum-front : (n : ℕ) (f : ℕ → ℕ) → sum (suc n) f ≡ f 0 + sum n (λ i. f (suc i))
+unfolding sum
+sum-front zero f = omega arith
+sum-front (suc n) f = omega (arith, sum-front n f)

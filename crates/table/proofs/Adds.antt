@@ -12,7 +12,7 @@ use Rattle.entries.specs.{entries, pixelsOf, stripKeys, takenOf, withTaken}
 use Rattle.entries.proofs.Strips.{strip-length}
 use Rattle.entries.proofs.Takes.{taken-at-most, taken-pixels}
 use Rattle.table.specs.Refusals.{roomOf, recordOf, badStrip, badTable, full, addRefusal}
-use Rattle.table.specs.Outcomes.{asItCame, withPixels, addStrip, AddMeets}
+use Rattle.table.specs.Outcomes.{refused, asItCame, withPixels, addStrip, AddMeets}
 use Rattle.table.specs.Taking.{TookMeets}
 use Rattle.table.specs.declared.Record.{Record}
 use Rattle.table.specs.declared.Added.{Added}
@@ -48,21 +48,21 @@ module _ (rec : Record) (ks ws s : List ℕ) where
   -- ---- what each way out owes
 
   -- bytes not a multiple of 3
-  pub meets-bad-strip : (length s % 3 ≡ 0 → ⊥)
-      → AddMeets rec ks ws s (record { refusal = 1; taken = 0; rec = rec }) ks ws
-  meets-bad-strip h =
+  pub meets-bad-strip : {r : Added} → (length s % 3 ≡ 0 → ⊥) → r ≡ refused (numberOf BAD-STRIP) rec
+      → AddMeets rec ks ws s r ks ws
+  meets-bad-strip h e =
       let o = outcome-bad-strip (ap not (ne-eqb (length s % 3) 0 h)) in
-      record { answer = rw o; keys = rw o; weights = rw o }
+      record { answer = rw o e; keys = rw o; weights = rw o }
 
   module _ (h : length s % 3 ≡ 0) where
     whole : badStrip s ≡ false
     whole = ap not (eq-eqb (length s % 3) 0 h)
 
     -- a bad table
-    pub meets-bad-table : badTable rec ks ws ≡ true
-        → AddMeets rec ks ws s (record { refusal = 2; taken = 0; rec = rec }) ks ws
-    meets-bad-table b =
-        let o = outcome-bad-table whole b in record { answer = rw o; keys = rw o; weights = rw o }
+    pub meets-bad-table : {r : Added} → badTable rec ks ws ≡ true → r ≡ refused (numberOf BAD-TABLE) rec
+        → AddMeets rec ks ws s r ks ws
+    meets-bad-table b e =
+        let o = outcome-bad-table whole b in record { answer = rw o e; keys = rw o; weights = rw o }
 
     -- as many pixels as a third of the bytes
     pub count-is : length (stripKeys s) ≡ length s / 3

@@ -1,14 +1,19 @@
 -- A good table, fact by fact: what callers know where the test of BAD TABLE fails, and what makes it fail.
 use mathlib.Core.Path.{_≡_, refl, sym, ap, ap₂, _∙_}
 use mathlib.Core.Bool.{Bool, true, false, not, _||_}
-use mathlib.Core.Logic.{inl, inr}
+use mathlib.Core.Logic.{_↔_, inl, inr}
 use mathlib.Core.List.{List}
-use Prim.Native.Nat.{ℕ, _≤_}
+use Prim.Native.Nat.{ℕ, _+_, _≤_}
+use native.Mathlib.Omega.{arith}
+use lib.ListN.{length}
 use lib.Dec.{ltb, eqb}
 use borrow.Author.Tests.{le-ltb, ltb-false, eq-eqb, eqb-true}
 use Rattle.number.proofs.Cases.{bool, never}
 use Rattle.colour.specs.{mostPixels}
 use Rattle.entries.specs.{entries, sound}
+use Rattle.entries.proofs.Slices.{entries-length, keys-rise, keys-are-keys}
+use Rattle.entries.proofs.Rows.{sound-of-rows, weights-some, pixels-sum}
+use Rattle.table.specs.Goods.{GoodTable}
 use Rattle.table.specs.Refusals.{roomOf, recordOf, sameRecord, badTable}
 use Rattle.table.specs.declared.Record.{Record}
 
@@ -61,3 +66,46 @@ test-of-good rec ks ws g =
       ap (λ (r : Record). sameRecord r rec) (g .is) ∙ record-same rec,
       le-ltb mostPixels (rec .pixels) (g .most),
     )
+
+-- ---- the same, place by place
+
+-- a good table's places are as they should be
+pub table-of-good : (rec : Record) (ks ws : List ℕ) → Good rec ks ws → GoodTable rec ks ws
+table-of-good rec ks ws g =
+    let a : rec .used ≤ length ks = omega (arith, g .in-room) in
+    let b : rec .used ≤ length ws = omega (arith, g .in-room) in
+    record {
+      in-room = g .in-room;
+      rises = keys-rise (rec .used) ks ws a b (g .sounds);
+      keys = keys-are-keys (rec .used) ks ws a b (g .sounds);
+      weights = weights-some (rec .used) ks ws a b (g .sounds);
+      pixels = sym (ap (λ (r : Record). r .pixels) (g .is)) ∙ pixels-sum (rec .used) ks ws a b;
+      most = g .most;
+    }
+
+-- places as they should be make a good table
+pub good-of-table : (rec : Record) (ks ws : List ℕ) → GoodTable rec ks ws → Good rec ks ws
+good-of-table rec ks ws t =
+    let a : rec .used ≤ length ks = omega (arith, t .in-room) in
+    let b : rec .used ≤ length ws = omega (arith, t .in-room) in
+    record {
+      in-room = t .in-room;
+      sounds = sound-of-rows 0 (rec .used) ks ws (record {
+        in-keys = a;
+        in-weights = b;
+        from = λ l. omega arith;
+        rises = λ i l. t .rises i (i + 1) (omega arith) l;
+        upto = t .keys;
+        some = t .weights;
+      });
+      is = ap₂ (λ (n p : ℕ). record { used = n; pixels = p }) (entries-length (rec .used) ks ws a b)
+          (pixels-sum (rec .used) ks ws a b ∙ sym (t .pixels));
+      most = t .most;
+    }
+
+-- the test fails exactly for a good table
+pub bad-table-exactly : (rec : Record) (ks ws : List ℕ) → (badTable rec ks ws ≡ false) ↔ GoodTable rec ks ws
+bad-table-exactly rec ks ws = (
+  (λ h. table-of-good rec ks ws (good-of-test rec ks ws h)),
+  (λ t. test-of-good rec ks ws (good-of-table rec ks ws t)),
+)

@@ -2,3 +2,9 @@
 pub mod Goods
 -- The outcome of adding a strip on each way out of the call.
 pub mod Adds
+-- What adding means: refusals, weights, good tables, prefixes, strips joined.
+pub mod Meaning
+-- Strips joined, an empty strip, and tables with the same weights.
+pub mod Joins
+-- What a reader may ask for: each theorem in full, with the proof it cites.
+pub mod Promises

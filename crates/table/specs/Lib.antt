@@ -10,12 +10,17 @@
 --   addRows       these tests in the order of adding, with their refusals
 --   addRefusal    the number of the first that holds
 --   Outcome       the answer and both slices at exit
+--   refused, asItCame   the answer, and the outcome, where nothing is taken and all is as it came
 --   addStrip      the outcome of adding a strip
 --   AddMeets      the contract: answer and slices are those of the outcome
+--   tableAfter    the table in an outcome's slices
+--   GoodTable     a good table, fact by fact
+--   Bytes         a list of bytes
 --   Able, TookMeets   what the functions that take a strip's pixels ask and answer
 --   fallsAt       a key that the next one is not above; emptyAt a weight of 0; weightAt the weight at a place
 pub mod Refusals
 pub mod Outcomes
+pub mod Goods
 pub mod Taking
 pub mod Testing
 unfoldable pub use Refusals.{
@@ -29,7 +34,9 @@ unfoldable pub use Refusals.{
   addRows,
   addRefusal,
 }
-unfoldable pub use Outcomes.{asItCame, withPixels, handsBack, addStrip}
+unfoldable pub use Outcomes.{refused, asItCame, withPixels, handsBack, addStrip, tableAfter}
 pub use Outcomes.{Outcome, AddMeets}
+pub use Goods.{GoodTable}
+unfoldable pub use Goods.{Bytes}
 pub use Taking.{Able, TookMeets}
 unfoldable pub use Testing.{fallsAt, emptyAt, weightAt}

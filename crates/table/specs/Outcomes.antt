@@ -16,9 +16,13 @@ pub record Outcome : Type 0 where
   pub keys : List ℕ
   pub weights : List ℕ
 
--- refused with this number: nothing is taken, the record is handed back as it came in, and no slice changes
+-- the answer with this number where nothing is taken and the record is handed back as it came in
+abbrev pub refused : ℕ → Record → Added
+refused n rec = record { refusal = n; taken = 0; rec = rec }
+
+-- that answer, and no slice changes
 abbrev pub asItCame : ℕ → Record → List ℕ → List ℕ → Outcome
-asItCame n rec ks ws = record { answer = record { refusal = n; taken = 0; rec = rec }; keys = ks; weights = ws }
+asItCame n rec ks ws = record { answer = refused n rec; keys = ks; weights = ws }
 
 -- the pixels of a list taken from first to last, as far as they go in: record and table are those of the pixels taken,
 -- and places past the used entries keep their values
@@ -38,6 +42,10 @@ unfoldable pub addStrip : Record → List ℕ → List ℕ → List ℕ → Outc
 addStrip rec ks ws s =
     cond (handsBack (addRefusal rec ks ws s)) (asItCame (addRefusal rec ks ws s) rec ks ws)
     (withPixels (addRefusal rec ks ws s) (roomOf ks ws) (entries (rec .used) ks ws) (stripKeys s) ks ws)
+
+-- the table that an outcome's slices hold, by its record
+abbrev pub tableAfter : Outcome → List Entry
+tableAfter o = entries (o .answer .rec .used) (o .keys) (o .weights)
 
 -- the contract: the answer and both slices are those of the outcome
 pub record AddMeets (rec : Record) (ks ws s : List ℕ) (r : Added) (ks′ ws′ : List ℕ) : Type 0 where

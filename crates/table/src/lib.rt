@@ -8,7 +8,8 @@
 //
 // Files: test.rt (the test), take.rt (taking pixels, one by one or in chunks).
 // Read next: specs/Lib.antt (what the words mean), proofs/Promises.antt (what is shown).
-ghost use Rattle.table.specs.Outcomes.{AddMeets};
+ghost use mathlib.Core.Path.{_≡_};
+ghost use Rattle.table.specs.Outcomes.{refused, AddMeets};
 use refusal::BAD_STRIP;
 use refusal::BAD_TABLE;
 use refusal::DONE;
@@ -39,6 +40,17 @@ pub struct Added {
     pub rec: Record,
 }
 
+// The answer of a refusal before the first pixel: its number, nothing taken, the record as it came.
+fn refused(number: u8, rec: Record) -> Added
+    ensures { λ r. ⌜ r ≡ refused number rec ⌝ }
+{
+    Added {
+        refusal: number,
+        taken: 0,
+        rec,
+    }
+}
+
 // Adds the pixels of a strip of R, G, B bytes to the table in `keys` and `weights`, from first to last.
 // Refuses, in this order:
 //   1 BAD STRIP   the strip's bytes are not a multiple of 3;
@@ -50,18 +62,10 @@ pub fn add_strip(rec: Record, keys: &mut [u32], weights: &mut [u32], strip: &[u8
     ensures { λ r. ⌜ AddMeets rec (now (keys .entry)) (now (weights .entry)) (now (strip .entry)) r (now (keys .exit)) (now (weights .exit)) ⌝ }
 {
     if strip.len() % 3 != 0 {
-        return Added {
-            refusal: BAD_STRIP,
-            taken: 0,
-            rec,
-        };
+        return refused(BAD_STRIP, rec);
     }
     if bad_table(rec, keys, weights) {
-        return Added {
-            refusal: BAD_TABLE,
-            taken: 0,
-            rec,
-        };
+        return refused(BAD_TABLE, rec);
     }
     let used = rec.used;
     let before = rec.pixels;

@@ -22,6 +22,15 @@ fn smaller(a: usize, b: usize) -> usize
     if a < b { a } else { b }
 }
 
+// Whether so few pixels are quicker taken one by one: a pixel moves the entries above it, where a
+// chunk is sorted and walks the table. Either way takes the same pixels.
+fn is_few(end: usize, used: usize) -> bool {
+    if used < 512 {
+        return end < 128;
+    }
+    end < 32
+}
+
 // Takes the first `end` pixels one by one.
 fn take_few(
     keys: &mut [u32],
@@ -113,7 +122,7 @@ pub fn take_strip(
 {
     let space = (MOST_PIXELS - before) as usize;
     let end = smaller(count, space);
-    if end < 32 {
+    if is_few(end, used) {
         return take_few(keys, weights, used, room, strip, end);
     }
     if count < space {

@@ -14,7 +14,7 @@ use super::Record;
 
 // What a pass over the weights finds: how many are 0, and their sum.
 struct Weighed {
-    zeros: usize,
+    zeros: u32,
     sum: u64,
 }
 
@@ -31,14 +31,14 @@ pub fn room_of(keys: usize, weights: usize) -> usize
 }
 
 // 1 where `b` is not above `a`, else 0.
-fn not_above(a: u32, b: u32) -> usize
+fn not_above(a: u32, b: u32) -> u32
     ensures { λ r. ⌜ (r ≡ cond (leb b a) 1 0) × (r ≤ 1) ⌝ }
 {
     if b <= a { 1 } else { 0 }
 }
 
 // 1 where the weight is 0, else 0.
-fn is_zero(weight: u32) -> usize
+fn is_zero(weight: u32) -> u32
     ensures { λ r. ⌜ (r ≡ cond (eqb weight 0) 1 0) × (r ≤ 1) ⌝ }
 {
     if weight == 0 { 1 } else { 0 }
@@ -51,11 +51,11 @@ fn wide(weight: u32) -> u64
 }
 
 // How many places below `last` have a key that the next one is not above.
-fn faults(keys: &[u32], last: usize) -> usize
-    requires { ⌜ last < length (now keys) ⌝ }
+fn faults(keys: &[u32], last: usize) -> u32
+    requires { ⌜ (last < length (now keys)) × (last ≤ mostEntries) ⌝ }
     ensures { λ r. ⌜ r ≡ howMany last (fallsAt (now (keys .entry))) ⌝ }
 {
-    let mut count = 0;
+    let mut count: u32 = 0;
     let mut i = 0;
     while i < last {
         count += not_above(keys[i], keys[i + 1]);
@@ -70,7 +70,7 @@ fn weigh(weights: &[u32], used: usize) -> Weighed
     ensures zeros { λ r. ⌜ r .zeros ≡ howMany used (emptyAt (now (weights .entry))) ⌝ }
     ensures sum { λ r. ⌜ r .sum ≡ sum used (weightAt (now (weights .entry))) ⌝ }
 {
-    let mut zeros = 0;
+    let mut zeros: u32 = 0;
     let mut sum: u64 = 0;
     let mut i = 0;
     while i < used {

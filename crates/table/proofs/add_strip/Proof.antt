@@ -63,13 +63,21 @@ small c =
     taken-small (rec′ (tested c)) (ks (tested c)) (ws (tested c)) (s (tested c)) (whole (tested c))
     (is-good (roomed c .before)) (took c)
 
+refused-requires : tie.Need-refused-requires
+refused-requires c κs = search needs
+
 returns : tie.Need-returns
 returns c =
-    let t = c .before .before .before .before in
-    meets-bad-strip (t .args .rec) (now (t .args .keys)) (now (t .args .weights)) (now (t .args .strip)) (c .if1 .taken)
+    let i = c .before in
+    let t = i .before .before .before .before in
+    meets-bad-strip (t .args .rec) (now (t .args .keys)) (now (t .args .weights)) (now (t .args .strip)) (i .if1 .taken)
+    (c .refused .ensures)
 
 bad-table-requires : tie.Need-bad-table-requires
 bad-table-requires c κs = search needs
+
+refused-requires-2 : tie.Need-refused-requires-2
+refused-requires-2 c κs = search needs
 
 same-length : tie.Need-same-length
 same-length c = search needs
@@ -79,8 +87,10 @@ same-length-2 c = search needs
 
 returns-2 : tie.Need-returns-2
 returns-2 c =
-    let g = c .before in
-    meets-bad-table (rec′ g) (ks g) (ws g) (s g) (whole g) (sym (g .bad-table .ensures) ∙ c .if2 .taken)
+    let i = c .before in
+    let g = i .before in
+    meets-bad-table (rec′ g) (ks g) (ws g) (s g) (whole g) (sym (g .bad-table .ensures) ∙ i .if2 .taken)
+    (c .refused2 .ensures)
 
 room-of-requires : tie.Need-room-of-requires
 room-of-requires c κs = search needs
@@ -132,8 +142,10 @@ pub add-strip-spec : {M : Type 1} → statement M
 add-strip-spec =
     tie.close
     (tie.spec
+    refused-requires
     returns
     bad-table-requires
+    refused-requires-2
     same-length
     same-length-2
     returns-2

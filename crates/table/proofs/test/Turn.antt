@@ -6,9 +6,8 @@ use Prim.Native.Nat.{ℕ, _+_, _*_, _≤_, _<_}
 use native.Mathlib.Omega.{arith}
 use Rattle.number.specs.{sum, howMany}
 use Rattle.number.proofs.Sums.{sum-more}
-use Rattle.number.proofs.Counts.{howMany-at-most}
+use Rattle.number.proofs.Counts.{howMany-at-most, howMany-counted}
 use Rattle.table.specs.Testing.{fallsAt, emptyAt, weightAt}
-use Rattle.table.proofs.test.Places.{howMany-counted}
 
 -- ---- the loop over the keys
 

@@ -12,10 +12,11 @@ use Rattle.number.proofs.Cases.{bool}
 use Rattle.colour.specs.{mostPixels}
 use Rattle.entries.specs.{entries, sound}
 use Rattle.entries.proofs.Slices.{entries-length}
+use Rattle.entries.proofs.Rows.{pixels-sum}
 use Rattle.table.specs.Refusals.{roomOf, recordOf, sameRecord, badEntries, badTable}
 use Rattle.table.specs.Testing.{weightAt}
 use Rattle.table.specs.declared.Record.{Record}
-use Rattle.table.proofs.test.Faultless.{Faultless, sound-of-faultless, unsound-of-fault, pixels-sum}
+use Rattle.table.proofs.test.Faultless.{Faultless, sound-of-faultless, unsound-of-fault}
 
 -- used entries above the room are bad
 pub bad-over-room : (rec : Record) (ks ws : List ℕ) → roomOf ks ws < rec .used → badTable rec ks ws ≡ true

@@ -13,6 +13,10 @@ use Rattle.table.proofs.take.Steps.{steps-whole}
 use Rattle.table.proofs.take.take_strip.Statement.{statement}
 use Rattle.table.proofs.take.take_strip.Tie as tie
 
+-- with the end known: the entry
+abbrev st : tie.After-smaller → tie.Start
+st n = n .before .before .before .before
+
 -- what the total allows, and how many pixels the strip has
 abbrev space : tie.Start → ℕ
 space s = mostPixels - s .args .before
@@ -35,10 +39,13 @@ sub-space c = omega (arith, c .before .before .before .pre .1 .0)
 smaller-requires : tie.Need-smaller-requires
 smaller-requires c κs = search needs
 
+is-few-requires : tie.Need-is-few-requires
+is-few-requires c κs = search needs
+
 take-few-requires : tie.Need-take-few-requires
 take-few-requires c κs =
-    let n = c .before .before .before in
-    able (n .before .before .before .before) (n .smaller .result) (omega (arith, n .smaller .ensures))
+    let n = c .before .before .before .before in
+    able (st n) (n .smaller .result) (omega (arith, n .smaller .ensures))
     (omega (arith, n .smaller .ensures))
 
 same-length : tie.Need-same-length
@@ -50,15 +57,15 @@ same-length-2 c = search needs
 returns : tie.Need-returns
 returns c =
     let a = c .before .before .before .before in
-    let n = a .before .before .before .before in
-    let s = n .before .before .before .before in
+    let n = a .before .before .before .before .before in
+    let s = st n in
     steps-whole (n .smaller .result) (λ h. omega (arith, h, n .smaller .ensures, pixels-are s, s .pre .1 .0))
     (a .take-few .ensures)
 
 take-many-requires : tie.Need-take-many-requires
 take-many-requires c κs =
     let t = c .before .before in
-    let s = t .before .before .before .before .before .before in
+    let s = st (t .before .before .before) in
     able s (s .args .count) (omega arith) (omega (arith, t .if2 .taken))
 
 same-length-3 : tie.Need-same-length-3
@@ -70,13 +77,13 @@ same-length-4 c = search needs
 returns-2 : tie.Need-returns-2
 returns-2 c =
     let a = c .before .before .before .before in
-    let s = a .before .before .before .before .before .before .before .before .before in
+    let s = st (a .before .before .before .before .before .before) in
     steps-whole (s .args .count) (λ h. omega (arith, h, pixels-are s)) (a .take-many .ensures)
 
 take-many-requires-2 : tie.Need-take-many-requires-2
 take-many-requires-2 c κs =
     let t = c .before .before in
-    let s = t .before .before .before .before .before .before in
+    let s = st (t .before .before .before) in
     able s (space s) (omega (arith, t .if2 .left)) (omega arith)
 
 same-length-5 : tie.Need-same-length-5
@@ -88,7 +95,7 @@ same-length-6 c = search needs
 returns-3 : tie.Need-returns-3
 returns-3 c =
     let a = c .before .before .before .before in
-    let s = a .before .before .before .before .before .before .before .before .before in
+    let s = st (a .before .before .before .before .before .before) in
     steps-whole (space s) (λ h. omega (arith, s .pre .1 .0)) (a .take-many2 .ensures)
 
 pub take-strip-spec : {M : Type 1} → statement M
@@ -97,6 +104,7 @@ take-strip-spec =
     (tie.spec
     sub-space
     smaller-requires
+    is-few-requires
     take-few-requires
     same-length
     same-length-2

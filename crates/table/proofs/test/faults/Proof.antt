@@ -45,7 +45,9 @@ loop-less : tie.Need-loop-less Inv-loop μ-loop
 loop-less c = omega arith
 
 loop-again : tie.Need-loop-again Inv-loop μ-loop
-loop-again c = comparing-step (c .before .before .before .before .loop .inv) (omega arith) (c .not-above .result) (c .not-above .ensures .0)
+loop-again c =
+    comparing-step (c .before .before .before .before .loop .inv) (omega arith) (c .not-above .result)
+    (c .not-above .ensures .0)
 
 returns : tie.Need-returns Inv-loop μ-loop
 returns c = comparing-done (c .before .loop .inv) (c .loop-test .left)

@@ -1,0 +1,214 @@
+-- Adding two strips one after the other is adding them joined; an empty strip changes nothing; a table is determined by the
+-- weights of its colours.
+use mathlib.Core.Path.{_≡_, refl, sym, ap, ap₂, _∙_}
+use mathlib.Core.Bool.{true, false, not}
+use mathlib.Core.Logic.{inl, inr}
+use mathlib.Core.List.{List, [], _++_, map}
+use Prim.Native.Nat.{ℕ, _+_, _*_, _/_, _%_, min, _≤_, _<_}
+use native.Mathlib.Omega.{arith}
+use lib.ListN.{length, drop, length-append, take-append-drop}
+use lib.Dec.{ltb, eqb}
+use borrow.Author.Tests.{le-ltb, ltb-false, eq-eqb, eqb-true, eqb-false}
+use Rattle.number.proofs.Cases.{bool, never}
+use Rattle.refusal.specs.{done}
+use Rattle.colour.specs.{mostPixels}
+use Rattle.entries.specs.{
+  Entry,
+  entries,
+  keysInto,
+  weightsInto,
+  pixelsOf,
+  weightOf,
+  stripKeys,
+  putAll,
+  takenOf,
+  withTaken,
+}
+use Rattle.entries.proofs.Gives.{putAll-length, putAll-append}
+use Rattle.entries.proofs.Same.{same-table}
+use Rattle.entries.proofs.Slices.{
+  entries-length,
+  entries-keys,
+  entries-weights,
+  entries-laid,
+  laid-length,
+  laid-kept,
+  drop-later,
+}
+use Rattle.entries.proofs.Strips.{byte-keys, strip-append}
+use Rattle.entries.proofs.Takes.{taken-all, taken-fits, taken-append}
+use Rattle.table.specs.Refusals.{roomOf, recordOf, badStrip, badTable, full}
+use Rattle.table.specs.Outcomes.{Outcome, asItCame, withPixels, addStrip}
+use Rattle.table.specs.Goods.{GoodTable, Bytes}
+use Rattle.table.specs.declared.Record.{Record}
+use Rattle.table.proofs.Goods.{Good, good-of-test, good-of-table}
+use Rattle.table.proofs.Adds.{outcome-done}
+use Rattle.table.proofs.Meaning.{Accepted, accepted-of-done, all-taken}
+
+-- ---- one strip, accepted
+
+-- the outcome with all of the pixels ps in the table es
+abbrev allIn : List Entry → List ℕ → List ℕ → List ℕ → Outcome
+allIn es ps ks ws = record {
+  answer = record { refusal = done; taken = length ps; rec = recordOf (putAll es ps) };
+  keys = keysInto (putAll es ps) ks;
+  weights = weightsInto (putAll es ps) ws;
+}
+
+-- that is the outcome of an accepted add
+outcome-all : (rec : Record) (ks ws s : List ℕ) → Accepted rec ks ws s
+    → addStrip rec ks ws s ≡ allIn (entries (rec .used) ks ws) (stripKeys s) ks ws
+outcome-all rec ks ws s a =
+    let es : List Entry = entries (rec .used) ks ws in
+    let t : takenOf (roomOf ks ws) es (stripKeys s) ≡ length (stripKeys s) = all-taken rec ks ws s a in
+    outcome-done rec ks ws s (a .whole) (a .good) (a .room-left)
+    ∙ rw (taken-all (roomOf ks ws) es (stripKeys s) (omega (arith, t)), t)
+
+-- ---- an empty strip
+
+-- either column of a table read from its slice and laid into it is the slice
+column-same : (f : Entry → ℕ) (es : List Entry) (n : ℕ) (cs : List ℕ) → length es ≡ n → map f es ≡ lib.ListN.take n cs
+    → map f es ++ drop (length es) cs ≡ cs
+column-same f es n cs l e = rw (l, e) (take-append-drop n cs)
+
+-- no pixel is done, with nothing taken, where the table is good: also with no room and at a full pixel total
+pub empty-strip : (rec : Record) (ks ws : List ℕ) → badTable rec ks ws ≡ false
+    → addStrip rec ks ws [] ≡ asItCame done rec ks ws
+empty-strip rec ks ws b =
+    let g : Good rec ks ws = good-of-test rec ks ws b in
+    let es : List Entry = entries (rec .used) ks ws in
+    let a1 : rec .used ≤ length ks = omega (arith, g .in-room) in
+    let a2 : rec .used ≤ length ws = omega (arith, g .in-room) in
+    let n : length es ≡ rec .used = entries-length (rec .used) ks ws a1 a2 in
+    let k : keysInto es ks ≡ ks
+    = column-same (λ (e : Entry). e .key) es (rec .used) ks n (entries-keys (rec .used) ks ws a1 a2) in
+    let w : weightsInto es ws ≡ ws
+    = column-same (λ (e : Entry). e .weight) es (rec .used) ws n (entries-weights (rec .used) ks ws a1 a2) in
+    outcome-done rec ks ws [] refl b refl
+    ∙ λ i. record { answer = record { refusal = done; taken = 0; rec = g .is i }; keys = k i; weights = w i }
+
+-- ---- a table is determined by the weights of its colours
+
+pub determined : (rec rec′ : Record) (ks ws ks′ ws′ : List ℕ) → GoodTable rec ks ws → GoodTable rec′ ks′ ws′
+    → ((c : ℕ) → weightOf c (entries (rec .used) ks ws) ≡ weightOf c (entries (rec′ .used) ks′ ws′))
+    → (entries (rec .used) ks ws ≡ entries (rec′ .used) ks′ ws′) × (rec ≡ rec′)
+determined rec rec′ ks ws ks′ ws′ a b h =
+    let g : Good rec ks ws = good-of-table rec ks ws a in
+    let g′ : Good rec′ ks′ ws′ = good-of-table rec′ ks′ ws′ b in
+    let e : entries (rec .used) ks ws ≡ entries (rec′ .used) ks′ ws′
+    = same-table 0 (entries (rec .used) ks ws) (entries (rec′ .used) ks′ ws′) (g .sounds) (g′ .sounds) h in
+    (e, sym (g .is) ∙ ap recordOf e ∙ g′ .is)
+
+-- ---- two strips
+
+-- a larger table laid over a smaller one is the larger one laid into the slice
+into-twice : (f : Entry → ℕ) (P Q : List Entry) (cs : List ℕ) → length P ≤ length Q
+    → map f Q ++ drop (length Q) (map f P ++ drop (length P) cs) ≡ map f Q ++ drop (length Q) cs
+into-twice f P Q cs h =
+    ap (λ (r : List ℕ). map f Q ++ r)
+    (drop-later (length P) (length Q) (map f P ++ drop (length P) cs) cs h (laid-kept f P cs))
+
+-- what a whole strip is
+whole-of : (u : List ℕ) → badStrip u ≡ false → length u % 3 ≡ 0
+whole-of u h = elim (bool (eqb (length u % 3) 0)) [
+  | inl e ↦ eqb-true (length u % 3) 0 e
+  | inr e ↦ never (simp e at h)
+]
+
+-- two whole strips joined are a whole strip
+whole-append : (s t : List ℕ) → badStrip s ≡ false → badStrip t ≡ false → badStrip (s ++ t) ≡ false
+whole-append s t a b =
+    let m : length s % 3 ≡ 0 = whole-of s a in
+    let n : length t % 3 ≡ 0 = whole-of t b in
+    ap not (eq-eqb (length (s ++ t) % 3) 0 (rw length-append (omega arith)))
+
+module _ (rec : Record) (ks ws s t : List ℕ) (bytes : Bytes s) (a : Accepted rec ks ws s) where
+  abbrev es : List Entry
+  es = entries (rec .used) ks ws
+
+  abbrev P : List Entry
+  P = putAll (entries (rec .used) ks ws) (stripKeys s)
+
+  -- the table of the first strip is within the room
+  first-fits : length P ≤ roomOf ks ws
+  first-fits =
+      let g : Good rec ks ws = good-of-test rec ks ws (a .good) in
+      let n : length es ≡ rec .used
+      = entries-length (rec .used) ks ws (omega (arith, g .in-room)) (omega (arith, g .in-room)) in
+      let m : pixelsOf es ≡ rec .pixels = ap (λ (r : Record). r .pixels) (g .is) in
+      rw (taken-all (roomOf ks ws) es (stripKeys s) (omega (arith, all-taken rec ks ws s a)))
+      at (taken-fits (roomOf ks ws) es (byte-keys s bytes) (g .sounds) (omega (arith, g .in-room)) (omega (arith, g .most)) .0)
+
+  -- so the room is the same for the second
+  same-room : roomOf (keysInto P ks) (weightsInto P ws) ≡ roomOf ks ws
+  same-room =
+      rw (
+        laid-length (λ (e : Entry). e .key) P ks (omega (arith, first-fits)),
+        laid-length (λ (e : Entry). e .weight) P ws (omega (arith, first-fits)),
+      )
+
+  module _ (b : Accepted (recordOf P) (keysInto P ks) (weightsInto P ws) t) where
+    -- the second strip goes whole into the table of the first
+    second-taken : takenOf (roomOf ks ws) P (stripKeys t) ≡ length (stripKeys t)
+    second-taken =
+        rw (same-room, entries-laid P (drop (length P) ks) (drop (length P) ws))
+        at (all-taken (recordOf P) (keysInto P ks) (weightsInto P ws) t b)
+
+    joined-keys : stripKeys (s ++ t) ≡ stripKeys s ++ stripKeys t
+    joined-keys = strip-append (length s / 3) s t (omega (arith, whole-of s (a .whole)))
+
+    -- and so do the strips joined
+    joined-taken : takenOf (roomOf ks ws) es (stripKeys (s ++ t)) ≡ length (stripKeys (s ++ t))
+    joined-taken =
+        rw (joined-keys, length-append)
+        (taken-append (roomOf ks ws) es (stripKeys s) (stripKeys t) (all-taken rec ks ws s a) ∙ omega (arith, second-taken))
+
+    joined-accepted : Accepted rec ks ws (s ++ t)
+    joined-accepted = record {
+      whole = whole-append s t (a .whole) (b .whole);
+      good = a .good;
+      room-left = le-ltb (takenOf (roomOf ks ws) es (stripKeys (s ++ t))) (length (stripKeys (s ++ t)))
+          (omega (arith, joined-taken));
+    }
+
+    -- the outcome of the strips joined is that of the second after the first, with the pixels of both taken
+    joined : addStrip rec ks ws (s ++ t) ≡ record {
+      answer = record {
+        refusal = done;
+        taken = length (stripKeys s) + length (stripKeys t);
+        rec = addStrip (recordOf P) (keysInto P ks) (weightsInto P ws) t .answer .rec;
+      };
+      keys = addStrip (recordOf P) (keysInto P ks) (weightsInto P ws) t .keys;
+      weights = addStrip (recordOf P) (keysInto P ks) (weightsInto P ws) t .weights;
+    }
+    joined =
+        let grows : length P ≤ length (putAll P (stripKeys t)) = putAll-length P (stripKeys t) in
+        outcome-all rec ks ws (s ++ t) joined-accepted
+        ∙ rw (
+          joined-keys,
+          putAll-append es (stripKeys s) (stripKeys t),
+          length-append,
+          outcome-all (recordOf P) (keysInto P ks) (weightsInto P ws) t b,
+          entries-laid P (drop (length P) ks) (drop (length P) ws),
+          into-twice (λ (e : Entry). e .key) P (putAll P (stripKeys t)) ks grows,
+          into-twice (λ (e : Entry). e .weight) P (putAll P (stripKeys t)) ws grows,
+        )
+
+-- where both strips are accepted, one after the other, the strips joined are, and leave the same record and slices
+pub joined-strips : (rec : Record) (ks ws s t : List ℕ) → Bytes s → addStrip rec ks ws s .answer .refusal ≡ done
+    → (let o = addStrip rec ks ws s in
+    addStrip (o .answer .rec) (o .keys) (o .weights) t .answer .refusal ≡ done
+    → addStrip rec ks ws (s ++ t) ≡ record {
+      answer = record {
+        refusal = done;
+        taken = o .answer .taken + addStrip (o .answer .rec) (o .keys) (o .weights) t .answer .taken;
+        rec = addStrip (o .answer .rec) (o .keys) (o .weights) t .answer .rec;
+      };
+      keys = addStrip (o .answer .rec) (o .keys) (o .weights) t .keys;
+      weights = addStrip (o .answer .rec) (o .keys) (o .weights) t .weights;
+    })
+joined-strips rec ks ws s t bytes h =
+    let a : Accepted rec ks ws s = accepted-of-done rec ks ws s h in
+    rw (outcome-all rec ks ws s a) (λ k.
+    let b = accepted-of-done _ _ _ t k in
+    joined rec ks ws s t bytes a b ∙ rw (outcome-all _ _ _ t b))

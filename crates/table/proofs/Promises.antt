@@ -1,0 +1,128 @@
+-- What is shown of the colour table, each theorem in full; its body names the proof.
+-- `addStrip rec ks ws s` is the outcome of a call (specs/Outcomes.antt): its contract says that the answer and both
+-- slices of `add_strip` are those of this outcome, on every input.
+use mathlib.Core.Path.{_≡_, sym, _∙_}
+use mathlib.Core.Bool.{true, false}
+use mathlib.Core.Logic.{_↔_}
+use mathlib.Core.List.{List, [], _++_}
+use Prim.Native.Nat.{ℕ, _+_, _%_, _<_}
+use lib.ListN.{length, getD, drop}
+use Rattle.refusal.specs.{Refusal, numberOf, done, Given, NoneHolds}
+use Rattle.entries.specs.{entries, weightOf, stripKeys, countOf, stops, takenOf, withTaken}
+use Rattle.entries.proofs.Takes.{Prefix}
+use Rattle.table.specs.Refusals.{roomOf, recordOf, badStrip, badTable, full, addRows}
+use Rattle.table.specs.Outcomes.{asItCame, handsBack, addStrip, tableAfter, AddMeets}
+use Rattle.table.specs.Goods.{GoodTable, Bytes}
+use Rattle.table.specs.declared.Record.{Record}
+use Rattle.table.specs.declared.Added.{Added}
+use Rattle.table.proofs.Goods as goods
+use Rattle.table.proofs.Meaning as meaning
+use Rattle.table.proofs.Joins as joins
+
+-- ---- the contract leaves one answer
+
+-- Whatever meets the contract of `add_strip` on an input has one answer and one content of each slice.
+pub add-strip-only : (rec : Record) (ks ws s : List ℕ) {r r′ : Added} {k k′ w w′ : List ℕ}
+    → AddMeets rec ks ws s r k w → AddMeets rec ks ws s r′ k′ w′ → (r ≡ r′) × (k ≡ k′) × (w ≡ w′)
+add-strip-only rec ks ws s a b =
+    (a .answer ∙ sym (b .answer), a .keys ∙ sym (b .keys), a .weights ∙ sym (b .weights))
+
+-- ---- refusals
+
+-- A refusal is given exactly when its row is the first of 1, 2, 3 whose test holds.
+pub refused-exactly : (rec : Record) (ks ws s : List ℕ) (n : Refusal)
+    → (addStrip rec ks ws s .answer .refusal ≡ numberOf n) ↔ Given (addRows rec ks ws s) n
+refused-exactly = meaning.refused-exactly
+
+-- A strip is accepted exactly when none of the three tests holds.
+pub accepted-exactly : (rec : Record) (ks ws s : List ℕ)
+    → (addStrip rec ks ws s .answer .refusal ≡ done) ↔ NoneHolds (addRows rec ks ws s)
+accepted-exactly = meaning.accepted-exactly
+
+-- The test of BAD STRIP holds exactly when the bytes are not a multiple of 3.
+pub bad-strip-exactly : (s : List ℕ) → (badStrip s ≡ true) ↔ (length s % 3 ≡ 0 → ⊥)
+bad-strip-exactly = meaning.bad-strip-exactly
+
+-- The test of BAD TABLE fails exactly for a good table.
+pub bad-table-exactly : (rec : Record) (ks ws : List ℕ) → (badTable rec ks ws ≡ false) ↔ GoodTable rec ks ws
+bad-table-exactly = goods.bad-table-exactly
+
+-- The test of FULL holds exactly when there is a next pixel, and it meets a full pixel total or is a new colour with no room.
+pub full-exactly : (rec : Record) (ks ws s : List ℕ)
+    → (full rec ks ws s ≡ true)
+    ↔ ((takenOf (roomOf ks ws) (entries (rec .used) ks ws) (stripKeys s) < length (stripKeys s))
+    × (stops (roomOf ks ws) (withTaken (roomOf ks ws) (entries (rec .used) ks ws) (stripKeys s))
+    (getD (stripKeys s) (takenOf (roomOf ks ws) (entries (rec .used) ks ws) (stripKeys s)) 0) ≡ true))
+full-exactly = meaning.full-exactly
+
+-- BAD STRIP and BAD TABLE hand the record back as it came in and write nothing.
+pub refused-as-it-came : (rec : Record) (ks ws s : List ℕ) (n : Refusal) → handsBack (numberOf n) ≡ true
+    → addStrip rec ks ws s .answer .refusal ≡ numberOf n → addStrip rec ks ws s ≡ asItCame (numberOf n) rec ks ws
+refused-as-it-came = meaning.refused-as-it-came
+
+-- An empty strip on a good table is done with 0 taken, even at a full pixel total or with no room.
+pub empty-strip-done : (rec : Record) (ks ws : List ℕ) → badTable rec ks ws ≡ false
+    → addStrip rec ks ws [] ≡ asItCame done rec ks ws
+empty-strip-done = joins.empty-strip
+
+-- ---- what an accepted add does
+
+-- The weight of every colour is its former weight plus the number of its pixels in the strip.
+pub accepted-weights : (rec : Record) (ks ws s : List ℕ) → addStrip rec ks ws s .answer .refusal ≡ done → (c : ℕ)
+    → weightOf c (tableAfter (addStrip rec ks ws s)) ≡ weightOf c (entries (rec .used) ks ws) + countOf c (stripKeys s)
+accepted-weights = meaning.accepted-weights
+
+-- A good table is good after any call: keys rise strictly and are keys, weights are at least 1, the pixels are the sum of
+-- the weights.
+pub stays-good : (rec : Record) (ks ws s : List ℕ) → Bytes s → GoodTable rec ks ws
+    → GoodTable (addStrip rec ks ws s .answer .rec) (addStrip rec ks ws s .keys) (addStrip rec ks ws s .weights)
+stays-good = meaning.stays-good
+
+-- Places past the used entries keep their values, on every input.
+pub past-kept : (rec : Record) (ks ws s : List ℕ)
+    → (drop (addStrip rec ks ws s .answer .rec .used) (addStrip rec ks ws s .keys)
+    ≡ drop (addStrip rec ks ws s .answer .rec .used) ks)
+    × (drop (addStrip rec ks ws s .answer .rec .used) (addStrip rec ks ws s .weights)
+    ≡ drop (addStrip rec ks ws s .answer .rec .used) ws)
+past-kept = meaning.past-kept
+
+-- Where both strips are accepted, adding one after the other is adding them joined.
+pub joined-strips : (rec : Record) (ks ws s t : List ℕ) → Bytes s → addStrip rec ks ws s .answer .refusal ≡ done
+    → (let o = addStrip rec ks ws s in
+    addStrip (o .answer .rec) (o .keys) (o .weights) t .answer .refusal ≡ done
+    → addStrip rec ks ws (s ++ t) ≡ record {
+      answer = record {
+        refusal = done;
+        taken = o .answer .taken + addStrip (o .answer .rec) (o .keys) (o .weights) t .answer .taken;
+        rec = addStrip (o .answer .rec) (o .keys) (o .weights) t .answer .rec;
+      };
+      keys = addStrip (o .answer .rec) (o .keys) (o .weights) t .keys;
+      weights = addStrip (o .answer .rec) (o .keys) (o .weights) t .weights;
+    })
+joined-strips = joins.joined-strips
+
+-- ---- FULL
+
+-- The pixels taken are the longest prefix of the strip that goes in, pixel by pixel.
+pub taken-is-longest : (rec : Record) (ks ws s : List ℕ) → badStrip s ≡ false → badTable rec ks ws ≡ false
+    → Prefix (roomOf ks ws) (entries (rec .used) ks ws) (stripKeys s) (addStrip rec ks ws s .answer .taken)
+taken-is-longest = meaning.taken-is-longest
+
+-- No other number of pixels is.
+pub longest-only : (rec : Record) (ks ws s : List ℕ) → badStrip s ≡ false → badTable rec ks ws ≡ false → (n : ℕ)
+    → Prefix (roomOf ks ws) (entries (rec .used) ks ws) (stripKeys s) n → n ≡ addStrip rec ks ws s .answer .taken
+longest-only = meaning.longest-only
+
+-- Record and slices are those of the pixels taken.
+pub after-taken : (rec : Record) (ks ws s : List ℕ) → badStrip s ≡ false → badTable rec ks ws ≡ false
+    → (tableAfter (addStrip rec ks ws s) ≡ withTaken (roomOf ks ws) (entries (rec .used) ks ws) (stripKeys s))
+    × (addStrip rec ks ws s .answer .rec ≡ recordOf (tableAfter (addStrip rec ks ws s)))
+after-taken = meaning.taken-after
+
+-- ---- a table is its weights
+
+-- Two good tables that give every colour the same weight have the same entries and the same record.
+pub determined-by-weights : (rec rec′ : Record) (ks ws ks′ ws′ : List ℕ) → GoodTable rec ks ws → GoodTable rec′ ks′ ws′
+    → ((c : ℕ) → weightOf c (entries (rec .used) ks ws) ≡ weightOf c (entries (rec′ .used) ks′ ws′))
+    → (entries (rec .used) ks ws ≡ entries (rec′ .used) ks′ ws′) × (rec ≡ rec′)
+determined-by-weights = joins.determined

@@ -1,0 +1,10 @@
+-- `refused` meets its contract: the answer is the one that the definition gives.
+use mathlib.Core.Path.{refl}
+use Rattle.table.proofs.refused.Statement.{statement}
+use Rattle.table.proofs.refused.Tie as tie
+
+returns : tie.Need-returns
+returns c = refl
+
+pub refused-spec : {M : Type 1} → statement M
+refused-spec = tie.close (tie.spec returns)
