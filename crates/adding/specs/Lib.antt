@@ -3,6 +3,8 @@
 --   push i n v         v put in at place i, n values moved up
 --   allBelow ks i k    the last of the first i keys is below k
 --   giveBack           the runs of a list added to a table, the last one first
+--   withRuns           the table in two slices with the first runs of a list
+--   InOrder f n        f never falls along the first n of a list
 --   Standing           a sound table stands in two slices
 --   Ready              a strip has pixels to add, and the total has place for them
 --   piece s from n     n pixels of a strip
@@ -10,6 +12,6 @@
 --   Tried              what was tried, and what the slices have
 pub mod Walk
 pub mod Trying
-unfoldable pub use Walk.{below, hit, push, allBelow, giveBack}
+unfoldable pub use Walk.{below, hit, push, allBelow, giveBack, withRuns, InOrder}
 unfoldable pub use Trying.{piece, laidKeys, laidWeights}
 pub use Trying.{Standing, Ready, Tried}

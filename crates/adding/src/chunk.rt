@@ -24,7 +24,8 @@ pub fn add_one(
     from: usize,
 ) -> Chunk
     requires { ⌜ Ready used room (now keys) (now weights) (now strip) from 1 ⌝ }
-    ensures { λ r. ⌜ Tried used room (now (keys .entry)) (now (weights .entry)) (now (strip .entry)) from 1 (r .used) (r .pixels) (now (keys .exit)) (now (weights .exit)) ⌝ }
+    ensures { λ r. ⌜ Tried used room (now (keys .entry)) (now (weights .entry)) (now (strip .entry))
+        from 1 (r .used) (r .pixels) (now (keys .exit)) (now (weights .exit)) ⌝ }
 {
     let key = runs::gather::key_at(strip, 3 * from);
     let next = add_pixel(keys, weights, used, room, key);
@@ -48,8 +49,10 @@ fn add_chunk(
     other: &mut [u32],
 ) -> Chunk
     requires { ⌜ Ready used room (now keys) (now weights) (now strip) from most ⌝ }
-    requires { ⌜ (0 < length (now list)) × (length (now list) ≤ mostRuns) × (length (now list) ≤ length (now other)) ⌝ }
-    ensures { λ r. ⌜ Tried used room (now (keys .entry)) (now (weights .entry)) (now (strip .entry)) from most (r .used) (r .pixels) (now (keys .exit)) (now (weights .exit)) ⌝ }
+    requires { ⌜ (0 < length (now list)) × (length (now list) ≤ mostRuns)
+        × (length (now list) ≤ length (now other)) ⌝ }
+    ensures { λ r. ⌜ Tried used room (now (keys .entry)) (now (weights .entry)) (now (strip .entry))
+        from most (r .used) (r .pixels) (now (keys .exit)) (now (weights .exit)) ⌝ }
 {
     let got = runs::gather::gather(strip, from, most, list);
     let len = got.len;
@@ -74,7 +77,8 @@ pub fn add_some(
     most: usize,
 ) -> Chunk
     requires { ⌜ Ready used room (now keys) (now weights) (now strip) from most ⌝ }
-    ensures { λ r. ⌜ Tried used room (now (keys .entry)) (now (weights .entry)) (now (strip .entry)) from most (r .used) (r .pixels) (now (keys .exit)) (now (weights .exit)) ⌝ }
+    ensures { λ r. ⌜ Tried used room (now (keys .entry)) (now (weights .entry)) (now (strip .entry))
+        from most (r .used) (r .pixels) (now (keys .exit)) (now (weights .exit)) ⌝ }
 {
     if most < 32 {
         return add_one(keys, weights, used, room, strip, from);

@@ -1,4 +1,5 @@
-// Adding pixels to a table that lies in two slices: one by one, or gathered as runs, sorted and merged.
+// Adding pixels to a table that lies in two slices: one by one, or gathered as runs, sorted and
+// merged.
 //
 // Functions, for the crate above (each says what it requires)
 //   pixel::add_pixel   one pixel, by a search for its place

@@ -20,7 +20,8 @@ use Rattle.entries.proofs.Sounds.{Sound, sound-cons, cons-sound}
 -- ---- w pixels of one colour
 
 -- the table has as many entries, or one more
-pub give-length : (k w : ℕ) (es : List Entry) → (length es ≤ length (give k w es)) × (length (give k w es) ≤ length es + 1)
+pub give-length : (k w : ℕ) (es : List Entry)
+    → (length es ≤ length (give k w es)) × (length (give k w es) ≤ length es + 1)
 give-length k w [] = omega arith
 give-length k w (e ∷ es) = elim (cmp (e .key) k) [
   | lt l t ↦ simp t (omega (arith, give-length k w es))

@@ -49,7 +49,8 @@ module _ (room : ℕ) (es : List Entry) (k : ℕ) (s : sound 0 es ≡ true) wher
   -- where the table with the pixel is within both limits, it goes in
   pub goes-in : length (put k es) ≤ room → pixelsOf (put k es) ≤ mostPixels → stops room es k ≡ false
   goes-in a b =
-      let u : leb mostPixels (pixelsOf es) ≡ false = lt-leb mostPixels (pixelsOf es) (omega (arith, give-pixels k 1 es)) in
+      let u : leb mostPixels (pixelsOf es) ≡ false = lt-leb mostPixels (pixelsOf es) (omega (arith, give-pixels k 1 es))
+      in
       elim (bool (eqb (weightOf k es) 0)) [
         | inl t ↦
             let n : length (put k es) ≡ length es + 1 = give-length-is k 1 0 es s ∙ simp t in
@@ -171,11 +172,12 @@ taken-prefix room es [] = record {
 }
 taken-prefix room es (k ∷ ps) = elim (bool (stops room es k)) [
   | inl t ↦ simp t (record { within = omega arith; goes = λ i l. absurd (not-suc-le-zero l); ends = λ l. t })
-  | inr t ↦ let p : Prefix room (put k es) ps (takenOf room (put k es) ps) = taken-prefix room (put k es) ps in simp t (record {
-    within = omega (arith, p .within);
-    goes = each p t;
-    ends = λ l. p .ends (le-of-suc-le-suc l);
-  })
+  | inr t ↦ let p : Prefix room (put k es) ps (takenOf room (put k es) ps) = taken-prefix room (put k es) ps in
+      simp t (record {
+        within = omega (arith, p .within);
+        goes = each p t;
+        ends = λ l. p .ends (le-of-suc-le-suc l);
+      })
 ] where
   each : {n : ℕ} → Prefix room (put k es) ps n → stops room es k ≡ false → (i : ℕ) → i < suc n
       → stops room (putAll es (take i (k ∷ ps))) (getD (k ∷ ps) i 0) ≡ false

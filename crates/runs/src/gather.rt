@@ -36,8 +36,10 @@ fn joins(run: u32, key: u32) -> bool
 // Requires at least one pixel, all of them in the strip, and at least one place.
 pub fn gather(strip: &[u8], from: usize, most: usize, list: &mut [u32]) -> Gathered
     requires { ⌜ (0 < most) × (3 * (from + most) ≤ length (now strip)) × (0 < length (now list)) ⌝ }
-    ensures { λ r. ⌜ (0 < r .pixels) × (r .pixels ≤ most) × (r .len ≤ length (now (list .entry))) ⌝ }
-    ensures { λ r. ⌜ ((c : ℕ) → sumOf (runCount c) (take (r .len) (now (list .exit))) ≡ countOf c (take (r .pixels) (drop from (stripKeys (now (strip .entry)))))) ⌝ }
+    ensures { λ r. ⌜ (0 < r .pixels) × (r .pixels ≤ most)
+        × (r .len ≤ length (now (list .entry))) ⌝ }
+    ensures { λ r. ⌜ ((c : ℕ) → sumOf (runCount c) (take (r .len) (now (list .exit)))
+        ≡ countOf c (take (r .pixels) (drop from (stripKeys (now (strip .entry)))))) ⌝ }
 {
     let mut run = 256 * key_at(strip, 3 * from);
     let mut len = 0;

@@ -1,5 +1,6 @@
 // Runs of equal pixels: a strip's pixels gathered as runs, and runs sorted by key.
-// A run is one number, 256 * key + (pixels - 1), so that any u32 is a run and sorting moves four bytes.
+// A run is one number, 256 * key + (pixels - 1), so that any u32 is a run and sorting moves four
+// bytes.
 //
 // Functions, for the crates above (each says what it requires)
 //   run::run_key, run::run_pixels   a run taken apart

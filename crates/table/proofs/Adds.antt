@@ -97,11 +97,13 @@ module _ (rec : Record) (ks ws s : List ℕ) where
           → AddMeets rec ks ws s
           (record { refusal = 3; taken = taken; rec = record { used = used; pixels = rec .pixels + taken } }) ks′ ws′
       meets-full l =
-          answered 3 (outcome-full whole b (rw (← t .taken-is) (lt-ltb taken (length (stripKeys s)) (omega (arith, count-is)))))
+          answered 3 (outcome-full whole b
+          (rw (← t .taken-is) (lt-ltb taken (length (stripKeys s)) (omega (arith, count-is)))))
 
       -- none is
       pub meets-done : length s / 3 ≤ taken
           → AddMeets rec ks ws s
           (record { refusal = 0; taken = taken; rec = record { used = used; pixels = rec .pixels + taken } }) ks′ ws′
       meets-done l =
-          answered 0 (outcome-done whole b (rw (← t .taken-is) (le-ltb taken (length (stripKeys s)) (omega (arith, count-is)))))
+          answered 0 (outcome-done whole b
+          (rw (← t .taken-is) (le-ltb taken (length (stripKeys s)) (omega (arith, count-is)))))

@@ -1,4 +1,5 @@
--- Adding two strips one after the other is adding them joined; an empty strip changes nothing; a table is determined by the
+-- Adding two strips one after the other is adding them joined; an empty strip changes nothing; a table is determined by
+-- the
 -- weights of its colours.
 use mathlib.Core.Path.{_≡_, refl, sym, ap, ap₂, _∙_}
 use mathlib.Core.Bool.{true, false, not}
@@ -137,7 +138,8 @@ module _ (rec : Record) (ks ws s t : List ℕ) (bytes : Bytes s) (a : Accepted r
       = entries-length (rec .used) ks ws (omega (arith, g .in-room)) (omega (arith, g .in-room)) in
       let m : pixelsOf es ≡ rec .pixels = ap (λ (r : Record). r .pixels) (g .is) in
       rw (taken-all (roomOf ks ws) es (stripKeys s) (omega (arith, all-taken rec ks ws s a)))
-      at (taken-fits (roomOf ks ws) es (byte-keys s bytes) (g .sounds) (omega (arith, g .in-room)) (omega (arith, g .most)) .0)
+      at (taken-fits (roomOf ks ws) es (byte-keys s bytes) (g .sounds) (omega (arith, g .in-room))
+      (omega (arith, g .most)) .0)
 
   -- so the room is the same for the second
   same-room : roomOf (keysInto P ks) (weightsInto P ws) ≡ roomOf ks ws
@@ -161,7 +163,8 @@ module _ (rec : Record) (ks ws s t : List ℕ) (bytes : Bytes s) (a : Accepted r
     joined-taken : takenOf (roomOf ks ws) es (stripKeys (s ++ t)) ≡ length (stripKeys (s ++ t))
     joined-taken =
         rw (joined-keys, length-append)
-        (taken-append (roomOf ks ws) es (stripKeys s) (stripKeys t) (all-taken rec ks ws s a) ∙ omega (arith, second-taken))
+        (taken-append (roomOf ks ws) es (stripKeys s) (stripKeys t) (all-taken rec ks ws s a)
+        ∙ omega (arith, second-taken))
 
     joined-accepted : Accepted rec ks ws (s ++ t)
     joined-accepted = record {

@@ -1,4 +1,5 @@
--- What adding a strip means: when each refusal is given, what an accepted add does to the weights, that a good table stays
+-- What adding a strip means: when each refusal is given, what an accepted add does to the weights, that a good table
+-- stays
 -- good, that FULL keeps the longest prefix, and that two strips are the strips joined.
 use mathlib.Core.Path.{_≡_, refl, sym, ap, _∙_}
 use mathlib.Core.Bool.{true, false, not}
@@ -132,7 +133,11 @@ module _ (rec : Record) (ks ws s : List ℕ) where
   -- all pixels are taken
   pub all-taken : Accepted rec ks ws s → takenOf (roomOf ks ws) es ps ≡ length ps
   all-taken a =
-      omega (arith, taken-at-most (roomOf ks ws) es ps, ltb-false (takenOf (roomOf ks ws) es ps) (length ps) (a .room-left))
+      omega (
+        arith,
+        taken-at-most (roomOf ks ws) es ps,
+        ltb-false (takenOf (roomOf ks ws) es ps) (length ps) (a .room-left),
+      )
 
   -- the table is that of all pixels
   pub after-accepted : Accepted rec ks ws s → tableAfter (addStrip rec ks ws s) ≡ putAll es ps
@@ -140,7 +145,8 @@ module _ (rec : Record) (ks ws s : List ℕ) where
 
   -- each colour's weight is its former weight and the number of its pixels in the strip
   pub accepted-weights : addStrip rec ks ws s .answer .refusal ≡ done → (c : ℕ)
-      → weightOf c (tableAfter (addStrip rec ks ws s)) ≡ weightOf c (entries (rec .used) ks ws) + countOf c (stripKeys s)
+      → weightOf c (tableAfter (addStrip rec ks ws s)) ≡ weightOf c (entries (rec .used) ks ws) + countOf c
+      (stripKeys s)
   accepted-weights h c =
       ap (weightOf c) (after-accepted (accepted-of-done rec ks ws s h)) ∙ putAll-weight c es ps
 
@@ -156,9 +162,11 @@ module _ (rec : Record) (ks ws s : List ℕ) where
       = entries-length (rec .used) ks ws (omega (arith, g .in-room)) (omega (arith, g .in-room)) in
       let m : pixelsOf es ≡ rec .pixels = ap (λ (r : Record). r .pixels) (g .is) in
       let f : (length F ≤ roomOf ks ws) × (pixelsOf F ≤ mostPixels)
-      = taken-fits (roomOf ks ws) es (byte-keys s bytes) (g .sounds) (omega (arith, g .in-room)) (omega (arith, g .most)) in
+      = taken-fits (roomOf ks ws) es (byte-keys s bytes) (g .sounds) (omega (arith, g .in-room))
+      (omega (arith, g .most)) in
       let lk : length (keysInto F ks) ≡ length ks = laid-length (λ (e : Entry). e .key) F ks (omega (arith, f .0)) in
-      let lw : length (weightsInto F ws) ≡ length ws = laid-length (λ (e : Entry). e .weight) F ws (omega (arith, f .0)) in
+      let lw : length (weightsInto F ws) ≡ length ws = laid-length (λ (e : Entry). e .weight) F ws (omega (arith, f .0))
+      in
       let read : entries (length F) (keysInto F ks) (weightsInto F ws) ≡ F = entries-laid F _ _ in
       record {
         in-room = rw (lk, lw) (f .0);
@@ -194,7 +202,8 @@ module _ (rec : Record) (ks ws s : List ℕ) where
       ↔ ((takenOf (roomOf ks ws) es ps < length ps)
       × (stops (roomOf ks ws) (withTaken (roomOf ks ws) es ps) (getD ps (takenOf (roomOf ks ws) es ps) 0) ≡ true))
   full-exactly = (
-    (λ h. let l : takenOf (roomOf ks ws) es ps < length ps = ltb-true _ _ h in (l, taken-prefix (roomOf ks ws) es ps .ends l)),
+    (λ h. let l : takenOf (roomOf ks ws) es ps < length ps = ltb-true _ _ h in
+        (l, taken-prefix (roomOf ks ws) es ps .ends l)),
     (λ h. lt-ltb _ _ (h .0)),
   )
 

@@ -1,9 +1,10 @@
 // The colour table: every colour of a sheet once, by rising key, with its weight in pixels.
 //
 // Calls; none requires anything of its caller
-//   add_strip   takes a strip's pixels in order.   Refuses 1 BAD STRIP, 2 BAD TABLE, 3 FULL, in this order.
-//   bad_table   the test behind BAD TABLE.         Refuses nothing.
-//   room_of     the room of two lent slices.       Refuses nothing.
+//   add_strip   takes a strip's pixels in order.
+//               Refuses 1 BAD STRIP, 2 BAD TABLE, 3 FULL, in this order.
+//   bad_table   the test behind BAD TABLE. Refuses nothing.
+//   room_of     the room of two lent slices. Refuses nothing.
 // A refusal hands the record back and writes nothing; FULL keeps the pixels taken before it.
 //
 // Files: test.rt (the test), take.rt (taking pixels, one by one or in chunks).
@@ -33,7 +34,7 @@ pub struct Record {
     pub pixels: u64,
 }
 
-// The answer of an add: 0, or the number of the refusal; the pixels taken; the record as it is then.
+// The answer of an add: 0 or the refusal's number; the pixels taken; the record as it is then.
 pub struct Added {
     pub refusal: u8,
     pub taken: usize,
@@ -51,7 +52,8 @@ fn refused(number: u8, rec: Record) -> Added
     }
 }
 
-// Adds the pixels of a strip of R, G, B bytes to the table in `keys` and `weights`, from first to last.
+// Adds the pixels of a strip of R, G, B bytes, from first to last, to the table in `keys` and
+// `weights`.
 // Refuses, in this order:
 //   1 BAD STRIP   the strip's bytes are not a multiple of 3;
 //   2 BAD TABLE   the record and the used entries are no table (see bad_table);
@@ -59,7 +61,8 @@ fn refused(number: u8, rec: Record) -> Added
 // 1 and 2 hand the record back and leave both slices as they came. 3 answers the pixels taken, and
 // record and slices are those of these pixels. Places past the used entries keep their values.
 pub fn add_strip(rec: Record, keys: &mut [u32], weights: &mut [u32], strip: &[u8]) -> Added
-    ensures { λ r. ⌜ AddMeets rec (now (keys .entry)) (now (weights .entry)) (now (strip .entry)) r (now (keys .exit)) (now (weights .exit)) ⌝ }
+    ensures { λ r. ⌜ AddMeets rec (now (keys .entry)) (now (weights .entry)) (now (strip .entry)) r
+        (now (keys .exit)) (now (weights .exit)) ⌝ }
 {
     if strip.len() % 3 != 0 {
         return refused(BAD_STRIP, rec);

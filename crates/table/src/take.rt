@@ -41,7 +41,9 @@ fn take_few(
     end: usize,
 ) -> Took
     requires { ⌜ Able used room (now keys) (now weights) (now strip) end ⌝ }
-    ensures { λ r. ⌜ TookMeets room (entries used (now (keys .entry)) (now (weights .entry))) (take end (stripKeys (now (strip .entry)))) (now (keys .entry)) (now (weights .entry)) (r .used) (r .taken) (now (keys .exit)) (now (weights .exit)) ⌝ }
+    ensures { λ r. ⌜ TookMeets room (entries used (now (keys .entry)) (now (weights .entry)))
+        (take end (stripKeys (now (strip .entry)))) (now (keys .entry)) (now (weights .entry))
+        (r .used) (r .taken) (now (keys .exit)) (now (weights .exit)) ⌝ }
 {
     let mut now_used = used;
     let mut taken = 0;
@@ -74,7 +76,9 @@ fn take_many(
     end: usize,
 ) -> Took
     requires { ⌜ Able used room (now keys) (now weights) (now strip) end ⌝ }
-    ensures { λ r. ⌜ TookMeets room (entries used (now (keys .entry)) (now (weights .entry))) (take end (stripKeys (now (strip .entry)))) (now (keys .entry)) (now (weights .entry)) (r .used) (r .taken) (now (keys .exit)) (now (weights .exit)) ⌝ }
+    ensures { λ r. ⌜ TookMeets room (entries used (now (keys .entry)) (now (weights .entry)))
+        (take end (stripKeys (now (strip .entry)))) (now (keys .entry)) (now (weights .entry))
+        (r .used) (r .taken) (now (keys .exit)) (now (weights .exit)) ⌝ }
 {
     let mut now_used = used;
     let mut taken = 0;
@@ -116,9 +120,12 @@ pub fn take_strip(
     count: usize,
 ) -> Took
     requires { ⌜ Standing used room (now keys) (now weights) ⌝ }
-    requires { ⌜ (pixelsOf (entries used (now keys) (now weights)) ≡ before) × (before ≤ mostPixels) ⌝ }
+    requires { ⌜ (pixelsOf (entries used (now keys) (now weights)) ≡ before)
+        × (before ≤ mostPixels) ⌝ }
     requires { ⌜ length (now strip) ≡ 3 * count ⌝ }
-    ensures { λ r. ⌜ TookMeets room (entries used (now (keys .entry)) (now (weights .entry))) (stripKeys (now (strip .entry))) (now (keys .entry)) (now (weights .entry)) (r .used) (r .taken) (now (keys .exit)) (now (weights .exit)) ⌝ }
+    ensures { λ r. ⌜ TookMeets room (entries used (now (keys .entry)) (now (weights .entry)))
+        (stripKeys (now (strip .entry))) (now (keys .entry)) (now (weights .entry))
+        (r .used) (r .taken) (now (keys .exit)) (now (weights .exit)) ⌝ }
 {
     let space = (MOST_PIXELS - before) as usize;
     let end = smaller(count, space);

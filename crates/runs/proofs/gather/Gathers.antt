@@ -82,7 +82,8 @@ pub record Gathering (s : List ℕ) (from most : ℕ) (R₀ R : List ℕ) (run l
   pub room : len < length R
   pub keeps : length R ≡ length R₀
   pub small : run < 4294967296
-  pub sums : (c : ℕ) → sumOf (runCount c) (take len R) + runCount c run ≡ countOf c (take done (drop from (stripKeys s)))
+  pub sums : (c : ℕ) → sumOf (runCount c) (take len R) + runCount c run ≡ countOf c
+      (take done (drop from (stripKeys s)))
 
 -- the first pixel
 pub gather-start : (s : List ℕ) (from most : ℕ) (R : List ℕ) (k : ℕ) → 0 < most → 3 * (from + most) ≤ length s
@@ -99,7 +100,8 @@ gather-start s from most R k a b d e h = record {
       omega (arith, run-new c k h, rw (z, ← e) at (chunk-more c from 0 s (omega arith)));
 }
 
-module _ {s : List ℕ} {from most : ℕ} {R₀ R : List ℕ} {run len done : ℕ} (g : Gathering s from most R₀ R run len done) where
+module _ {s : List ℕ} {from most : ℕ} {R₀ R : List ℕ} {run len done : ℕ}
+    (g : Gathering s from most R₀ R run len done) where
   -- with the run at hand laid, the list holds all pixels passed
   pub gather-done : (c : ℕ)
       → sumOf (runCount c) (take (len + 1) (set R len run)) ≡ countOf c (take done (drop from (stripKeys s)))

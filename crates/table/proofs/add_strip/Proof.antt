@@ -53,7 +53,8 @@ abbrev tested : tie.After-take-strip → tie.After-bad-table
 tested c = roomed c .before .before
 
 took : (c : tie.After-take-strip)
-    → TookMeets (roomOf (ks (tested c)) (ws (tested c))) (entries (rec′ (tested c) .used) (ks (tested c)) (ws (tested c)))
+    → TookMeets (roomOf (ks (tested c)) (ws (tested c)))
+    (entries (rec′ (tested c) .used) (ks (tested c)) (ws (tested c)))
     (stripKeys (s (tested c))) (ks (tested c)) (ws (tested c)) (c .take-strip .result .used)
     (c .take-strip .result .taken) (c .take-strip .last .0) (c .take-strip .last .1 .0)
 took c = rw (room-is (roomed c)) at (c .take-strip .ensures)

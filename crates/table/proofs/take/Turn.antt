@@ -143,7 +143,8 @@ module _ {ks₀ ws₀ : List ℕ} {used room : ℕ} {ps ks ws : List ℕ} {now t
 
         all-taken : takenOf room (entries now ks ws) (take p (drop taken ps)) ≡ length (take p (drop taken ps))
         all-taken =
-            fits-taken room (entries now ks ws) keys (t .table .sounds) (omega (arith, un, h)) (omega (arith, pixels-F, m))
+            fits-taken room (entries now ks ws) keys (t .table .sounds) (omega (arith, un, h))
+            (omega (arith, pixels-F, m))
 
         grows : now ≤ now′
         grows = omega (arith, putAll-length (entries now ks ws) (take p (drop taken ps)), length-E, un)
@@ -167,7 +168,8 @@ module _ {ks₀ ws₀ : List ℕ} {used room : ℕ} {ps ks ws : List ℕ} {now t
             length-C,
           ));
           table-is = rw read
-              (sym (withTaken-append room (entries now ks ws) C (drop (taken + p) ps) all-taken) ∙ (rw parts at (t .table-is)));
+              (sym (withTaken-append room (entries now ks ws) C (drop (taken + p) ps) all-taken)
+              ∙ (rw parts at (t .table-is)));
           keys-kept = rw (un, keys-laid) (laid-kept (λ (e : Entry). e .key) F ks)
               ∙ drop-later now now′ ks ks₀ grows (t .keys-kept);
           weights-kept = rw (un, weights-laid) (laid-kept (λ (e : Entry). e .weight) F ws)

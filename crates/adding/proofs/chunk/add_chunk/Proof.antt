@@ -17,18 +17,25 @@ use Rattle.adding.proofs.chunk.Listing.{Listed, list-rises, list-all, p
 use Rattle.adding.proofs.chunk.add_chunk.Statement.{statement}
 use Rattle.adding.proofs.chunk.add_chunk.Tie as tie
 
--- with the runs sorted: the entry, the two lists, the table and the pixels
-abbrev st : tie.After-count-with-arg2 → tie.Start
-st c = c .before .before .before .before .before .before .before .before .before .before .before .before .before .before .before .before .before .before
+-- with the runs sorted: what `sort_runs` left, what `gather` left, the bytes of the strip, the entry
+abbrev sorted′ : tie.After-count-with-arg2 → tie.After-sort-runs
+sorted′ c = c .before .before .before .before .before .before
 
 abbrev got : tie.After-count-with-arg2 → tie.After-gather
-got c = c .before .before .before .before .before .before .before .before .before .before .before
+got c = sorted′ c .before .before .before .before .before
 
+abbrev known : tie.After-count-with-arg2 → tie.After-shared-slice-known
+known c = got c .before .before .before .before
+
+abbrev st : tie.After-count-with-arg2 → tie.Start
+st c = known c .before .before .before
+
+-- the list, the table and the table with the pixels
 abbrev len : tie.After-count-with-arg2 → ℕ
 len c = got c .gather .result .len
 
 abbrev list : tie.After-count-with-arg2 → List ℕ
-list c = c .before .before .before .before .before .before .sort-runs .last .0
+list c = sorted′ c .sort-runs .last .0
 
 abbrev T : tie.After-count-with-arg2 → List Entry
 T c = entries (st c .args .used) (now (st c .args .keys)) (now (st c .args .weights))
@@ -36,13 +43,19 @@ T c = entries (st c .args .used) (now (st c .args .keys)) (now (st c .args .weig
 abbrev F : tie.After-count-with-arg2 → List Entry
 F c = putAll (T c) (piece (now (st c .args .strip)) (st c .args .from) (got c .gather .result .pixels))
 
-listed : (c : tie.After-count-with-arg2) → Listed (now (st c .args .strip)) (st c .args .from) (got c .gather .result .pixels) (len c) (got c .gather .last .1 .1 .1 .0) (list c)
+listed : (c : tie.After-count-with-arg2) → Listed (now (st c .args .strip)) (st c .args .from)
+    (got c .gather .result .pixels) (len c) (got c .gather .last .1 .1 .1 .0) (list c)
 listed c = record {
-  bytes = λ i. omega (arith, c .before .before .before .before .before .before .before .before .before .before .before .before .before .before .before .shared-slice-known .given i);
+  bytes = λ i. omega (arith, known c .shared-slice-known .given i);
   sums = got c .gather .ensures .1;
-  sorts = c .before .before .before .before .before .before .sort-runs .ensures;
+  sorts = sorted′ c .sort-runs .ensures;
   room = omega (arith, got c .gather .ensures .0 .2, got c .gather .kept .1 .1 .1 .0);
-  room′ = omega (arith, got c .gather .ensures .0 .2, got c .gather .kept .1 .1 .1 .0, c .before .before .before .before .before .before .sort-runs .kept .0);
+  room′ = omega (
+    arith,
+    got c .gather .ensures .0 .2,
+    got c .gather .kept .1 .1 .1 .0,
+    sorted′ c .sort-runs .kept .0,
+  );
 }
 
 in-keys : (c : tie.After-count-with-arg2) → st c .args .used ≤ length (now (st c .args .keys))
@@ -51,13 +64,16 @@ in-keys c = omega (arith, st c .pre .0 .table .in-room, st c .pre .0 .table .key
 in-weights : (c : tie.After-count-with-arg2) → st c .args .used ≤ length (now (st c .args .weights))
 in-weights c = omega (arith, st c .pre .0 .table .in-room, st c .pre .0 .table .weights-room)
 
-keys-rise : (c : tie.After-count-with-arg2) → (p q : ℕ) → p ≤ q → q < st c .args .used → getD (now (st c .args .keys)) p 0 ≤ getD (now (st c .args .keys)) q 0
-keys-rise c = keys-in-order (st c .args .used) (now (st c .args .keys)) (now (st c .args .weights)) (in-keys c) (in-weights c) (st c .pre .0 .table .sounds)
+keys-rise : (c : tie.After-count-with-arg2) → (p q : ℕ) → p ≤ q → q < st c .args .used
+    → getD (now (st c .args .keys)) p 0 ≤ getD (now (st c .args .keys)) q 0
+keys-rise c = keys-in-order (st c .args .used) (now (st c .args .keys)) (now (st c .args .weights)) (in-keys c)
+    (in-weights c) (st c .pre .0 .table .sounds)
 
 all : (c : tie.After-count-with-arg2) → giveBack (take (len c) (list c)) (T c) ≡ F c
 all c = list-all (listed c) (T c) (st c .pre .0 .table .sounds)
 
-given : (c : tie.After-count-with) → c .count-with .result ≡ length (giveBack (take (len (c .before)) (list (c .before))) (T (c .before)))
+given : (c : tie.After-count-with) → c .count-with .result ≡ length
+    (giveBack (take (len (c .before)) (list (c .before))) (T (c .before)))
 given c = c .count-with .ensures (now (st (c .before) .args .weights)) (in-weights (c .before))
 
 used-is : (c : tie.After-count-with) → c .count-with .result ≡ length (F (c .before))
@@ -70,8 +86,10 @@ sort-runs-requires : tie.Need-sort-runs-requires
 sort-runs-requires c κs = search needs
 
 count-with-requires : tie.Need-count-with-requires
-count-with-requires c κs =
-    ((in-keys c, listed c .room′, omega (arith, got c .gather .ensures .0 .2, st c .pre .1)), (keys-rise c, list-rises (listed c)))
+count-with-requires c κs = (
+  (in-keys c, listed c .room′, omega (arith, got c .gather .ensures .0 .2, st c .pre .1)),
+  (keys-rise c, list-rises (listed c)),
+)
 
 same-length : tie.Need-same-length
 same-length c = search needs
@@ -92,7 +110,8 @@ returns c =
       within = got l .gather .ensures .0 .1;
       used-is = used-is n;
       keys-are = shut (now (s .args .keys)) (keysInto (F l) (now (s .args .keys))) (used-is n) (c .if1 .taken);
-      weights-are = shut (now (s .args .weights)) (weightsInto (F l) (now (s .args .weights))) (used-is n) (c .if1 .taken);
+      weights-are = shut (now (s .args .weights)) (weightsInto (F l) (now (s .args .weights))) (used-is n)
+          (c .if1 .taken);
     }
 
 merge-requires : tie.Need-merge-requires
@@ -102,7 +121,8 @@ merge-requires c κs =
     let s = st l in
     let t = s .pre .0 .table in
     let r : n .count-with .result ≤ s .args .room = c .before .before .before .if1 .left in
-    let len-T = entries-length (s .args .used) (now (s .args .keys)) (now (s .args .weights)) (in-keys l) (in-weights l) in
+    let len-T = entries-length (s .args .used) (now (s .args .keys)) (now (s .args .weights)) (in-keys l)
+    (in-weights l) in
     let small = piece-pixels (T l) (now (s .args .strip)) (s .args .from) (got l .gather .result .pixels) in (
       (
         omega (arith, given n, back-length-le (take (len l) (list l)) (T l), len-T),
@@ -112,7 +132,10 @@ merge-requires c κs =
       ),
       (
         keys-rise l,
-        (list-rises (listed l), (given n, rw (all l) (omega (arith, s .pre .0 .total, small, got l .gather .ensures .0)))),
+        (
+          list-rises (listed l),
+          (given n, rw (all l) (omega (arith, s .pre .0 .total, small, got l .gather .ensures .0))),
+        ),
       ),
     )
 

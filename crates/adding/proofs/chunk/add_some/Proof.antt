@@ -37,8 +37,10 @@ slice-aggregate-add-chunk-2 : tie.Need-slice-aggregate-add-chunk-2
 slice-aggregate-add-chunk-2 c = search needs
 
 add-chunk-requires : tie.Need-add-chunk-requires
-add-chunk-requires c κs =
-    (c .before .before .before .before .before .before .before .before .before .pre, (omega arith, omega arith, omega arith))
+add-chunk-requires c κs = (
+  c .before .before .before .before .before .before .before .before .before .pre,
+  (omega arith, omega arith, omega arith),
+)
 
 same-length-3 : tie.Need-same-length-3
 same-length-3 c = search needs
@@ -56,8 +58,10 @@ slice-aggregate-add-chunk-4 : tie.Need-slice-aggregate-add-chunk-4
 slice-aggregate-add-chunk-4 c = search needs
 
 add-chunk-requires-2 : tie.Need-add-chunk-requires-2
-add-chunk-requires-2 c κs =
-    (c .before .before .before .before .before .before .before .before .before .pre, (omega arith, omega arith, omega arith))
+add-chunk-requires-2 c κs = (
+  c .before .before .before .before .before .before .before .before .before .pre,
+  (omega arith, omega arith, omega arith),
+)
 
 same-length-5 : tie.Need-same-length-5
 same-length-5 c = search needs

@@ -1,4 +1,12 @@
-use Rattle.runs.proofs.gather.Gathers.{Gathering, Joins, does-join, gather-start, gather-join, gather-begin, gather-done}
+use Rattle.runs.proofs.gather.Gathers.{
+  Gathering,
+  Joins,
+  does-join,
+  gather-start,
+  gather-join,
+  gather-begin,
+  gather-done,
+}
 use denote.Ref.{now}
 use lib.ListN.{length, length-set}
 use mathlib.Core.List.{List}
@@ -40,7 +48,9 @@ joint : (c : tie.Then1 Inv-loop μ-loop) → Joins (lp (c .before) .loop .run) (
 joint c = does-join _ _ (sym (c .before .joins .ensures) ∙ c .if1 .taken)
 
 loop-holds : tie.Need-loop-holds Inv-loop μ-loop
-loop-holds c = let s = c .before .before .before in gather-start (now (s .args .strip)) (s .args .from) (s .args .most) (now (s .args .list)) (c .key-at .result) (s .pre .0) (s .pre .1) (s .pre .2) (c .key-at .ensures .0) (c .key-at .ensures .1)
+loop-holds c = let s = c .before .before .before in gather-start (now (s .args .strip)) (s .args .from) (s .args .most)
+    (now (s .args .list)) (c .key-at .result) (s .pre .0) (s .pre .1) (s .pre .2) (c .key-at .ensures .0)
+    (c .key-at .ensures .1)
 
 add-key-at : tie.Need-add-key-at Inv-loop μ-loop
 add-key-at c = omega (arith, c .before .loop .inv, c .loop-test .taken)
@@ -64,7 +74,8 @@ loop-less : tie.Need-loop-less Inv-loop μ-loop
 loop-less c = omega (arith, inside (c .before))
 
 loop-again : tie.Need-loop-again Inv-loop μ-loop
-loop-again c = let j = c .before in gather-join (lp j .loop .inv) (inside j) (j .before .key-at2 .result) (j .before .key-at2 .ensures .0) (joint c)
+loop-again c = let j = c .before in gather-join (lp j .loop .inv) (inside j) (j .before .key-at2 .result)
+    (j .before .key-at2 .ensures .0) (joint c)
 
 mul-list : tie.Need-mul-list Inv-loop μ-loop
 mul-list c = omega (arith, lp (c .before) .loop .inv .room)
@@ -93,7 +104,9 @@ loop-less-2 : tie.Need-loop-less-2 Inv-loop μ-loop
 loop-less-2 c = omega (arith, inside (c .before .before))
 
 loop-again-2 : tie.Need-loop-again-2 Inv-loop μ-loop
-loop-again-2 c = let j = c .before .before in let n = c .if2 .left in gather-begin (lp j .loop .inv) (inside j) (j .before .key-at2 .result) (j .before .key-at2 .ensures .0) (omega (arith, lp j .loop .inv .room, simp length-set at n)) (j .before .key-at2 .ensures .1)
+loop-again-2 c = let j = c .before .before in let n = c .if2 .left in gather-begin (lp j .loop .inv) (inside j)
+    (j .before .key-at2 .result) (j .before .key-at2 .ensures .0)
+    (omega (arith, lp j .loop .inv .room, simp length-set at n)) (j .before .key-at2 .ensures .1)
 
 mul-list-2 : tie.Need-mul-list-2 Inv-loop μ-loop
 mul-list-2 c = omega (arith, c .before .loop .inv .room)

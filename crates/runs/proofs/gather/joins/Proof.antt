@@ -12,7 +12,8 @@ returns : tie.Need-returns
 returns c = simp (eq-eqb _ _ (sym (c .before .run-key .ensures .0) ∙ c .if1 .taken))
 
 returns-2 : tie.Need-returns-2
-returns-2 c = simp (ne-eqb (runKey (c .before .before .args .run)) (c .before .before .args .key) (λ q. c .if1 .left (c .before .run-key .ensures .0 ∙ q)))
+returns-2 c = simp (ne-eqb (runKey (c .before .before .args .run)) (c .before .before .args .key)
+    (λ q. c .if1 .left (c .before .run-key .ensures .0 ∙ q)))
 
 pub joins-spec : {M : Type 1} → statement M
 joins-spec = tie.close (tie.spec run-key-requires returns returns-2)
