@@ -33,6 +33,7 @@ piece s from n = take n (drop from (stripKeys s))
 abbrev pub laidKeys : ℕ → List Entry → List ℕ → List ℕ
 laidKeys room es ks = cond (leb (length es) room) (keysInto es ks) ks
 
+-- the same for the weights
 abbrev pub laidWeights : ℕ → List Entry → List ℕ → List ℕ
 laidWeights room es ws = cond (leb (length es) room) (weightsInto es ws) ws
 

@@ -1,7 +1,7 @@
 -- Laws of pixels added to a table: its length, its pixel total, the weight of each colour, and that it stays sound.
 -- Those of `give` hold for one pixel (`put`) as they stand, at w = 1.
-use mathlib.Core.Path.{_≡_, refl, ap}
-use mathlib.Core.Bool.{true, false, cond}
+use mathlib.Core.Path.{_≡_, refl}
+use mathlib.Core.Bool.{true, cond}
 use mathlib.Core.Logic.{inl, inr}
 use mathlib.Core.List.{List, [], _∷_, _++_}
 use Prim.Native.Nat.{ℕ, zero, suc, _+_, _≤_, _<_}
@@ -9,7 +9,7 @@ use native.Mathlib.Omega.{arith}
 use native.Mathlib.Nat.{zero-add}
 use lib.ListN.{length, take}
 use lib.Dec.{eqb}
-use borrow.Author.Tests.{eq-eqb, ne-eqb}
+use borrow.Author.Tests.{ne-eqb}
 use Rattle.number.proofs.Cases.{cmp, lt, eq, gt, bool}
 use Rattle.colour.specs.Key.{mostKey}
 use Rattle.entries.specs.Content.{Entry, entry, pixelsOf, weightOf, sound}
@@ -103,6 +103,7 @@ pub data Keys : List ℕ → Type 0 where
   none : Keys []
   more : {k : ℕ} {ps : List ℕ} → k ≤ mostKey → Keys ps → Keys (k ∷ ps)
 
+-- keys stay keys in a prefix
 pub keys-take : (n : ℕ) {ps : List ℕ} → Keys ps → Keys (take n ps)
 keys-take zero k = none
 keys-take (suc n) none = none

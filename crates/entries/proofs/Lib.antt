@@ -12,3 +12,5 @@ pub mod Strips
 pub mod Takes
 -- Sound entries, place by place.
 pub mod Rows
+-- What a reader may ask for: each theorem in full, with the proof it cites.
+pub mod Promises

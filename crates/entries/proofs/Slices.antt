@@ -49,6 +49,7 @@ entries-drop-suc zero (suc n) (k ∷ ks) (w ∷ ws) h a b = refl
 entries-drop-suc (suc i) (suc n) (k ∷ ks) (w ∷ ws) h a b =
     entries-drop-suc i n ks ws (le-of-suc-le-suc h) (le-of-suc-le-suc a) (le-of-suc-le-suc b)
 
+-- the same, counted by + 1
 pub entries-drop : (i n : ℕ) (ks ws : List ℕ) → i < n → n ≤ length ks → n ≤ length ws
     → drop i (entries n ks ws) ≡ entry (getD ks i 0) (getD ws i 0) ∷ drop (i + 1) (entries n ks ws)
 entries-drop i n ks ws h a b = rw add-one (entries-drop-suc i n ks ws h a b)

@@ -1,7 +1,7 @@
 -- Laws of the pixels that are taken: which pixel stops, that those taken are the longest prefix that goes in, that the
 -- table with them stays within its limits, and that lists of pixels join.
-use mathlib.Core.Path.{_≡_, refl, sym, ap, _∙_}
-use mathlib.Core.Bool.{true, false, cond, or-true}
+use mathlib.Core.Path.{_≡_, refl, ap, _∙_}
+use mathlib.Core.Bool.{true, false, or-true}
 use mathlib.Core.Logic.{inl, inr}
 use mathlib.Core.List.{List, [], _∷_, _++_}
 use Prim.Native.Nat.{ℕ, zero, suc, _+_, _≤_, _<_}
@@ -10,7 +10,7 @@ use native.Mathlib.Nat.{le-of-suc-le-suc, not-suc-le-zero, suc-inj}
 use lib.ListN.{length, getD, take, length-take}
 use lib.Seq.{length-take-le, take-all, take-take, take-append-add}
 use lib.Dec.{leb, eqb}
-use borrow.Author.Tests.{le-leb, lt-leb, leb-true, leb-false}
+use borrow.Author.Tests.{le-leb, lt-leb, leb-false}
 use Rattle.number.proofs.Cases.{bool, never}
 use Rattle.entries.specs.Content.{Entry, pixelsOf, weightOf, sound}
 use Rattle.colour.specs.Points.{mostPixels}
@@ -19,7 +19,6 @@ use Rattle.entries.proofs.Gives.{
   Keys,
   none,
   more,
-  give-length,
   give-length-is,
   give-pixels,
   give-sound,
@@ -164,6 +163,7 @@ pub record Prefix (room : ℕ) (es : List Entry) (ps : List ℕ) (n : ℕ) : Typ
   pub goes : (i : ℕ) → i < n → stops room (putAll es (take i ps)) (getD ps i 0) ≡ false
   pub ends : n < length ps → stops room (putAll es (take n ps)) (getD ps n 0) ≡ true
 
+-- those taken are such a prefix
 pub taken-prefix : (room : ℕ) (es : List Entry) (ps : List ℕ) → Prefix room es ps (takenOf room es ps)
 taken-prefix room es [] = record {
   within = omega arith;

@@ -13,12 +13,15 @@ pub record Entry : Type 0 where
   pub key : ℕ
   pub weight : ℕ
 
+-- the entry with this key and this weight
 abbrev pub entry : ℕ → ℕ → Entry
 entry k w = record { key = k; weight = w }
 
+-- the keys of a table, from first to last
 abbrev pub keysOf : List Entry → List ℕ
 keysOf = map (λ (e : Entry). e .key)
 
+-- and their weights
 abbrev pub weightsOf : List Entry → List ℕ
 weightsOf = map (λ (e : Entry). e .weight)
 

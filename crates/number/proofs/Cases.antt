@@ -7,6 +7,7 @@ use native.Mathlib.Omega.{arith}
 use lib.Dec.{ltb, eqb}
 use borrow.Author.Tests.{ltb-true, ltb-false, eqb-true, eqb-false}
 
+-- a test holds or fails
 pub bool : (b : Bool) → (b ≡ true) ⊎ (b ≡ false)
 bool true = inl refl
 bool false = inr refl
@@ -21,6 +22,7 @@ pub data Cmp (x k : ℕ) : Type 0 where
   eq : x ≡ k → ltb x k ≡ false → eqb x k ≡ true → Cmp x k
   gt : k < x → ltb x k ≡ false → eqb x k ≡ false → Cmp x k
 
+-- one of the three holds
 pub cmp : (x k : ℕ) → Cmp x k
 cmp x k = elim (bool (ltb x k)) [
   | inl t ↦ lt (ltb-true x k t) t

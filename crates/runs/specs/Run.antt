@@ -1,6 +1,6 @@
 -- Runs of equal pixels as numbers: 256 * key + (pixels - 1), with 1 to 256 pixels.
 use Prim.Native.Nat.{ℕ, _+_, _/_, _%_}
-use mathlib.Core.Bool.{Bool, false, cond, _&&_}
+use mathlib.Core.Bool.{Bool, cond, _&&_}
 use lib.Dec.{ltb, eqb}
 use Rattle.colour.specs.Key.{mostKey}
 

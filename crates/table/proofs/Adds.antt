@@ -1,22 +1,21 @@
 -- Laws of the public call: what the outcome is on each way out of `add_strip`.
-use mathlib.Core.Path.{_≡_, refl, ap, sym, _∙_}
+use mathlib.Core.Path.{_≡_, ap}
 use mathlib.Core.Bool.{true, false, not}
 use mathlib.Core.List.{List}
-use Prim.Native.Nat.{ℕ, _+_, _*_, _/_, _%_, _≤_, _<_}
+use Prim.Native.Nat.{ℕ, _+_, _/_, _%_, _≤_, _<_}
 use native.Mathlib.Omega.{arith}
 use lib.ListN.{length}
-use lib.Dec.{ltb, eqb}
 use borrow.Author.Tests.{lt-ltb, le-ltb, eq-eqb, ne-eqb}
 use Rattle.refusal.specs.{numberOf, done, BAD-STRIP, BAD-TABLE, FULL}
-use Rattle.entries.specs.{entries, pixelsOf, stripKeys, takenOf, withTaken}
+use Rattle.entries.specs.{entries, pixelsOf, stripKeys, withTaken}
 use Rattle.entries.proofs.Strips.{strip-length}
 use Rattle.entries.proofs.Takes.{taken-at-most, taken-pixels}
-use Rattle.table.specs.Refusals.{roomOf, recordOf, badStrip, badTable, full, addRefusal}
+use Rattle.table.specs.Refusals.{roomOf, badStrip, badTable, full}
 use Rattle.table.specs.Outcomes.{refused, asItCame, withPixels, addStrip, AddMeets}
 use Rattle.table.specs.Taking.{TookMeets}
 use Rattle.table.specs.declared.Record.{Record}
 use Rattle.table.specs.declared.Added.{Added}
-use Rattle.table.proofs.Goods.{Good, good-of-test}
+use Rattle.table.proofs.Goods.{good-of-test}
 
 module _ (rec : Record) (ks ws s : List ℕ) where
   -- ---- what the outcome is, by the tests
@@ -55,6 +54,7 @@ module _ (rec : Record) (ks ws s : List ℕ) where
       record { answer = rw o e; keys = rw o; weights = rw o }
 
   module _ (h : length s % 3 ≡ 0) where
+    -- the strip is whole
     whole : badStrip s ≡ false
     whole = ap not (eq-eqb (length s % 3) 0 h)
 

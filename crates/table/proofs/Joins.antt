@@ -1,30 +1,18 @@
 -- Adding two strips one after the other is adding them joined; an empty strip changes nothing; a table is determined by
 -- the
 -- weights of its colours.
-use mathlib.Core.Path.{_≡_, refl, sym, ap, ap₂, _∙_}
-use mathlib.Core.Bool.{true, false, not}
+use mathlib.Core.Path.{_≡_, refl, sym, ap, _∙_}
+use mathlib.Core.Bool.{false, not}
 use mathlib.Core.Logic.{inl, inr}
 use mathlib.Core.List.{List, [], _++_, map}
-use Prim.Native.Nat.{ℕ, _+_, _*_, _/_, _%_, min, _≤_, _<_}
+use Prim.Native.Nat.{ℕ, _+_, _/_, _%_, _≤_}
 use native.Mathlib.Omega.{arith}
 use lib.ListN.{length, drop, length-append, take-append-drop}
-use lib.Dec.{ltb, eqb}
-use borrow.Author.Tests.{le-ltb, ltb-false, eq-eqb, eqb-true, eqb-false}
+use lib.Dec.{eqb}
+use borrow.Author.Tests.{le-ltb, eq-eqb, eqb-true}
 use Rattle.number.proofs.Cases.{bool, never}
 use Rattle.refusal.specs.{done}
-use Rattle.colour.specs.{mostPixels}
-use Rattle.entries.specs.{
-  Entry,
-  entries,
-  keysInto,
-  weightsInto,
-  pixelsOf,
-  weightOf,
-  stripKeys,
-  putAll,
-  takenOf,
-  withTaken,
-}
+use Rattle.entries.specs.{Entry, entries, keysInto, weightsInto, pixelsOf, weightOf, stripKeys, putAll, takenOf}
 use Rattle.entries.proofs.Gives.{putAll-length, putAll-append}
 use Rattle.entries.proofs.Same.{same-table}
 use Rattle.entries.proofs.Slices.{
@@ -38,8 +26,8 @@ use Rattle.entries.proofs.Slices.{
 }
 use Rattle.entries.proofs.Strips.{byte-keys, strip-append}
 use Rattle.entries.proofs.Takes.{taken-all, taken-fits, taken-append}
-use Rattle.table.specs.Refusals.{roomOf, recordOf, badStrip, badTable, full}
-use Rattle.table.specs.Outcomes.{Outcome, asItCame, withPixels, addStrip}
+use Rattle.table.specs.Refusals.{roomOf, recordOf, badStrip, badTable}
+use Rattle.table.specs.Outcomes.{Outcome, asItCame, addStrip}
 use Rattle.table.specs.Goods.{GoodTable, Bytes}
 use Rattle.table.specs.declared.Record.{Record}
 use Rattle.table.proofs.Goods.{Good, good-of-test, good-of-table}
@@ -90,6 +78,7 @@ empty-strip rec ks ws b =
 
 -- ---- a table is determined by the weights of its colours
 
+-- two good tables with the same weights are one
 pub determined : (rec rec′ : Record) (ks ws ks′ ws′ : List ℕ) → GoodTable rec ks ws → GoodTable rec′ ks′ ws′
     → ((c : ℕ) → weightOf c (entries (rec .used) ks ws) ≡ weightOf c (entries (rec′ .used) ks′ ws′))
     → (entries (rec .used) ks ws ≡ entries (rec′ .used) ks′ ws′) × (rec ≡ rec′)
@@ -124,6 +113,7 @@ whole-append s t a b =
     ap not (eq-eqb (length (s ++ t) % 3) 0 (rw length-append (omega arith)))
 
 module _ (rec : Record) (ks ws s t : List ℕ) (bytes : Bytes s) (a : Accepted rec ks ws s) where
+  -- the table before, and with the first strip
   abbrev es : List Entry
   es = entries (rec .used) ks ws
 
@@ -156,6 +146,7 @@ module _ (rec : Record) (ks ws s t : List ℕ) (bytes : Bytes s) (a : Accepted r
         rw (same-room, entries-laid P (drop (length P) ks) (drop (length P) ws))
         at (all-taken (recordOf P) (keysInto P ks) (weightsInto P ws) t b)
 
+    -- the pixels of the strips joined are those of one and then of the other
     joined-keys : stripKeys (s ++ t) ≡ stripKeys s ++ stripKeys t
     joined-keys = strip-append (length s / 3) s t (omega (arith, whole-of s (a .whole)))
 
@@ -166,6 +157,7 @@ module _ (rec : Record) (ks ws s t : List ℕ) (bytes : Bytes s) (a : Accepted r
         (taken-append (roomOf ks ws) es (stripKeys s) (stripKeys t) (all-taken rec ks ws s a)
         ∙ omega (arith, second-taken))
 
+    -- so the strips joined are accepted
     joined-accepted : Accepted rec ks ws (s ++ t)
     joined-accepted = record {
       whole = whole-append s t (a .whole) (b .whole);

@@ -4,14 +4,13 @@
 use mathlib.Core.Path.{_≡_, refl, sym, ap, _∙_}
 use mathlib.Core.Bool.{true, false, not}
 use mathlib.Core.Logic.{_↔_, inl, inr}
-use mathlib.Core.List.{List, [], _∷_, _++_}
-use Prim.Native.Nat.{ℕ, _+_, _*_, _/_, _%_, min, _≤_, _<_}
+use mathlib.Core.List.{List}
+use Prim.Native.Nat.{ℕ, _+_, _%_, _≤_, _<_}
 use native.Mathlib.Omega.{arith}
-use lib.ListN.{length, getD, take, drop, length-append}
-use lib.Dec.{ltb}
+use lib.ListN.{length, getD, drop}
 use borrow.Author.Tests.{lt-ltb, ltb-true, ltb-false, eq-eqb, ne-eqb}
 use Rattle.number.proofs.Cases.{bool, never}
-use Rattle.refusal.specs.{Refusal, numberOf, done, Given, NoneHolds, BAD-STRIP, BAD-TABLE, FULL}
+use Rattle.refusal.specs.{Refusal, numberOf, done, Given, NoneHolds}
 use Rattle.refusal.proofs.Promises.{first-exactly, done-exactly}
 use Rattle.colour.specs.{mostPixels}
 use Rattle.entries.specs.{
@@ -28,25 +27,15 @@ use Rattle.entries.specs.{
   takenOf,
   withTaken,
 }
-use Rattle.entries.proofs.Gives.{Keys, keys-take, putAll-length, putAll-weight, putAll-sound}
-use Rattle.entries.proofs.Same.{same-table}
-use Rattle.entries.proofs.Slices.{entries-length, entries-laid, laid-length, laid-kept, drop-later}
-use Rattle.entries.proofs.Strips.{byte-keys, strip-append}
-use Rattle.entries.proofs.Takes.{
-  Prefix,
-  taken-prefix,
-  prefix-only,
-  taken-at-most,
-  taken-all,
-  taken-fits,
-  taken-append,
-  withTaken-append,
-}
+use Rattle.entries.proofs.Gives.{keys-take, putAll-weight, putAll-sound}
+use Rattle.entries.proofs.Slices.{entries-length, entries-laid, laid-length, laid-kept}
+use Rattle.entries.proofs.Strips.{byte-keys}
+use Rattle.entries.proofs.Takes.{Prefix, taken-prefix, prefix-only, taken-at-most, taken-all, taken-fits}
 use Rattle.table.specs.Refusals.{roomOf, recordOf, badStrip, badTable, full, addRows, addRefusal}
 use Rattle.table.specs.Outcomes.{Outcome, asItCame, withPixels, handsBack, addStrip, tableAfter}
 use Rattle.table.specs.Goods.{GoodTable, Bytes}
 use Rattle.table.specs.declared.Record.{Record}
-use Rattle.table.proofs.Goods.{Good, good-of-test, test-of-good, table-of-good, good-of-table}
+use Rattle.table.proofs.Goods.{Good, test-of-good, table-of-good, good-of-table}
 use Rattle.table.proofs.Adds.{outcome-bad-strip, outcome-bad-table, outcome-full, outcome-done}
 
 -- ---- when each refusal is given
@@ -60,10 +49,12 @@ module _ (rec : Record) (ks ws s : List ℕ) where
     | inr t ↦ simp t
   ]
 
+  -- each refusal is given exactly when its row is the first that holds
   pub refused-exactly : (n : Refusal)
       → (addStrip rec ks ws s .answer .refusal ≡ numberOf n) ↔ Given (addRows rec ks ws s) n
   refused-exactly n = rw refusal-is (first-exactly (addRows rec ks ws s) n)
 
+  -- and none exactly when no row holds
   pub accepted-exactly : (addStrip rec ks ws s .answer .refusal ≡ done) ↔ NoneHolds (addRows rec ks ws s)
   accepted-exactly = rw refusal-is (done-exactly (addRows rec ks ws s))
 
@@ -97,6 +88,7 @@ accepted-of-done rec ks ws s h =
     record { whole = none .0; good = none .1 .0; room-left = none .1 .1 .0 }
 
 module _ (rec : Record) (ks ws s : List ℕ) where
+  -- the room, the table before, the pixels of the strip
   abbrev room : ℕ
   room = roomOf ks ws
 

@@ -23,6 +23,8 @@ pub mod Outcomes
 pub mod Goods
 pub mod Taking
 pub mod Testing
+pub use declared.Record.{Record}
+pub use declared.Added.{Added}
 unfoldable pub use Refusals.{
   roomOf,
   recordOf,

@@ -57,6 +57,7 @@ pub laid-shut : (room n : ℕ) (F : List Entry) (cs ds : List ℕ) → n ≡ len
     → cs ≡ cond (leb (length F) room) ds cs
 laid-shut room n F cs ds e h = rw (← e, lt-leb n room h)
 
+-- and of one that does
 pub laid-open : (room n : ℕ) (F : List Entry) (cs ds : List ℕ) → n ≡ length F → n ≤ room
     → ds ≡ cond (leb (length F) room) ds cs
 laid-open room n F cs ds e h = rw (← e, le-leb n room h)

@@ -1,15 +1,15 @@
 -- Laws of the loop that gathers pixels as runs: at each turn the runs laid and the one at hand hold, colour by colour,
 -- the pixels passed.
-use mathlib.Core.Path.{_≡_, refl, sym, ap, _∙_}
-use mathlib.Core.Bool.{true, false, cond}
+use mathlib.Core.Path.{_≡_, refl, sym, _∙_}
+use mathlib.Core.Bool.{true, cond}
 use mathlib.Core.Logic.{inl, inr}
-use mathlib.Core.List.{List, [], _∷_, _++_}
-use Prim.Native.Nat.{ℕ, zero, suc, _+_, _*_, _%_, _≤_, _<_}
+use mathlib.Core.List.{List, [], _∷_}
+use Prim.Native.Nat.{ℕ, _+_, _*_, _%_, _≤_, _<_}
 use native.Mathlib.Omega.{arith}
 use native.Mathlib.Numerals.{add-one}
 use lib.ListN.{length, getD, take, drop, set, length-set, length-drop}
 use lib.Seq.{take-suc, take-suc-set, getD-drop}
-use lib.Dec.{ltb, eqb}
+use lib.Dec.{eqb}
 use borrow.Author.Tests.{ltb-true, eqb-true}
 use Rattle.number.specs.Sum.{sumOf}
 use Rattle.number.proofs.Cases.{bool, never}
@@ -56,6 +56,7 @@ pub record Joins (x k : ℕ) : Type 0 where
   pub same : runKey x ≡ k
   pub room : x % 256 < 255
 
+-- where it holds
 pub does-join : (x k : ℕ) → joined x k ≡ true → Joins x k
 does-join x k h = elim (bool (eqb (runKey x) k)) [
   | inl t ↦ record { same = eqb-true (runKey x) k t; room = ltb-true (x % 256) 255 (simp t at h) }
@@ -110,6 +111,7 @@ module _ {s : List ℕ} {from most : ℕ} {R₀ R : List ℕ} {run len done : �
       ∙ g .sums c
 
   module _ (l : done < most) (k : ℕ) (e : k ≡ keyAt s (3 * (from + done))) where
+    -- the next pixel counts for its colour
     next : (c : ℕ) → countOf c (take (done + 1) (drop from (stripKeys s)))
         ≡ countOf c (take done (drop from (stripKeys s))) + cond (eqb k c) 1 0
     next c = rw e (chunk-more c from done s (omega (arith, g .bytes)))

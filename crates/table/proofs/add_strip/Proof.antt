@@ -1,5 +1,5 @@
 -- `add_strip` meets its contract: each way out is a law of `Adds.antt`.
-use mathlib.Core.Path.{_≡_, refl, sym, ap, _∙_}
+use mathlib.Core.Path.{_≡_, sym, ap, _∙_}
 use mathlib.Core.Bool.{false}
 use mathlib.Core.List.{List}
 use Prim.Native.Nat.{ℕ, _%_, _/_, _≤_}

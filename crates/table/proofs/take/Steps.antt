@@ -2,9 +2,8 @@
 use mathlib.Core.Path.{_≡_, refl, sym, _∙_}
 use mathlib.Core.Logic.{inl, inr}
 use mathlib.Core.List.{List, [], _∷_}
-use Prim.Native.Nat.{ℕ, zero, suc, _+_, _*_, _≤_, _<_}
+use Prim.Native.Nat.{ℕ, zero, suc, _+_, _≤_, _<_}
 use native.Mathlib.Omega.{arith}
-use native.Mathlib.Nat.{not-suc-le-zero, le-of-suc-le-suc}
 use lib.ListN.{length, getD, take, drop}
 use lib.Seq.{length-take-le, take-take, take-all}
 use lib.Dec.{ltb}
@@ -50,6 +49,7 @@ steps-whole {room} {es} {ps} end h t = elim (bool (ltb end (length ps))) [
 
 module _ {ks₀ ws₀ s : List ℕ} {used room end : ℕ} (a : Able used room ks₀ ws₀ s end) {ks ws : List ℕ} {now taken : ℕ}
     (t : Taking ks₀ ws₀ used room (take end (stripKeys s)) ks ws now taken) where
+  -- the strip has that many pixels
   length-first : length (take end (stripKeys s)) ≡ end
   length-first = length-take-le end (stripKeys s) (strip-at-least end s (a .bytes))
 
@@ -70,6 +70,7 @@ module _ {ks₀ ws₀ s : List ℕ} {used room end : ℕ} (a : Able used room ks
   -- what a try left
   module _ {most next n : ℕ} {ks′ ws′ : List ℕ} (r : Tried now room ks ws s taken most next n ks′ ws′)
       (l : taken + n ≤ end) where
+    -- the pixels tried are a piece of those to be taken
     same : piece s taken n ≡ take n (drop taken (take end (stripKeys s)))
     same = piece-first n taken end (stripKeys s) l
 

@@ -1,28 +1,16 @@
 -- The loops that take pixels: what holds at each turn, of the pixels ps that are to be taken. A turn tries a piece of
 -- them; it goes in whole, or is tried again smaller, or is one pixel that does not go in.
 use mathlib.Core.Path.{_≡_, refl, sym, ap, _∙_}
-use mathlib.Core.Bool.{true, false, cond}
+use mathlib.Core.Bool.{true, false}
 use mathlib.Core.List.{List, [], _∷_, _++_}
-use Prim.Native.Nat.{ℕ, zero, suc, _+_, _-_, _≤_, _<_}
+use Prim.Native.Nat.{ℕ, _+_, _≤_, _<_}
 use native.Mathlib.Omega.{arith}
 use lib.ListN.{length, getD, take, drop, length-drop, take-append-drop, drop-of-length-le}
 use lib.Seq.{length-take-le, drop-drop, drop-cons}
 use lib.Dec.{leb}
 use borrow.Author.Tests.{le-leb, lt-leb}
 use Rattle.colour.specs.{mostPixels}
-use Rattle.entries.specs.{
-  Entry,
-  entries,
-  keysInto,
-  weightsInto,
-  pixelsOf,
-  sound,
-  put,
-  putAll,
-  stops,
-  takenOf,
-  withTaken,
-}
+use Rattle.entries.specs.{Entry, entries, keysInto, weightsInto, pixelsOf, put, putAll, stops, takenOf, withTaken}
 use Rattle.entries.proofs.Gives.{Keys, putAll-length, putAll-pixels, putAll-sound}
 use Rattle.entries.proofs.Slices.{
   entries-length,
@@ -49,6 +37,7 @@ pub record Taking (ks₀ ws₀ : List ℕ) (used room : ℕ) (ps ks ws : List �
   pub keys-kept : drop now ks ≡ drop now ks₀
   pub weights-kept : drop now ws ≡ drop now ws₀
 
+-- before the first turn
 pub taking-start : (ks ws : List ℕ) (used room : ℕ) (ps : List ℕ) → Standing used room ks ws
     → Taking ks ws used room ps ks ws used 0
 taking-start ks ws used room ps t = record {
@@ -69,12 +58,15 @@ module _ {ks₀ ws₀ : List ℕ} {used room : ℕ} {ps ks ws : List ℕ} {now t
   abbrev E : List Entry
   E = entries now ks ws
 
+  -- it is within the keys
   in-keys : now ≤ length ks
   in-keys = omega (arith, t .table .in-room, t .table .keys-room)
 
+  -- and within the weights
   in-weights : now ≤ length ws
   in-weights = omega (arith, t .table .in-room, t .table .weights-room)
 
+  -- and has as many entries as are used
   length-E : length (entries now ks ws) ≡ now
   length-E = entries-length now ks ws in-keys in-weights
 
@@ -105,14 +97,17 @@ module _ {ks₀ ws₀ : List ℕ} {used room : ℕ} {ps ks ws : List ℕ} {now t
     abbrev F : List Entry
     F = putAll (entries now ks ws) (take p (drop taken ps))
 
+    -- p pixels are tried
     length-C : length (take p (drop taken ps)) ≡ p
     length-C = length-take-le p (drop taken ps) (rw length-drop (omega arith))
 
+    -- the pixels left are those tried and the rest
     parts : drop taken ps ≡ take p (drop taken ps) ++ drop (taken + p) ps
     parts =
         sym (take-append-drop p (drop taken ps))
         ∙ ap (λ (r : List ℕ). take p (drop taken ps) ++ r) (drop-drop p taken ps)
 
+    -- the pixel total with them
     pixels-F : pixelsOf F ≡ pixelsOf (entries used ks₀ ws₀) + (taken + p)
     pixels-F = omega (arith, putAll-pixels (entries now ks ws) (take p (drop taken ps)), length-C, t .pixels)
 
@@ -187,9 +182,11 @@ module _ {ks₀ ws₀ : List ℕ} {used room : ℕ} {ps ks ws : List ℕ} {now t
 
   -- where a pixel alone does not go in, that is the end
   module _ (l : taken < length ps) where
+    -- the next pixel alone
     one : take 1 (drop taken ps) ≡ getD ps taken 0 ∷ []
     one = rw (drop-cons ps taken 0 l)
 
+    -- where the table with it has more entries than the room, the answer is what is there
     taking-at : room < length (put (getD ps taken 0) (entries now ks ws))
         → TookMeets room (entries used ks₀ ws₀) ps ks₀ ws₀ now taken ks ws
     taking-at h =

@@ -14,7 +14,7 @@ use Rattle.number.proofs.Counts.{howMany-none, none-howMany}
 use Rattle.colour.specs.Key.{mostKey}
 use Rattle.entries.specs.{entries, sound}
 use Rattle.entries.proofs.Slices.{keys-rise, keys-are-keys}
-use Rattle.entries.proofs.Rows.{Rows, sound-of-rows, weights-some}
+use Rattle.entries.proofs.Rows.{sound-of-rows, weights-some}
 use Rattle.table.specs.Testing.{fallsAt, emptyAt}
 
 -- keys that rise from place to place: none is above a later one

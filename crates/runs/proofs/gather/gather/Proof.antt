@@ -1,3 +1,4 @@
+-- `gather` meets its contract: the loop's invariant is `Gathering`.
 use Rattle.runs.proofs.gather.Gathers.{
   Gathering,
   Joins,
@@ -8,10 +9,9 @@ use Rattle.runs.proofs.gather.Gathers.{
   gather-done,
 }
 use denote.Ref.{now}
-use lib.ListN.{length, length-set}
-use mathlib.Core.List.{List}
-use mathlib.Core.Path.{_≡_, sym, _∙_}
-use Prim.Native.Nat.{ℕ, _-_, _≤_, _<_}
+use lib.ListN.{length-set}
+use mathlib.Core.Path.{sym, _∙_}
+use Prim.Native.Nat.{_-_, _<_}
 use native.Mathlib.Omega.{arith}
 use Rattle.runs.proofs.gather.gather.Statement.{statement}
 use Rattle.runs.proofs.gather.gather.Tie as tie

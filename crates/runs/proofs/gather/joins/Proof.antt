@@ -1,3 +1,4 @@
+-- `joins` meets its contract: the two tests of `joined`, in turn.
 use Rattle.runs.specs.Run.{runKey}
 use borrow.Author.Tests.{eq-eqb, ne-eqb}
 use mathlib.Core.Path.{sym, _∙_}

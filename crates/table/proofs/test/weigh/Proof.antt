@@ -1,5 +1,4 @@
 -- `weigh` meets its contract: the loop's invariant is `Weighing`.
-use mathlib.Core.Path.{_≡_}
 use Prim.Native.Nat.{_-_}
 use native.Mathlib.Omega.{arith}
 use denote.Ref.{now}

@@ -1,0 +1,2 @@
+-- The sheets, each theorem in full.
+pub mod Promises
