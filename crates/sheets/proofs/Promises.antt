@@ -1,7 +1,6 @@
 -- The sheets, each by computation.
 use mathlib.Core.Path.{_≡_, refl}
-use mathlib.Core.List.{List, [], _∷_, _++_}
-use Prim.Native.Nat.{ℕ}
+use mathlib.Core.List.{[], _∷_, _++_}
 use Rattle.refusal.specs.{done}
 use Rattle.table.specs.{addStrip}
 use Rattle.sheets.specs.Drawing.{drawing, empty, keysA, weightsA}

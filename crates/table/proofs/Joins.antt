@@ -12,7 +12,7 @@ use lib.Dec.{eqb}
 use borrow.Author.Tests.{le-ltb, eq-eqb, eqb-true}
 use Rattle.number.proofs.Cases.{bool, never}
 use Rattle.refusal.specs.{done}
-use Rattle.entries.specs.{Entry, entries, keysInto, weightsInto, pixelsOf, weightOf, stripKeys, putAll, takenOf}
+use Rattle.entries.specs.{Entry, entries, keysInto, weightsInto, weightOf, stripKeys, putAll, takenOf}
 use Rattle.entries.proofs.Gives.{putAll-length, putAll-append}
 use Rattle.entries.proofs.Same.{same-table}
 use Rattle.entries.proofs.Slices.{
@@ -24,15 +24,15 @@ use Rattle.entries.proofs.Slices.{
   laid-kept,
   drop-later,
 }
-use Rattle.entries.proofs.Strips.{byte-keys, strip-append}
-use Rattle.entries.proofs.Takes.{taken-all, taken-fits, taken-append}
+use Rattle.entries.proofs.Strips.{strip-append}
+use Rattle.entries.proofs.Takes.{taken-all, taken-append}
 use Rattle.table.specs.Refusals.{roomOf, recordOf, badStrip, badTable}
 use Rattle.table.specs.Outcomes.{Outcome, asItCame, addStrip}
 use Rattle.table.specs.Goods.{GoodTable, Bytes}
 use Rattle.table.specs.declared.Record.{Record}
 use Rattle.table.proofs.Goods.{Good, good-of-test, good-of-table}
 use Rattle.table.proofs.Adds.{outcome-done}
-use Rattle.table.proofs.Meaning.{Accepted, accepted-of-done, all-taken}
+use Rattle.table.proofs.Meaning.{Accepted, accepted-of-done, all-taken, taken-within}
 
 -- ---- one strip, accepted
 
@@ -123,13 +123,8 @@ module _ (rec : Record) (ks ws s t : List ℕ) (bytes : Bytes s) (a : Accepted r
   -- the table of the first strip is within the room
   first-fits : length P ≤ roomOf ks ws
   first-fits =
-      let g : Good rec ks ws = good-of-test rec ks ws (a .good) in
-      let n : length es ≡ rec .used
-      = entries-length (rec .used) ks ws (omega (arith, g .in-room)) (omega (arith, g .in-room)) in
-      let m : pixelsOf es ≡ rec .pixels = ap (λ (r : Record). r .pixels) (g .is) in
       rw (taken-all (roomOf ks ws) es (stripKeys s) (omega (arith, all-taken rec ks ws s a)))
-      at (taken-fits (roomOf ks ws) es (byte-keys s bytes) (g .sounds) (omega (arith, g .in-room))
-      (omega (arith, g .most)) .0)
+      at (taken-within rec ks ws s bytes (good-of-test rec ks ws (a .good)) .0)
 
   -- so the room is the same for the second
   same-room : roomOf (keysInto P ks) (weightsInto P ws) ≡ roomOf ks ws

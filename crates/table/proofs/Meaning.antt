@@ -88,10 +88,7 @@ accepted-of-done rec ks ws s h =
     record { whole = none .0; good = none .1 .0; room-left = none .1 .1 .0 }
 
 module _ (rec : Record) (ks ws s : List ℕ) where
-  -- the room, the table before, the pixels of the strip
-  abbrev room : ℕ
-  room = roomOf ks ws
-
+  -- the table before, and the pixels of the strip
   abbrev es : List Entry
   es = entries (rec .used) ks ws
 
@@ -144,25 +141,31 @@ module _ (rec : Record) (ks ws s : List ℕ) where
 
   -- ---- a good table stays good
 
+  -- the table with the pixels taken is within its limits
+  pub taken-within : Bytes s → Good rec ks ws
+      → (length (withTaken (roomOf ks ws) es ps) ≤ roomOf ks ws)
+      × (pixelsOf (withTaken (roomOf ks ws) es ps) ≤ mostPixels)
+  taken-within bytes g =
+      let n : length es ≡ rec .used
+      = entries-length (rec .used) ks ws (omega (arith, g .in-room)) (omega (arith, g .in-room)) in
+      let m : pixelsOf es ≡ rec .pixels = ap (λ (r : Record). r .pixels) (g .is) in
+      taken-fits (roomOf ks ws) es (byte-keys s bytes) (g .sounds) (omega (arith, g .in-room)) (omega (arith, g .most))
+
   -- the record of the pixels taken, with the slices that hold them, is good
   good-taken : Bytes s → Good rec ks ws
       → Good (recordOf (withTaken (roomOf ks ws) es ps)) (keysInto (withTaken (roomOf ks ws) es ps) ks)
       (weightsInto (withTaken (roomOf ks ws) es ps) ws)
   good-taken bytes g =
       let F : List Entry = withTaken (roomOf ks ws) es ps in
-      let n : length es ≡ rec .used
-      = entries-length (rec .used) ks ws (omega (arith, g .in-room)) (omega (arith, g .in-room)) in
-      let m : pixelsOf es ≡ rec .pixels = ap (λ (r : Record). r .pixels) (g .is) in
-      let f : (length F ≤ roomOf ks ws) × (pixelsOf F ≤ mostPixels)
-      = taken-fits (roomOf ks ws) es (byte-keys s bytes) (g .sounds) (omega (arith, g .in-room))
-      (omega (arith, g .most)) in
+      let f = taken-within bytes g in
       let lk : length (keysInto F ks) ≡ length ks = laid-length (λ (e : Entry). e .key) F ks (omega (arith, f .0)) in
-      let lw : length (weightsInto F ws) ≡ length ws = laid-length (λ (e : Entry). e .weight) F ws (omega (arith, f .0))
-      in
+      let lw : length (weightsInto F ws) ≡ length ws
+      = laid-length (λ (e : Entry). e .weight) F ws (omega (arith, f .0)) in
       let read : entries (length F) (keysInto F ks) (weightsInto F ws) ≡ F = entries-laid F _ _ in
       record {
         in-room = rw (lk, lw) (f .0);
-        sounds = rw read (putAll-sound es (keys-take (takenOf (roomOf ks ws) es ps) (byte-keys s bytes)) (g .sounds));
+        sounds = rw read
+            (putAll-sound es (keys-take (takenOf (roomOf ks ws) es ps) (byte-keys s bytes)) (g .sounds));
         is = ap recordOf read;
         most = f .1;
       }
