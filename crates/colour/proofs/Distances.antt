@@ -10,8 +10,8 @@ use Rattle.colour.proofs.Keys.{levels-only}
 
 -- a law of coordinates, at each of the three
 pub each :
-    {P : (Point → ℕ) → Type 0} → ((f : Point → ℕ) → P f) →
-    P (λ p. p .r) × P (λ p. p .g) × P (λ p. p .b)
+    {P : (Point → ℕ) → Type 0} → ((f : Point → ℕ) → P f)
+    → P (λ p. p .r) × P (λ p. p .g) × P (λ p. p .b)
 each h = (h _, h _, h _)
 
 -- the distance is the same either way round

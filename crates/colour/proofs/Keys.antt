@@ -14,8 +14,8 @@ levels-most key = record { red-low = omega arith; green-low = omega arith; blue-
 
 -- the levels read from the key of three levels are those three
 pub levels-of-key :
-    (r g b : ℕ) → Levels r g b →
-    (redOf (keyOf r g b) ≡ r) × (greenOf (keyOf r g b) ≡ g) × (blueOf (keyOf r g b) ≡ b)
+    (r g b : ℕ) → Levels r g b
+    → (redOf (keyOf r g b) ≡ r) × (greenOf (keyOf r g b) ≡ g) × (blueOf (keyOf r g b) ≡ b)
 levels-of-key r g b l =
     let record { red-low = x; green-low = y; blue-low = z } = l in
     (omega arith, omega arith, omega arith)
@@ -26,8 +26,8 @@ key-of-levels key h = omega arith
 
 -- two colours of one key are one colour
 pub key-only :
-    (r g b r′ g′ b′ : ℕ) → Levels r g b → Levels r′ g′ b′ → keyOf r g b ≡ keyOf r′ g′ b′ →
-    (r ≡ r′) × (g ≡ g′) × (b ≡ b′)
+    (r g b r′ g′ b′ : ℕ) → Levels r g b → Levels r′ g′ b′ → keyOf r g b ≡ keyOf r′ g′ b′
+    → (r ≡ r′) × (g ≡ g′) × (b ≡ b′)
 key-only r g b r′ g′ b′ l m e =
     let x = levels-of-key r g b l in
     let y = levels-of-key r′ g′ b′ m in (
@@ -38,6 +38,6 @@ key-only r g b r′ g′ b′ l m e =
 
 -- two keys of the same levels are one key
 pub levels-only :
-    (k l : ℕ) → k ≤ mostKey → l ≤ mostKey →
-    redOf k ≡ redOf l → greenOf k ≡ greenOf l → blueOf k ≡ blueOf l → k ≡ l
+    (k l : ℕ) → k ≤ mostKey → l ≤ mostKey
+    → redOf k ≡ redOf l → greenOf k ≡ greenOf l → blueOf k ≡ blueOf l → k ≡ l
 levels-only k l h m x y z = sym (key-of-levels k h) ∙ rw (x, y, z) (key-of-levels l m)

@@ -19,8 +19,8 @@ levels-most = keys.levels-most
 
 -- The levels read from the key of three levels are those three.
 pub levels-of-key :
-    (r g b : ℕ) → Levels r g b →
-    (redOf (keyOf r g b) ≡ r) × (greenOf (keyOf r g b) ≡ g) × (blueOf (keyOf r g b) ≡ b)
+    (r g b : ℕ) → Levels r g b
+    → (redOf (keyOf r g b) ≡ r) × (greenOf (keyOf r g b) ≡ g) × (blueOf (keyOf r g b) ≡ b)
 levels-of-key = keys.levels-of-key
 
 -- A key is the key of the levels read from it.
@@ -29,8 +29,8 @@ key-of-levels = keys.key-of-levels
 
 -- Two colours of one key are one colour.
 pub key-only :
-    (r g b r′ g′ b′ : ℕ) → Levels r g b → Levels r′ g′ b′ → keyOf r g b ≡ keyOf r′ g′ b′ →
-    (r ≡ r′) × (g ≡ g′) × (b ≡ b′)
+    (r g b r′ g′ b′ : ℕ) → Levels r g b → Levels r′ g′ b′ → keyOf r g b ≡ keyOf r′ g′ b′
+    → (r ≡ r′) × (g ≡ g′) × (b ≡ b′)
 key-only = keys.key-only
 
 -- ---- distances

@@ -31,8 +31,8 @@ fill-at (suc n) zero f (x ∷ d) h l = refl
 fill-at (suc n) (suc i) f (x ∷ d) h l = fill-at n i (λ j. f (suc j)) d (omega arith) (omega arith)
 
 -- no place is above m, if no value of f and no place of the list is
-pub fill-at-most : (n m : ℕ) (f : ℕ → ℕ) (d : List ℕ) → ((i : ℕ) → f i ≤ m) → ((i : ℕ) → getD d i 0 ≤ m) →
-    (i : ℕ) → getD (fill n f d) i 0 ≤ m
+pub fill-at-most : (n m : ℕ) (f : ℕ → ℕ) (d : List ℕ) → ((i : ℕ) → f i ≤ m) → ((i : ℕ) → getD d i 0 ≤ m)
+    → (i : ℕ) → getD (fill n f d) i 0 ≤ m
 unfolding fill
 fill-at-most zero m f d h low i = low i
 fill-at-most (suc n) m f [] h low i = low i

@@ -19,8 +19,8 @@ Q-scale : (k : ℕ) (G : Group) → Q (scale k G) ≡ k * k * Q G
 Q-scale k G = sum-mul (G .n) (k * k) _ _ (λ i l. omega arith)
 
 -- the cost of a shade at a / k in its two parts, times k²
-pub fraction-parts : (G : Group) (k a : ℕ) →
-    W G * cost (scale k G) a + k * S G * (k * S G) ≡ W G * (k * k * Q G) + sq (k * S G) (a * W G)
+pub fraction-parts : (G : Group) (k a : ℕ)
+    → W G * cost (scale k G) a + k * S G * (k * S G) ≡ W G * (k * k * Q G) + sq (k * S G) (a * W G)
 fraction-parts G k a = rw (S-scale k G, Q-scale k G) at (cost-parts (scale k G) a)
 
 -- no shade a / k does better than the group's own part
@@ -28,8 +28,8 @@ pub fraction-least : (G : Group) (k a : ℕ) → k * k * (W G * Q G - S G * S G)
 fraction-least G k a = rw mul-sub (omega (arith, fraction-parts G k a))
 
 -- at k = W and a = S the second part is gone
-pub fraction-exact : (G : Group) →
-    W G * cost (scale (W G) G) (S G) + W G * S G * (W G * S G) ≡ W G * (W G * W G * Q G)
+pub fraction-exact : (G : Group)
+    → W G * cost (scale (W G) G) (S G) + W G * S G * (W G * S G) ≡ W G * (W G * W G * Q G)
 fraction-exact G = omega (arith, fraction-parts G (W G) (S G), sq-law (W G * S G) (S G * W G))
 
 -- the shade S / W costs no more than the group's own part

@@ -14,8 +14,8 @@ use Rattle.number.proofs.Fractions as Fractions
 -- ---- searches
 
 -- Of any set of places there is one first best only, with one value, whatever "better" means.
-pub first-best-only : {Beats : ℕ → ℕ → Type 0} {S : ℕ → Type 0} {f : ℕ → ℕ} {m n d e : ℕ} →
-    Best Beats S f m d → Best Beats S f n e → (m ≡ n) × (d ≡ e)
+pub first-best-only : {Beats : ℕ → ℕ → Type 0} {S : ℕ → Type 0} {f : ℕ → ℕ} {m n d e : ℕ}
+    → Best Beats S f m d → Best Beats S f n e → (m ≡ n) × (d ≡ e)
 first-best-only = Searches.best-only
 
 -- Of the places below n, `least` is the lowest one with the least value.
@@ -59,13 +59,13 @@ pub rounded-mean-best : (G : Group) → 0 < W G → (z : ℕ) → cost G (rounde
 rounded-mean-best = Means.mean-best
 
 -- 4W times the cost of the rounded mean is at most 4 (WQ - S²) + W².
-pub rounded-mean-bound : (G : Group) → 0 < W G →
-    4 * (W G * cost G (roundedMean (W G) (S G))) ≤ 4 * (W G * Q G - S G * S G) + W G * W G
+pub rounded-mean-bound : (G : Group) → 0 < W G
+    → 4 * (W G * cost G (roundedMean (W G) (S G))) ≤ 4 * (W G * Q G - S G * S G) + W G * W G
 rounded-mean-bound = Means.mean-bound
 
 -- The rounded mean of coordinates that are at most `top` is at most `top`.
-pub rounded-mean-in-range : (G : Group) → 0 < W G → (top : ℕ) → ((i : ℕ) → i < G .n → G .x i ≤ top) →
-    roundedMean (W G) (S G) ≤ top
+pub rounded-mean-in-range : (G : Group) → 0 < W G → (top : ℕ) → ((i : ℕ) → i < G .n → G .x i ≤ top)
+    → roundedMean (W G) (S G) ≤ top
 rounded-mean-in-range = Means.mean-fits
 
 -- ---- fractional shades

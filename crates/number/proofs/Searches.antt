@@ -21,19 +21,20 @@ either-below false a b n h k = k
 
 module _ (better : ℕ → ℕ → Bool) where
   -- one place more, whose value is not better, leaves the first best where it is
-  pub first-old : (n : ℕ) (f : ℕ → ℕ) → better (f n) (f (firstBest better n f)) ≡ false →
-      firstBest better (n + 1) f ≡ firstBest better n f
+  pub first-stays : (n : ℕ) (f : ℕ → ℕ) → better (f n) (f (firstBest better n f)) ≡ false
+      → firstBest better (n + 1) f ≡ firstBest better n f
   unfolding firstBest
-  first-old n f e = rw (add-one n, e)
+  first-stays n f e = rw (add-one n, e)
 
   -- one place more, whose value is better, is the first best
-  pub first-new : (n : ℕ) (f : ℕ → ℕ) → better (f n) (f (firstBest better n f)) ≡ true → firstBest better (n + 1) f ≡ n
+  pub first-found : (n : ℕ) (f : ℕ → ℕ) → better (f n) (f (firstBest better n f)) ≡ true
+      → firstBest better (n + 1) f ≡ n
   unfolding firstBest
-  first-new n f e = rw (add-one n, e)
+  first-found n f e = rw (add-one n, e)
 
   -- one place more, the count as the successor
-  first-suc : (n : ℕ) (f : ℕ → ℕ) →
-      firstBest better (suc n) f ≡ cond (better (f n) (f (firstBest better n f))) n (firstBest better n f)
+  first-suc : (n : ℕ) (f : ℕ → ℕ)
+      → firstBest better (suc n) f ≡ cond (better (f n) (f (firstBest better n f))) n (firstBest better n f)
   unfolding firstBest
   first-suc n f = refl
 
@@ -69,8 +70,8 @@ module _ (better : ℕ → ℕ → Bool) where
 
 module _ {Beats : ℕ → ℕ → Type 0} {f : ℕ → ℕ} where
   -- one place q more is looked at, it is no better, and at a tie the best has the lower number: the best stays
-  pub best-stay : {S S′ : ℕ → Type 0} {m d : ℕ} (q : ℕ) → Best Beats S f m d → ((j : ℕ) → S j → S′ j) →
-      ((j : ℕ) → S′ j → S j ⊎ (j ≡ q)) → ¬ Beats (f q) d → m ≤ q → Best Beats S′ f m d
+  pub best-stay : {S S′ : ℕ → Type 0} {m d : ℕ} (q : ℕ) → Best Beats S f m d → ((j : ℕ) → S j → S′ j)
+      → ((j : ℕ) → S′ j → S j ⊎ (j ≡ q)) → ¬ Beats (f q) d → m ≤ q → Best Beats S′ f m d
   best-stay {m = m} q b more parts worse le =
       record {
         is = b .is;
@@ -108,8 +109,8 @@ module _ {better : ℕ → ℕ → Bool} {Beats : ℕ → ℕ → Type 0} (o : O
       }
 
   -- one place q more is looked at, it is no worse, and has a lower number: it is the best
-  pub best-lower : {S S′ : ℕ → Type 0} {m d : ℕ} (q : ℕ) → Best Beats S f m d → S′ q →
-      ((j : ℕ) → S′ j → S j ⊎ (j ≡ q)) → ¬ Beats d (f q) → q < m → Best Beats S′ f q (f q)
+  pub best-lower : {S S′ : ℕ → Type 0} {m d : ℕ} (q : ℕ) → Best Beats S f m d → S′ q
+      → ((j : ℕ) → S′ j → S j ⊎ (j ≡ q)) → ¬ Beats d (f q) → q < m → Best Beats S′ f q (f q)
   best-lower {d = d} q b h parts tie l =
       record {
         is = refl;
@@ -121,8 +122,8 @@ module _ {better : ℕ → ℕ → Bool} {Beats : ℕ → ℕ → Type 0} (o : O
       }
 
   -- places are taken in that are worse: the best stays
-  pub best-keep : {S S′ : ℕ → Type 0} {m d : ℕ} → Best Beats S f m d → ((j : ℕ) → S j → S′ j) →
-      ((j : ℕ) → S′ j → S j ⊎ Beats d (f j)) → Best Beats S′ f m d
+  pub best-keep : {S S′ : ℕ → Type 0} {m d : ℕ} → Best Beats S f m d → ((j : ℕ) → S j → S′ j)
+      → ((j : ℕ) → S′ j → S j ⊎ Beats d (f j)) → Best Beats S′ f m d
   best-keep {m = m} {d = d} b more parts =
       record {
         is = b .is;
@@ -132,9 +133,9 @@ module _ {better : ℕ → ℕ → Bool} {Beats : ℕ → ℕ → Type 0} (o : O
       }
 
   -- one place q more is looked at, and it is better: it is the best
-  pub best-new : {S S′ : ℕ → Type 0} {m d : ℕ} (q : ℕ) → Best Beats S f m d → S′ q →
-      ((j : ℕ) → S′ j → S j ⊎ (j ≡ q)) → Beats (f q) d → Best Beats S′ f q (f q)
-  best-new {d = d} q b h parts better-than =
+  pub best-found : {S S′ : ℕ → Type 0} {m d : ℕ} (q : ℕ) → Best Beats S f m d → S′ q
+      → ((j : ℕ) → S′ j → S j ⊎ (j ≡ q)) → Beats (f q) d → Best Beats S′ f q (f q)
+  best-found {d = d} q b h parts better-than =
       record {
         is = refl;
         member = h;
@@ -153,10 +154,10 @@ below-or-last n j h = elim (decLt j n) [ yes l ↦ inl l | no l ↦ inr (omega a
 
 module _ {better : ℕ → ℕ → Bool} {Beats : ℕ → ℕ → Type 0} (o : Order better Beats) (f : ℕ → ℕ) where
   -- the best of the places below n, compared with place n
-  first-step : (n m : ℕ) → Best Beats (λ j. j < n) f m (f m) → (t : Bool) → better (f n) (f m) ≡ t →
-      Best Beats (λ j. j < suc n) f (cond t n m) (f (cond t n m))
+  first-step : (n m : ℕ) → Best Beats (λ j. j < n) f m (f m) → (t : Bool) → better (f n) (f m) ≡ t
+      → Best Beats (λ j. j < suc n) f (cond t n m) (f (cond t n m))
   first-step n m b true e =
-      best-new o n b (omega arith) (λ j l. below-or-last n j (omega arith)) (o .yes-is (f n) (f m) e)
+      best-found o n b (omega arith) (λ j l. below-or-last n j (omega arith)) (o .yes-is (f n) (f m) e)
   first-step n m b false e =
       let worse = o .no-is (f n) (f m) e in
       best-stay n b (λ j l. omega arith) (λ j l. below-or-last n j (omega arith)) worse (omega (arith, b .member))

@@ -1,6 +1,5 @@
--- Adding two strips one after the other is adding them joined; an empty strip changes nothing; a table is determined by
--- the
--- weights of its colours.
+-- Adding two strips one after the other is adding them joined; an empty strip changes nothing; a table is determined
+-- by the weights of its colours.
 use mathlib.Core.Path.{_≡_, refl, sym, ap, _∙_}
 use mathlib.Core.Bool.{false, not}
 use mathlib.Core.Logic.{inl, inr}

@@ -1,6 +1,5 @@
 -- What adding a strip means: when each refusal is given, what an accepted add does to the weights, that a good table
--- stays
--- good, that FULL keeps the longest prefix, and that two strips are the strips joined.
+-- stays good, that FULL keeps the longest prefix, and that two strips are the strips joined.
 use mathlib.Core.Path.{_≡_, refl, sym, ap, _∙_}
 use mathlib.Core.Bool.{true, false, not}
 use mathlib.Core.Logic.{_↔_, inl, inr}

@@ -47,8 +47,8 @@ bad-strip-exactly = meaning.bad-strip-exactly
 pub bad-table-exactly : (rec : Record) (ks ws : List ℕ) → (badTable rec ks ws ≡ false) ↔ GoodTable rec ks ws
 bad-table-exactly = goods.bad-table-exactly
 
--- The test of FULL holds exactly when there is a next pixel, and it meets a full pixel total or is a new colour with no
--- room.
+-- The test of FULL holds exactly when there is a next pixel and it does not go in: it meets a total of 16,777,216, or is
+-- a new colour with no room.
 pub full-exactly : (rec : Record) (ks ws s : List ℕ)
     → (full rec ks ws s ≡ true)
     ↔ ((takenOf (roomOf ks ws) (entries (rec .used) ks ws) (stripKeys s) < length (stripKeys s))
@@ -73,9 +73,8 @@ pub accepted-weights : (rec : Record) (ks ws s : List ℕ) → addStrip rec ks w
     → weightOf c (tableAfter (addStrip rec ks ws s)) ≡ weightOf c (entries (rec .used) ks ws) + countOf c (stripKeys s)
 accepted-weights = meaning.accepted-weights
 
--- A good table is good after any call: keys rise strictly and are keys, weights are at least 1, the pixels are the sum
--- of
--- the weights.
+-- A good table is good after any call: keys rise strictly and are keys, weights are at least 1, the pixels are the
+-- sum of the weights.
 pub stays-good : (rec : Record) (ks ws s : List ℕ) → Bytes s → GoodTable rec ks ws
     → GoodTable (addStrip rec ks ws s .answer .rec) (addStrip rec ks ws s .keys) (addStrip rec ks ws s .weights)
 stays-good = meaning.stays-good

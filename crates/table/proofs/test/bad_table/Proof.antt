@@ -19,8 +19,8 @@ abbrev st : tie.After-room-of → tie.Start
 st c = c .before .before .before
 
 -- past the first test the used entries are within the room
-in-room : (c : tie.Else1) →
-    InRoom (st (c .before) .args .rec) (now (st (c .before) .args .keys)) (now (st (c .before) .args .weights))
+in-room : (c : tie.Else1)
+    → InRoom (st (c .before) .args .rec) (now (st (c .before) .args .keys)) (now (st (c .before) .args .weights))
 in-room c = record { within = omega (arith, c .before .room-of .ensures) }
 
 room-of-requires : tie.Need-room-of-requires
