@@ -68,7 +68,7 @@ fn bad_tables(keys: &mut [u32; 3], weights: &mut [u32; 3]) {
     show(fourth, keys, weights);
 }
 
-// 300 pixels of one colour at once, a pixel of another, and one of a third, where one slice has room
+// 300 pixels of one colour at once, a pixel of another and one of a third, where a slice has room
 // for two colours only.
 fn many_pixels(keys: &mut [u32; 3]) {
     let strip = [200u8; 900];

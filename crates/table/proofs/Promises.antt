@@ -47,7 +47,8 @@ bad-strip-exactly = meaning.bad-strip-exactly
 pub bad-table-exactly : (rec : Record) (ks ws : List ℕ) → (badTable rec ks ws ≡ false) ↔ GoodTable rec ks ws
 bad-table-exactly = goods.bad-table-exactly
 
--- The test of FULL holds exactly when there is a next pixel and it does not go in: it meets a total of 16,777,216, or is
+-- The test of FULL holds exactly when there is a next pixel and it does not go in: it meets a total of 16,777,216, or
+-- is
 -- a new colour with no room.
 pub full-exactly : (rec : Record) (ks ws s : List ℕ)
     → (full rec ks ws s ≡ true)

@@ -26,7 +26,7 @@ fn smaller(a: usize, b: usize) -> usize
 // chunk is sorted and walks the table. Either way takes the same pixels.
 fn is_few(end: usize, used: usize) -> bool {
     if used < 512 {
-        return end < 128;
+        return end <= 256;
     }
     end < 32
 }
