@@ -80,7 +80,7 @@ pub weight-low : (c low : ℕ) (es : List Entry) → sound low es ≡ true → c
 weight-low c low [] h l = refl
 weight-low c low (e ∷ es) h l =
     let s : Sound low e es = sound-cons low e es h in
-    simp (ne-eqb (e .key) c (λ q. let z : ⊥ = omega arith in z))
+    simp (ne-eqb (e .key) c (λ q. omega arith))
     (omega (arith, weight-low c (e .key + 1) es (s .rest) (omega arith)))
 
 -- a sound table has one entry more exactly where the colour had no weight
@@ -89,10 +89,10 @@ pub give-length-is : (k w low : ℕ) (es : List Entry) → sound low es ≡ true
 give-length-is k w low [] h = refl
 give-length-is k w low (e ∷ es) h = let s : Sound low e es = sound-cons low e es h in elim (cmp (e .key) k) [
   | lt l t ↦
-      simp (t, ne-eqb (e .key) k (λ q. let z : ⊥ = omega arith in z), zero-add)
+      simp (t, ne-eqb (e .key) k (λ q. omega arith), zero-add)
       (omega (arith, give-length-is k w (e .key + 1) es (s .rest)))
   | eq q t u ↦
-      simp (t, u, ne-eqb (e .weight + weightOf k es) 0 (λ z. let y : ⊥ = omega (arith, s .some) in y)) (omega arith)
+      simp (t, u, ne-eqb (e .weight + weightOf k es) 0 (λ z. omega (arith, s .some))) (omega arith)
   | gt l t u ↦ simp (t, u, weight-low k (e .key + 1) es (s .rest) (omega arith)) (omega arith)
 ]
 

@@ -29,19 +29,19 @@ not-lower low e f es fs a b h = elim (bool (ltb (e .key) (f .key))) [
       let l : e .key < f .key = ltb-true _ _ t in
       let sf : Sound low f fs = sound-cons low f fs b in
       let se : Sound low e es = sound-cons low e es a in
-      let n : f .key ≡ e .key → ⊥ = λ q. let y : ⊥ = omega arith in y in
-      let z : ⊥ = omega (
+      let n : f .key ≡ e .key → ⊥ = λ q. omega arith in
+      omega (
         arith,
         weight-head e es,
         weight-tail (e .key) f fs n,
         weight-low (e .key) (f .key + 1) fs (sf .rest) (omega arith),
-      ) in z)
+      ))
 ]
 
 -- a table with an entry is not an empty one
 not-empty : (low : ℕ) (e : Entry) (es : List Entry) → sound low (e ∷ es) ≡ true → weightOf (e .key) (e ∷ es) ≡ 0 → ⊥
 not-empty low e es a h =
-    let s : Sound low e es = sound-cons low e es a in let z : ⊥ = omega (arith, h, weight-head e es) in z
+    let s : Sound low e es = sound-cons low e es a in omega (arith, h, weight-head e es)
 
 -- Two sound tables that give every colour the same weight are the same: their first keys are equal, since neither is
 -- lower; so are those entries' weights; and the rests give every colour the same weight.

@@ -73,7 +73,7 @@ module _ (n : ℕ) (ks ws : List ℕ) (a : n ≤ length ks) (b : n ≤ length ws
   keys-in-order p q x y = elim (cmp p q) [
     | lt l t ↦ omega (arith, keys-rise p q l y)
     | eq e t u ↦ rw e (omega arith)
-    | gt l t u ↦ absurd (let z : ⊥ = omega arith in z)
+    | gt l t u ↦ absurd (omega arith)
   ]
 
   -- each is a key

@@ -12,32 +12,28 @@ use Rattle.colour.specs.Key.{keyOf}
 use Rattle.entries.specs.Strip.{stripKeys, keyAt}
 use Rattle.entries.proofs.Gives.{Keys, none, more}
 
--- no list has as many bytes as it has not
-short : {X : Type 0} → ⊥ → X
-short z = absurd z
-
 -- 3n bytes are n pixels
 pub strip-length : (n : ℕ) (s : List ℕ) → length s ≡ 3 * n → length (stripKeys s) ≡ n
 strip-length zero [] h = refl
-strip-length (suc n) [] h = short (omega arith)
-strip-length n (r ∷ []) h = short (omega arith)
-strip-length n (r ∷ (g ∷ [])) h = short (omega arith)
-strip-length zero (r ∷ (g ∷ (b ∷ s))) h = short (omega arith)
+strip-length (suc n) [] h = absurd (omega arith)
+strip-length n (r ∷ []) h = absurd (omega arith)
+strip-length n (r ∷ (g ∷ [])) h = absurd (omega arith)
+strip-length zero (r ∷ (g ∷ (b ∷ s))) h = absurd (omega arith)
 strip-length (suc n) (r ∷ (g ∷ (b ∷ s))) h = ap suc (strip-length n s (omega arith))
 
 -- 3n bytes or more are n pixels or more
 pub strip-at-least : (n : ℕ) (s : List ℕ) → 3 * n ≤ length s → n ≤ length (stripKeys s)
 strip-at-least zero s h = omega arith
-strip-at-least (suc n) [] h = short (omega arith)
-strip-at-least (suc n) (r ∷ []) h = short (omega arith)
-strip-at-least (suc n) (r ∷ (g ∷ [])) h = short (omega arith)
+strip-at-least (suc n) [] h = absurd (omega arith)
+strip-at-least (suc n) (r ∷ []) h = absurd (omega arith)
+strip-at-least (suc n) (r ∷ (g ∷ [])) h = absurd (omega arith)
 strip-at-least (suc n) (r ∷ (g ∷ (b ∷ s))) h = omega (arith, strip-at-least n s (omega arith))
 
 -- pixel i has the key of the three bytes from place 3i on
 pub strip-at : (i : ℕ) (s : List ℕ) → 3 * i + 2 < length s → getD (stripKeys s) i 0 ≡ keyAt s (3 * i)
 strip-at i [] h = absurd (not-suc-le-zero h)
-strip-at i (r ∷ []) h = short (omega arith)
-strip-at i (r ∷ (g ∷ [])) h = short (omega arith)
+strip-at i (r ∷ []) h = absurd (omega arith)
+strip-at i (r ∷ (g ∷ [])) h = absurd (omega arith)
 strip-at zero (r ∷ (g ∷ (b ∷ s))) h = refl
 strip-at (suc i) (r ∷ (g ∷ (b ∷ s))) h =
     let z : 3 * suc i ≡ suc (suc (suc (3 * i))) = omega arith in
@@ -46,19 +42,19 @@ strip-at (suc i) (r ∷ (g ∷ (b ∷ s))) h =
 -- without its first 3n bytes a strip is without its first n pixels
 pub strip-drop : (n : ℕ) (s : List ℕ) → 3 * n ≤ length s → stripKeys (drop (3 * n) s) ≡ drop n (stripKeys s)
 strip-drop zero s h = refl
-strip-drop (suc n) [] h = short (omega arith)
-strip-drop (suc n) (r ∷ []) h = short (omega arith)
-strip-drop (suc n) (r ∷ (g ∷ [])) h = short (omega arith)
+strip-drop (suc n) [] h = absurd (omega arith)
+strip-drop (suc n) (r ∷ []) h = absurd (omega arith)
+strip-drop (suc n) (r ∷ (g ∷ [])) h = absurd (omega arith)
 strip-drop (suc n) (r ∷ (g ∷ (b ∷ s))) h =
     let z : 3 * suc n ≡ suc (suc (suc (3 * n))) = omega arith in rw z (strip-drop n s (omega arith))
 
 -- strips of whole pixels, joined, have the pixels of one and then of the other
 pub strip-append : (n : ℕ) (s t : List ℕ) → length s ≡ 3 * n → stripKeys (s ++ t) ≡ stripKeys s ++ stripKeys t
 strip-append zero [] t h = refl
-strip-append (suc n) [] t h = short (omega arith)
-strip-append n (r ∷ []) t h = short (omega arith)
-strip-append n (r ∷ (g ∷ [])) t h = short (omega arith)
-strip-append zero (r ∷ (g ∷ (b ∷ s))) t h = short (omega arith)
+strip-append (suc n) [] t h = absurd (omega arith)
+strip-append n (r ∷ []) t h = absurd (omega arith)
+strip-append n (r ∷ (g ∷ [])) t h = absurd (omega arith)
+strip-append zero (r ∷ (g ∷ (b ∷ s))) t h = absurd (omega arith)
 strip-append (suc n) (r ∷ (g ∷ (b ∷ s))) t h =
     ap (λ (x : List ℕ). keyOf r g b ∷ x) (strip-append n s t (omega arith))
 

@@ -42,7 +42,7 @@ module _ (room : ℕ) (es : List Entry) (k : ℕ) (s : sound 0 es ≡ true) wher
         simp (t, le-leb room (length es) (omega arith), or-true)
     | inr t ↦
         let n : length (put k es) ≡ length es + 0 = give-length-is k 1 0 es s ∙ simp t in
-        absurd (let z : ⊥ = omega arith in z)
+        absurd (omega arith)
   ]
 
   -- where the table with the pixel is within both limits, it goes in

@@ -44,7 +44,7 @@ pub howMany-none : (n : ℕ) (b : ℕ → Bool) → howMany n b ≡ 0 → (i : �
 unfolding howMany
 howMany-none zero b h i l = absurd (not-suc-le-zero l)
 howMany-none (suc n) b h i l = elim (bool (b n)) [
-  | inl t ↦ absurd (let z : howMany n b + 1 ≡ 0 = rw t at h in let x : ⊥ = omega arith in x)
+  | inl t ↦ absurd (let z : howMany n b + 1 ≡ 0 = rw t at h in omega arith)
   | inr t ↦
       let z : howMany n b ≡ 0 = rw t at h in
       ⊎-elim (λ m. howMany-none n b z i m) (λ e. let q : i ≡ n = suc-inj e in rw q t) (le-suc-iff .0 l)

@@ -21,7 +21,7 @@ use Rattle.table.proofs.take.Turn.{Taking, taking-start, taking-done, t
 -- a piece within the first e of a list is a piece of the list
 piece-first : (p t e : ℕ) (xs : List ℕ) → t + p ≤ e → take p (drop t xs) ≡ take p (drop t (take e xs))
 piece-first p zero e xs h = sym (take-take p e xs (omega arith))
-piece-first p (suc t) zero xs h = absurd (let z : ⊥ = omega arith in z)
+piece-first p (suc t) zero xs h = absurd (omega arith)
 piece-first p (suc t) (suc e) [] h = refl
 piece-first p (suc t) (suc e) (x ∷ xs) h = piece-first p t e xs (omega arith)
 

@@ -56,7 +56,7 @@ shared-slice-read-if4 c = search needs
 returns-4 : tie.Need-returns-4
 returns-4 c =
     let room = in-room (c .before .before .before .before .before) in
-    sym (bad-of-fault room (λ f. let none : ⊥ = omega (arith, f .greatest (omega arith)) in none))
+    sym (bad-of-fault room (λ f. omega (arith, f .greatest (omega arith))))
 
 weigh-requires : tie.Need-weigh-requires
 weigh-requires c κs = search needs
