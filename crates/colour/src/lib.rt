@@ -30,6 +30,9 @@ pub const MOST_KEY: u32 = 16777215;
 // The greatest coordinate of a shade.
 pub const MOST_COORDINATE: u32 = 4080;
 
+// The most pixels of a table, and so of a group.
+pub const MOST_PIXELS: u64 = 16777216;
+
 // A point of the grid: three coordinates in sixteenths of a level. A shade is one, and a colour
 // stands at one.
 pub struct Point {

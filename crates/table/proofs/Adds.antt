@@ -12,7 +12,7 @@ use Rattle.entries.proofs.Strips.{strip-length}
 use Rattle.entries.proofs.Takes.{taken-at-most, taken-pixels}
 use Rattle.table.specs.Refusals.{roomOf, badStrip, badTable, full}
 use Rattle.table.specs.Outcomes.{refused, asItCame, withPixels, addStrip, AddMeets}
-use Rattle.table.specs.Taking.{TookMeets}
+use Rattle.taking.specs.{TookMeets}
 use Rattle.table.specs.declared.Record.{Record}
 use Rattle.table.specs.declared.Added.{Added}
 use Rattle.table.proofs.Goods.{good-of-test}

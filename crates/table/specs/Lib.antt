@@ -16,12 +16,10 @@
 --   tableAfter    the table in an outcome's slices
 --   GoodTable     a good table, fact by fact
 --   Bytes         a list of bytes
---   Able, TookMeets   what the functions that take a strip's pixels ask and answer
 --   fallsAt       a key that the next one is not above; emptyAt a weight of 0; weightAt the weight at a place
 pub mod Refusals
 pub mod Outcomes
 pub mod Goods
-pub mod Taking
 pub mod Testing
 pub use declared.Record.{Record}
 pub use declared.Added.{Added}
@@ -40,5 +38,4 @@ unfoldable pub use Outcomes.{refused, asItCame, withPixels, handsBack, addStrip,
 pub use Outcomes.{Outcome, AddMeets}
 pub use Goods.{GoodTable}
 unfoldable pub use Goods.{Bytes}
-pub use Taking.{Able, TookMeets}
 unfoldable pub use Testing.{fallsAt, emptyAt, weightAt}

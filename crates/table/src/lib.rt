@@ -7,7 +7,7 @@
 //   room_of     the room of two lent slices. Refuses nothing.
 // A refusal hands the record back and writes nothing; FULL keeps the pixels taken before it.
 //
-// Files: test.rt (the test), take.rt (taking pixels, one by one or in chunks).
+// The test stands in test.rt; the pixels are taken by the crate taking.
 // Read next: specs/Lib.antt (what the words mean), proofs/Promises.antt (what is shown).
 ghost use mathlib.Core.Path.{_≡_};
 ghost use Rattle.table.specs.Outcomes.{refused, AddMeets};
@@ -16,7 +16,6 @@ use refusal::BAD_TABLE;
 use refusal::DONE;
 use refusal::FULL;
 
-mod take;
 mod test;
 
 pub use test::bad_table;
@@ -24,9 +23,6 @@ pub use test::room_of;
 
 // The most entries of a table.
 pub const MOST_ENTRIES: usize = 1048576;
-
-// The most pixels of a table.
-pub const MOST_PIXELS: u64 = 16777216;
 
 // How many entries are used, and the pixels: the sum of the used weights.
 pub struct Record {
@@ -74,7 +70,7 @@ pub fn add_strip(rec: Record, keys: &mut [u32], weights: &mut [u32], strip: &[u8
     let before = rec.pixels;
     let room = room_of(keys.len(), weights.len());
     let count = strip.len() / 3;
-    let took = take::take_strip(keys, weights, used, before, room, strip, count);
+    let took = taking::take_strip(keys, weights, used, before, room, strip, count);
     let taken = took.taken;
     let after = Record {
         used: took.used,

@@ -9,7 +9,6 @@ ghost use Rattle.entries.specs.{mostEntries};
 ghost use Rattle.table.specs.Refusals.{badTable};
 ghost use Rattle.table.specs.Testing.{fallsAt, emptyAt, weightAt};
 use super::MOST_ENTRIES;
-use super::MOST_PIXELS;
 use super::Record;
 
 // What a pass over the weights finds: how many are 0, and their sum.
@@ -111,5 +110,5 @@ pub fn bad_table(rec: Record, keys: &[u32], weights: &[u32]) -> bool
     if sum != pixels {
         return true;
     }
-    MOST_PIXELS < pixels
+    colour::MOST_PIXELS < pixels
 }

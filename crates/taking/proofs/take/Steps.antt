@@ -15,8 +15,8 @@ use Rattle.entries.proofs.Strips.{strip-at-least}
 use Rattle.entries.proofs.Takes.{taken-capped, withTaken-capped}
 use Rattle.adding.specs.{Ready, Tried, piece}
 use Rattle.adding.proofs.chunk.Listing.{piece-keys}
-use Rattle.table.specs.Taking.{Able, TookMeets}
-use Rattle.table.proofs.take.Turn.{Taking, taking-start, taking-done, taking-in, taking-out, taking-full}
+use Rattle.taking.specs.Taking.{Able, TookMeets}
+use Rattle.taking.proofs.take.Turn.{Taking, taking-start, taking-done, taking-in, taking-out, taking-full}
 
 -- a piece within the first e of a list is a piece of the list
 piece-first : (p t e : ℕ) (xs : List ℕ) → t + p ≤ e → take p (drop t xs) ≡ take p (drop t (take e xs))

@@ -5,8 +5,7 @@ ghost use lib.ListN.{length, take};
 ghost use Rattle.colour.specs.{mostPixels};
 ghost use Rattle.entries.specs.{entries, pixelsOf, stripKeys};
 ghost use Rattle.adding.specs.{Standing};
-ghost use Rattle.table.specs.Taking.{Able, TookMeets};
-use super::MOST_PIXELS;
+ghost use Rattle.taking.specs.Taking.{Able, TookMeets};
 use adding::chunk::add_one;
 use adding::chunk::add_some;
 
@@ -127,7 +126,7 @@ pub fn take_strip(
         (stripKeys (now (strip .entry))) (now (keys .entry)) (now (weights .entry))
         (r .used) (r .taken) (now (keys .exit)) (now (weights .exit)) ⌝ }
 {
-    let space = (MOST_PIXELS - before) as usize;
+    let space = (colour::MOST_PIXELS - before) as usize;
     let end = smaller(count, space);
     if is_few(end, used) {
         return take_few(keys, weights, used, room, strip, end);
