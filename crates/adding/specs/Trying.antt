@@ -6,10 +6,8 @@ use mathlib.Core.Bool.{true, cond}
 use mathlib.Core.List.{List}
 use lib.ListN.{length, take, drop}
 use lib.Dec.{leb}
-use Rattle.colour.specs.Points.{mostPixels}
-use Rattle.entries.specs.Content.{Entry, entries, keysInto, weightsInto, pixelsOf, sound}
-use Rattle.entries.specs.Strip.{stripKeys}
-use Rattle.entries.specs.Adding.{putAll}
+use Rattle.colour.specs.{mostPixels}
+use Rattle.entries.specs.{Entry, entries, keysInto, weightsInto, pixelsOf, sound, stripKeys, putAll}
 
 -- a sound table of `used` entries stands at the front of two slices that have room for `room`
 pub record Standing (used room : ℕ) (ks ws : List ℕ) : Type 0 where

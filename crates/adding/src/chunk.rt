@@ -2,7 +2,7 @@
 ghost use mathlib.Core.Path.{_≡_};
 ghost use Prim.Native.Nat.{_≤_, _<_};
 ghost use lib.ListN.{length};
-ghost use Rattle.runs.specs.Sorting.{mostRuns};
+ghost use Rattle.runs.specs.{mostRuns};
 ghost use Rattle.adding.specs.Trying.{Ready, Tried};
 use super::merge::count_with;
 use super::merge::merge;

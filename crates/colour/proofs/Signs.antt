@@ -19,7 +19,7 @@ use lib.Signed.{mag}
 use mir.Syntax.{w32}
 use mir.Val.{SFits, ofZ, toZ}
 use mir.ValLaws.{toZ-pos, toZ-ofZ}
-use Rattle.number.specs.Square.{gap, sq}
+use Rattle.number.specs.{gap, sq}
 use Rattle.number.proofs.Squares.{sq-most}
 use Rattle.colour.specs.Points.{mostCoordinate}
 

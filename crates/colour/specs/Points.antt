@@ -1,6 +1,6 @@
 -- Points of the grid: three coordinates in sixteenths of a level. A shade is one, and a colour stands at one.
 use Prim.Native.Nat.{ℕ, _+_, _*_, _≤_}
-use Rattle.number.specs.Square.{sq}
+use Rattle.number.specs.{sq}
 use Rattle.colour.specs.Key.{redOf, greenOf, blueOf}
 use Rattle.colour.specs.declared.Point.{Point}
 

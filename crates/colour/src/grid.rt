@@ -1,7 +1,7 @@
 // Where a colour stands on the grid, and how far apart two points are.
 ghost use mathlib.Core.Path.{_≡_};
 ghost use Prim.Native.Nat.{_*_, _≤_};
-ghost use Rattle.number.specs.Square.{sq};
+ghost use Rattle.number.specs.{sq};
 ghost use Rattle.colour.specs.Key.{mostLevel};
 ghost use Rattle.colour.specs.Points.{
   mostCoordinate,

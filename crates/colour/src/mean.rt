@@ -1,7 +1,7 @@
 // The rounded mean of a group, on one coordinate.
 ghost use mathlib.Core.Path.{_≡_};
 ghost use Prim.Native.Nat.{_*_, _<_, _≤_};
-ghost use Rattle.number.specs.Groups.{roundedMean};
+ghost use Rattle.number.specs.{roundedMean};
 ghost use Rattle.colour.specs.Points.{mostCoordinate, mostPixels};
 
 // The rounded mean of a group with this pixel count and this coordinate sum: halves go up.

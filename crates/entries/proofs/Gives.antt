@@ -11,7 +11,7 @@ use lib.ListN.{length, take}
 use lib.Dec.{eqb}
 use borrow.Author.Tests.{ne-eqb}
 use Rattle.number.proofs.Cases.{cmp, lt, eq, gt, bool}
-use Rattle.colour.specs.Key.{mostKey}
+use Rattle.colour.specs.{mostKey}
 use Rattle.entries.specs.Content.{Entry, entry, pixelsOf, weightOf, sound}
 use Rattle.entries.specs.Strip.{countOf}
 use Rattle.entries.specs.Adding.{give, put, putAll}

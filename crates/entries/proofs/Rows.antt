@@ -10,7 +10,7 @@ use lib.ListN.{length, getD}
 use lib.Seq.{getD-take}
 use Rattle.number.specs.{sum}
 use Rattle.number.proofs.Sums.{sum-front}
-use Rattle.colour.specs.Key.{mostKey}
+use Rattle.colour.specs.{mostKey}
 use Rattle.entries.specs.Content.{Entry, entry, weightsOf, entries, pixelsOf, sound}
 use Rattle.entries.proofs.Sounds.{sound-cons, cons-sound}
 use Rattle.entries.proofs.Slices.{entries-length, entries-weights}

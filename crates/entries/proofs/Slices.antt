@@ -9,7 +9,7 @@ use native.Mathlib.Numerals.{add-one}
 use lib.ListN.{length, getD, take, drop, length-append, length-drop, length-map, drop-of-length-le}
 use lib.Seq.{getD-take, drop-drop, drop-at}
 use Rattle.number.proofs.Cases.{cmp, lt, eq, gt}
-use Rattle.colour.specs.Key.{mostKey}
+use Rattle.colour.specs.{mostKey}
 use Rattle.entries.specs.Content.{Entry, entry, keysOf, weightsOf, entries, sound}
 use Rattle.entries.proofs.Sounds.{sound-rises, sound-keys}
 

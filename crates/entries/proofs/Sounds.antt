@@ -10,7 +10,7 @@ use lib.ListN.{length, getD}
 use lib.Dec.{ltb}
 use borrow.Author.Tests.{le-ltb, ltb-false}
 use Rattle.number.proofs.Cases.{bool, never}
-use Rattle.colour.specs.Key.{mostKey}
+use Rattle.colour.specs.{mostKey}
 use Rattle.entries.specs.Content.{Entry, keysOf, sound}
 
 -- the first entry's key and weight are as they should be, and the rest rises from that key on

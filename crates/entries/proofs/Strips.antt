@@ -5,10 +5,9 @@ use Prim.Native.Nat.{ℕ, zero, suc, _+_, _*_, _≤_, _<_}
 use native.Mathlib.Omega.{arith}
 use native.Mathlib.Nat.{not-suc-le-zero}
 use native.Mathlib.Numerals.{add-one, add-two}
-use lib.ListN.{length, getD, drop}
+use lib.ListN.{length, getD, take, drop}
 use lib.Seq.{drop-cons}
-use lib.ListN.{take}
-use Rattle.colour.specs.Key.{keyOf}
+use Rattle.colour.specs.{keyOf}
 use Rattle.entries.specs.Strip.{stripKeys, keyAt}
 use Rattle.entries.proofs.Gives.{Keys, none, more}
 

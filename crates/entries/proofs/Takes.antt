@@ -13,7 +13,7 @@ use lib.Dec.{leb, eqb}
 use borrow.Author.Tests.{le-leb, lt-leb, leb-false}
 use Rattle.number.proofs.Cases.{bool, never}
 use Rattle.entries.specs.Content.{Entry, pixelsOf, weightOf, sound}
-use Rattle.colour.specs.Points.{mostPixels}
+use Rattle.colour.specs.{mostPixels}
 use Rattle.entries.specs.Adding.{put, putAll, stops, takenOf, withTaken}
 use Rattle.entries.proofs.Gives.{
   Keys,

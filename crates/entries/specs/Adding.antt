@@ -4,7 +4,7 @@ use mathlib.Core.Bool.{Bool, cond, _&&_, _||_}
 use mathlib.Core.List.{List, [], _∷_}
 use lib.ListN.{length, take}
 use lib.Dec.{ltb, leb, eqb}
-use Rattle.colour.specs.Points.{mostPixels}
+use Rattle.colour.specs.{mostPixels}
 use Rattle.entries.specs.Content.{Entry, entry, pixelsOf, weightOf}
 
 -- the most entries of a table

@@ -5,8 +5,8 @@ use mathlib.Core.Bool.{Bool, true, false, cond}
 use mathlib.Core.List.{List, [], _∷_, _++_, map}
 use lib.ListN.{length, drop}
 use lib.Dec.{ltb, eqb}
-use Rattle.number.specs.Sum.{sumOf}
-use Rattle.colour.specs.Key.{mostKey}
+use Rattle.number.specs.{sumOf}
+use Rattle.colour.specs.{mostKey}
 
 -- a colour of the table, by its key, and its weight: the pixels of that colour
 pub record Entry : Type 0 where

@@ -4,8 +4,8 @@ use mathlib.Core.Bool.{cond}
 use mathlib.Core.List.{List, [], _∷_}
 use lib.ListN.{getD}
 use lib.Dec.{eqb}
-use Rattle.number.specs.Sum.{sumOf}
-use Rattle.colour.specs.Key.{keyOf}
+use Rattle.number.specs.{sumOf}
+use Rattle.colour.specs.{keyOf}
 
 -- the keys of a strip's pixels, from first to last; bytes left over at the end are no pixel
 abbrev pub stripKeys : List ℕ → List ℕ

@@ -2,7 +2,7 @@
 use Prim.Native.Nat.{ℕ, _+_, _/_, _%_}
 use mathlib.Core.Bool.{Bool, cond, _&&_}
 use lib.Dec.{ltb, eqb}
-use Rattle.colour.specs.Key.{mostKey}
+use Rattle.colour.specs.{mostKey}
 
 -- the key of the run's colour
 abbrev pub runKey : ℕ → ℕ

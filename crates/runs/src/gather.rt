@@ -2,9 +2,9 @@
 ghost use mathlib.Core.Path.{_≡_};
 ghost use Prim.Native.Nat.{ℕ, _+_, _*_, _≤_, _<_};
 ghost use lib.ListN.{length, take, drop};
-ghost use Rattle.number.specs.Sum.{sumOf};
-ghost use Rattle.colour.specs.Key.{mostKey};
-ghost use Rattle.entries.specs.Strip.{stripKeys, keyAt, countOf};
+ghost use Rattle.number.specs.{sumOf};
+ghost use Rattle.colour.specs.{mostKey};
+ghost use Rattle.entries.specs.{stripKeys, keyAt, countOf};
 ghost use Rattle.runs.specs.Run.{runCount, joined};
 use super::run::run_key;
 

@@ -1,7 +1,7 @@
 // A run taken apart.
 ghost use mathlib.Core.Path.{_≡_};
 ghost use Prim.Native.Nat.{_≤_};
-ghost use Rattle.colour.specs.Key.{mostKey};
+ghost use Rattle.colour.specs.{mostKey};
 ghost use Rattle.runs.specs.Run.{runKey, runPixels};
 
 // The key of a run.

@@ -8,14 +8,11 @@ use lib.ListN.{length, getD, take, drop, length-take}
 use lib.Seq.{length-take-le, getD-take}
 use lib.Dec.{leb}
 use borrow.Author.Tests.{le-leb, lt-leb}
-use Rattle.number.specs.Sum.{sumOf}
-use Rattle.entries.specs.Content.{Entry, pixelsOf, sound}
-use Rattle.entries.specs.Strip.{stripKeys, countOf}
-use Rattle.entries.specs.Adding.{putAll}
+use Rattle.number.specs.{sumOf}
+use Rattle.entries.specs.{Entry, pixelsOf, sound, stripKeys, countOf, putAll}
 use Rattle.entries.proofs.Gives.{Keys, keys-take, putAll-pixels}
 use Rattle.entries.proofs.Strips.{byte-keys, keys-drop}
-use Rattle.runs.specs.Run.{runKey, runCount}
-use Rattle.runs.specs.Sorting.{sorted}
+use Rattle.runs.specs.{runKey, runCount, sorted}
 use Rattle.runs.proofs.sort.Order.{sorted-sum, sorted-length, sorted-rises}
 use Rattle.adding.specs.Walk.{giveBack}
 use Rattle.adding.specs.Trying.{piece}

@@ -11,11 +11,11 @@ use lib.ListN.{length, getD, take, drop, set, length-set, length-drop}
 use lib.Seq.{take-suc, take-suc-set, getD-drop}
 use lib.Dec.{eqb}
 use borrow.Author.Tests.{ltb-true, eqb-true}
-use Rattle.number.specs.Sum.{sumOf}
+use Rattle.number.specs.{sumOf}
 use Rattle.number.proofs.Cases.{bool, never}
 use Rattle.number.proofs.ListSums.{sumOf-append}
-use Rattle.colour.specs.Key.{mostKey}
-use Rattle.entries.specs.Strip.{stripKeys, keyAt, countOf}
+use Rattle.colour.specs.{mostKey}
+use Rattle.entries.specs.{stripKeys, keyAt, countOf}
 use Rattle.entries.proofs.Strips.{strip-at, strip-at-least}
 use Rattle.runs.specs.Run.{runKey, runPixels, runCount, joined}
 

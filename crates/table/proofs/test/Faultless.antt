@@ -11,7 +11,7 @@ use borrow.Author.Tests.{lt-leb, leb-false, ne-eqb, eqb-false}
 use Rattle.number.specs.{howMany}
 use Rattle.number.proofs.Cases.{bool}
 use Rattle.number.proofs.Counts.{howMany-none, none-howMany}
-use Rattle.colour.specs.Key.{mostKey}
+use Rattle.colour.specs.{mostKey}
 use Rattle.entries.specs.{entries, sound}
 use Rattle.entries.proofs.Slices.{keys-rise, keys-are-keys}
 use Rattle.entries.proofs.Rows.{sound-of-rows, weights-some}

@@ -7,8 +7,7 @@ use native.Mathlib.Omega.{arith}
 use lib.ListN.{length, getD, take}
 use denote.Ref.{now}
 use borrow.Author.Needs.{needs}
-use Rattle.entries.specs.Content.{Entry, entries, keysInto, weightsInto}
-use Rattle.entries.specs.Adding.{putAll}
+use Rattle.entries.specs.{Entry, entries, keysInto, weightsInto, putAll}
 use Rattle.entries.proofs.Slices.{keys-in-order, entries-length}
 use Rattle.adding.specs.Walk.{giveBack}
 use Rattle.adding.specs.Trying.{piece}

@@ -5,7 +5,7 @@ use Prim.Native.Nat.{_*_}
 use native.Mathlib.Omega.{arith}
 use denote.Ref.{now}
 use borrow.Author.Needs.{needs}
-use Rattle.entries.specs.Strip.{keyAt}
+use Rattle.entries.specs.{keyAt}
 use Rattle.entries.proofs.Strips.{strip-one}
 use Rattle.adding.specs.Trying.{piece}
 use Rattle.adding.proofs.chunk.add_one.Statement.{statement}
