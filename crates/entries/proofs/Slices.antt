@@ -5,12 +5,11 @@ use mathlib.Core.List.{List, [], _∷_, _++_, map}
 use Prim.Native.Nat.{ℕ, zero, suc, _+_, _-_, _≤_, _<_}
 use native.Mathlib.Omega.{arith}
 use native.Mathlib.Nat.{le-of-suc-le-suc, not-suc-le-zero}
-use native.Mathlib.Numerals.{add-one}
-use lib.ListN.{length, getD, take, drop, length-append, length-drop, length-map, drop-of-length-le}
+use lib.ListN.{length, getD, take, drop, length-append, length-drop, length-map, take-append-drop}
 use lib.Seq.{getD-take, drop-drop, drop-at}
 use Rattle.number.proofs.Cases.{cmp, lt, eq, gt}
 use Rattle.colour.specs.{mostKey}
-use Rattle.entries.specs.Content.{Entry, entry, keysOf, weightsOf, entries, sound}
+use Rattle.entries.specs.Content.{Entry, keysOf, weightsOf, entries, keysInto, weightsInto, sound}
 use Rattle.entries.proofs.Sounds.{sound-rises, sound-keys}
 
 -- ---- reading
@@ -38,26 +37,6 @@ entries-weights (suc n) [] ws a b = absurd (not-suc-le-zero a)
 entries-weights (suc n) (k ∷ ks) [] a b = refl
 entries-weights (suc n) (k ∷ ks) (w ∷ ws) a b =
     ap (λ (r : List ℕ). w ∷ r) (entries-weights n ks ws (le-of-suc-le-suc a) (le-of-suc-le-suc b))
-
--- the entries from place i on begin with the entry of place i
-entries-drop-suc : (i n : ℕ) (ks ws : List ℕ) → i < n → n ≤ length ks → n ≤ length ws
-    → drop i (entries n ks ws) ≡ entry (getD ks i 0) (getD ws i 0) ∷ drop (suc i) (entries n ks ws)
-entries-drop-suc i zero ks ws h a b = absurd (not-suc-le-zero h)
-entries-drop-suc i (suc n) [] ws h a b = absurd (not-suc-le-zero a)
-entries-drop-suc i (suc n) (k ∷ ks) [] h a b = absurd (not-suc-le-zero b)
-entries-drop-suc zero (suc n) (k ∷ ks) (w ∷ ws) h a b = refl
-entries-drop-suc (suc i) (suc n) (k ∷ ks) (w ∷ ws) h a b =
-    entries-drop-suc i n ks ws (le-of-suc-le-suc h) (le-of-suc-le-suc a) (le-of-suc-le-suc b)
-
--- the same, counted by + 1
-pub entries-drop : (i n : ℕ) (ks ws : List ℕ) → i < n → n ≤ length ks → n ≤ length ws
-    → drop i (entries n ks ws) ≡ entry (getD ks i 0) (getD ws i 0) ∷ drop (i + 1) (entries n ks ws)
-entries-drop i n ks ws h a b = rw add-one (entries-drop-suc i n ks ws h a b)
-
--- past the last place there are none
-pub entries-end : (n : ℕ) (ks ws : List ℕ) → n ≤ length ks → n ≤ length ws → drop n (entries n ks ws) ≡ []
-entries-end n ks ws a b =
-    drop-of-length-le (entries n ks ws) {i = n} (omega (arith, entries-length n ks ws a b))
 
 -- ---- the keys of a sound table, as they lie
 
@@ -97,6 +76,24 @@ laid-length f es cs h = simp (length-append, length-drop, length-map) (omega ari
 pub laid-kept : (f : Entry → ℕ) (es : List Entry) (cs : List ℕ)
     → drop (length es) (map f es ++ drop (length es) cs) ≡ drop (length es) cs
 laid-kept f es cs = drop-at (map f es) (drop (length es) cs) (length es) (length-map es f)
+
+-- a column of a table read from one slice and laid into another that agrees with it past the table is the first slice
+column-laid : (f : Entry → ℕ) (n : ℕ) (es : List Entry) (cs cs₀ : List ℕ) → length es ≡ n → map f es ≡ take n cs
+    → drop n cs ≡ drop n cs₀ → map f es ++ drop (length es) cs₀ ≡ cs
+column-laid f n es cs cs₀ l e d = rw (l, e, ← d) (take-append-drop n cs)
+
+module _ (n : ℕ) (ks ws : List ℕ) (a : n ≤ length ks) (b : n ≤ length ws) where
+  -- so for the keys of the table in two slices
+  pub keys-laid : (ks₀ : List ℕ) → drop n ks ≡ drop n ks₀ → keysInto (entries n ks ws) ks₀ ≡ ks
+  keys-laid ks₀ =
+      column-laid (λ (e : Entry). e .key) n (entries n ks ws) ks ks₀ (entries-length n ks ws a b)
+      (entries-keys n ks ws a b)
+
+  -- and for its weights
+  pub weights-laid : (ws₀ : List ℕ) → drop n ws ≡ drop n ws₀ → weightsInto (entries n ks ws) ws₀ ≡ ws
+  weights-laid ws₀ =
+      column-laid (λ (e : Entry). e .weight) n (entries n ks ws) ws ws₀ (entries-length n ks ws a b)
+      (entries-weights n ks ws a b)
 
 -- slices that agree from place u on agree from any later place on
 pub drop-later : (u m : ℕ) (a b : List ℕ) → u ≤ m → drop u a ≡ drop u b → drop m a ≡ drop m b

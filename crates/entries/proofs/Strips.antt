@@ -38,15 +38,6 @@ strip-at (suc i) (r ∷ (g ∷ (b ∷ s))) h =
     let z : 3 * suc i ≡ suc (suc (suc (3 * i))) = omega arith in
     rw z (simp (add-one, add-two) at (strip-at i s (omega arith)) ∙ simp (add-one, add-two))
 
--- without its first 3n bytes a strip is without its first n pixels
-pub strip-drop : (n : ℕ) (s : List ℕ) → 3 * n ≤ length s → stripKeys (drop (3 * n) s) ≡ drop n (stripKeys s)
-strip-drop zero s h = refl
-strip-drop (suc n) [] h = absurd (omega arith)
-strip-drop (suc n) (r ∷ []) h = absurd (omega arith)
-strip-drop (suc n) (r ∷ (g ∷ [])) h = absurd (omega arith)
-strip-drop (suc n) (r ∷ (g ∷ (b ∷ s))) h =
-    let z : 3 * suc n ≡ suc (suc (suc (3 * n))) = omega arith in rw z (strip-drop n s (omega arith))
-
 -- strips of whole pixels, joined, have the pixels of one and then of the other
 pub strip-append : (n : ℕ) (s t : List ℕ) → length s ≡ 3 * n → stripKeys (s ++ t) ≡ stripKeys s ++ stripKeys t
 strip-append zero [] t h = refl

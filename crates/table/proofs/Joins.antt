@@ -6,7 +6,7 @@ use mathlib.Core.Logic.{inl, inr}
 use mathlib.Core.List.{List, [], _++_, map}
 use Prim.Native.Nat.{ℕ, _+_, _/_, _%_, _≤_}
 use native.Mathlib.Omega.{arith}
-use lib.ListN.{length, drop, length-append, take-append-drop}
+use lib.ListN.{length, drop, length-append}
 use lib.Dec.{eqb}
 use borrow.Author.Tests.{le-ltb, eq-eqb, eqb-true}
 use Rattle.number.proofs.Cases.{bool, never}
@@ -15,10 +15,9 @@ use Rattle.entries.specs.{Entry, entries, keysInto, weightsInto, weightOf, stri
 use Rattle.entries.proofs.Gives.{putAll-length, putAll-append}
 use Rattle.entries.proofs.Same.{same-table}
 use Rattle.entries.proofs.Slices.{
-  entries-length,
-  entries-keys,
-  entries-weights,
   entries-laid,
+  keys-laid,
+  weights-laid,
   laid-length,
   laid-kept,
   drop-later,
@@ -54,24 +53,15 @@ outcome-all rec ks ws s a =
 
 -- ---- an empty strip
 
--- either column of a table read from its slice and laid into it is the slice
-column-same : (f : Entry → ℕ) (es : List Entry) (n : ℕ) (cs : List ℕ) → length es ≡ n → map f es ≡ lib.ListN.take n cs
-    → map f es ++ drop (length es) cs ≡ cs
-column-same f es n cs l e = rw (l, e) (take-append-drop n cs)
-
 -- no pixel is done, with nothing taken, where the table is good: also with no room and at a full pixel total
 pub empty-strip : (rec : Record) (ks ws : List ℕ) → badTable rec ks ws ≡ false
     → addStrip rec ks ws [] ≡ asItCame done rec ks ws
 empty-strip rec ks ws b =
     let g : Good rec ks ws = good-of-test rec ks ws b in
-    let es : List Entry = entries (rec .used) ks ws in
     let a1 : rec .used ≤ length ks = omega (arith, g .in-room) in
     let a2 : rec .used ≤ length ws = omega (arith, g .in-room) in
-    let n : length es ≡ rec .used = entries-length (rec .used) ks ws a1 a2 in
-    let k : keysInto es ks ≡ ks
-    = column-same (λ (e : Entry). e .key) es (rec .used) ks n (entries-keys (rec .used) ks ws a1 a2) in
-    let w : weightsInto es ws ≡ ws
-    = column-same (λ (e : Entry). e .weight) es (rec .used) ws n (entries-weights (rec .used) ks ws a1 a2) in
+    let k = keys-laid (rec .used) ks ws a1 a2 ks refl in
+    let w = weights-laid (rec .used) ks ws a1 a2 ws refl in
     outcome-done rec ks ws [] refl b refl
     ∙ λ i. record { answer = record { refusal = done; taken = 0; rec = g .is i }; keys = k i; weights = w i }
 

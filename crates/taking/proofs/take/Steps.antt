@@ -96,5 +96,5 @@ module _ {ks₀ ws₀ s : List ℕ} {used room end : ℕ} (a : Able used room ks
     pub steps-full : n ≡ 1 → room < next
         → TookMeets room (entries used ks₀ ws₀) (take end (stripKeys s)) ks₀ ws₀ now taken ks′ ws′
     steps-full z h =
-        taking-full t (omega (arith, length-first)) n z (rw same at (r .used-is)) (rw same at (r .keys-are))
-        (rw same at (r .weights-are)) h
+        taking-full t n (omega (arith, length-first)) (rw same at (r .used-is)) (rw same at (r .keys-are))
+        (rw same at (r .weights-are)) h z

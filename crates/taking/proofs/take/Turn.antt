@@ -14,9 +14,9 @@ use Rattle.entries.specs.{Entry, entries, keysInto, weightsInto, pixelsOf, put,
 use Rattle.entries.proofs.Gives.{Keys, putAll-length, putAll-pixels, putAll-sound}
 use Rattle.entries.proofs.Slices.{
   entries-length,
-  entries-keys,
-  entries-weights,
   entries-laid,
+  keys-laid,
+  weights-laid,
   laid-length,
   laid-kept,
   drop-later,
@@ -54,11 +54,7 @@ taking-start ks ws used room ps t = record {
 
 module _ {ks₀ ws₀ : List ℕ} {used room : ℕ} {ps ks ws : List ℕ} {now taken : ℕ}
     (t : Taking ks₀ ws₀ used room ps ks ws now taken) where
-  -- the table at hand
-  abbrev E : List Entry
-  E = entries now ks ws
-
-  -- it is within the keys
+  -- the table at hand is within the keys
   in-keys : now ≤ length ks
   in-keys = omega (arith, t .table .in-room, t .table .keys-room)
 
@@ -77,15 +73,29 @@ module _ {ks₀ ws₀ : List ℕ} {used room : ℕ} {ps ks ws : List ℕ} {now t
       let e : entries now ks ws ≡ withTaken room (entries used ks₀ ws₀) ps = rw z at (t .table-is) in record {
         taken-is = omega (arith, t .taken-is, z);
         used-is = rw (← e) (sym length-E);
-        keys-are = rw (← e, length-E, ← t .keys-kept, entries-keys now ks ws in-keys in-weights)
-            (sym (take-append-drop now ks));
-        weights-are = rw (← e, length-E, ← t .weights-kept, entries-weights now ks ws in-keys in-weights)
-            (sym (take-append-drop now ws));
+        keys-are = rw (← e) (sym (keys-laid now ks ws in-keys in-weights ks₀ (t .keys-kept)));
+        weights-are = rw (← e) (sym (weights-laid now ks ws in-keys in-weights ws₀ (t .weights-kept)));
       }
 
   -- all pixels are taken
   pub taking-done : length ps ≤ taken → TookMeets room (entries used ks₀ ws₀) ps ks₀ ws₀ now taken ks ws
   taking-done l = taking-stop (rw (drop-of-length-le ps {i = taken} l))
+
+  -- ---- the next pixel alone
+
+  module _ (l : taken < length ps) where
+    -- it is the first of those left
+    one : take 1 (drop taken ps) ≡ getD ps taken 0 ∷ []
+    one = rw (drop-cons ps taken 0 l)
+
+    -- where the table with it has more entries than the room, the answer is what is there
+    taking-at : room < length (put (getD ps taken 0) (entries now ks ws))
+        → TookMeets room (entries used ks₀ ws₀) ps ks₀ ws₀ now taken ks ws
+    taking-at h =
+        let s : stops room (entries now ks ws) (getD ps taken 0) ≡ true
+        = stops-at-room room (entries now ks ws) (getD ps taken 0) (t .table .sounds)
+        (omega (arith, length-E, t .table .in-room)) h in
+        taking-stop (rw (drop-cons ps taken 0 l) (simp s))
 
   -- ---- a turn that tries p pixels
 
@@ -116,34 +126,42 @@ module _ {ks₀ ws₀ : List ℕ} {used room : ℕ} {ps ks ws : List ℕ} {now t
       -- they go in
       module _ (h : now′ ≤ room) (m : pixelsOf (entries used ks₀ ws₀) + (taken + p) ≤ mostPixels)
           (keys : Keys (take p (drop taken ps))) where
+        -- the table with them is within the room
         opens : leb (length F) room ≡ true
         opens = rw (← un) (le-leb now′ room h)
 
-        keys-laid : ks′ ≡ keysInto F ks
-        keys-laid = uk ∙ simp opens
+        -- so the keys are laid
+        keys-in : ks′ ≡ keysInto F ks
+        keys-in = uk ∙ simp opens
 
-        weights-laid : ws′ ≡ weightsInto F ws
-        weights-laid = uw ∙ simp opens
+        -- and the weights
+        weights-in : ws′ ≡ weightsInto F ws
+        weights-in = uw ∙ simp opens
 
+        -- and it is read back
         read : entries now′ ks′ ws′ ≡ F
-        read = rw (un, keys-laid, weights-laid) (entries-laid _ _ _)
+        read = rw (un, keys-in, weights-in) (entries-laid _ _ _)
 
+        -- the slices are as long as before
         keys-same : length ks′ ≡ length ks
         keys-same =
-            rw keys-laid (laid-length (λ (e : Entry). e .key) F ks (omega (arith, un, h, t .table .keys-room)))
+            rw keys-in (laid-length (λ (e : Entry). e .key) F ks (omega (arith, un, h, t .table .keys-room)))
 
         weights-same : length ws′ ≡ length ws
         weights-same =
-            rw weights-laid (laid-length (λ (e : Entry). e .weight) F ws (omega (arith, un, h, t .table .weights-room)))
+            rw weights-in (laid-length (λ (e : Entry). e .weight) F ws (omega (arith, un, h, t .table .weights-room)))
 
+        -- all of them are taken
         all-taken : takenOf room (entries now ks ws) (take p (drop taken ps)) ≡ length (take p (drop taken ps))
         all-taken =
             fits-taken room (entries now ks ws) keys (t .table .sounds) (omega (arith, un, h))
             (omega (arith, pixels-F, m))
 
+        -- no entry is lost
         grows : now ≤ now′
         grows = omega (arith, putAll-length (entries now ks ws) (take p (drop taken ps)), length-E, un)
 
+        -- the loop goes on with them in the table
         pub taking-in : Taking ks₀ ws₀ used room ps ks′ ws′ now′ (taken + p)
         taking-in = record {
           table = record {
@@ -165,47 +183,32 @@ module _ {ks₀ ws₀ : List ℕ} {used room : ℕ} {ps ks ws : List ℕ} {now t
           table-is = rw read
               (sym (withTaken-append room (entries now ks ws) C (drop (taken + p) ps) all-taken)
               ∙ (rw parts at (t .table-is)));
-          keys-kept = rw (un, keys-laid) (laid-kept (λ (e : Entry). e .key) F ks)
+          keys-kept = rw (un, keys-in) (laid-kept (λ (e : Entry). e .key) F ks)
               ∙ drop-later now now′ ks ks₀ grows (t .keys-kept);
-          weights-kept = rw (un, weights-laid) (laid-kept (λ (e : Entry). e .weight) F ws)
+          weights-kept = rw (un, weights-in) (laid-kept (λ (e : Entry). e .weight) F ws)
               ∙ drop-later now now′ ws ws₀ grows (t .weights-kept);
         }
 
       -- they do not go in, and all is as it was
       module _ (h : room < now′) where
+        -- the table with them is beyond the room
         shuts : leb (length F) room ≡ false
         shuts = rw (← un) (lt-leb now′ room h)
 
+        -- both slices are as they were
+        keys-as-they-were : ks′ ≡ ks
+        keys-as-they-were = uk ∙ simp shuts
+
+        weights-as-they-were : ws′ ≡ ws
+        weights-as-they-were = uw ∙ simp shuts
+
+        -- so the turn changed nothing
         pub taking-out : Taking ks₀ ws₀ used room ps ks′ ws′ now taken
-        taking-out =
-            let k : ks′ ≡ ks = uk ∙ simp shuts in let w : ws′ ≡ ws = uw ∙ simp shuts in rw (k, w) t
+        taking-out = rw (keys-as-they-were, weights-as-they-were) t
 
-  -- where a pixel alone does not go in, that is the end
-  module _ (l : taken < length ps) where
-    -- the next pixel alone
-    one : take 1 (drop taken ps) ≡ getD ps taken 0 ∷ []
-    one = rw (drop-cons ps taken 0 l)
-
-    -- where the table with it has more entries than the room, the answer is what is there
-    taking-at : room < length (put (getD ps taken 0) (entries now ks ws))
-        → TookMeets room (entries used ks₀ ws₀) ps ks₀ ws₀ now taken ks ws
-    taking-at h =
-        let s : stops room (entries now ks ws) (getD ps taken 0) ≡ true
-        = stops-at-room room (entries now ks ws) (getD ps taken 0) (t .table .sounds)
-        (omega (arith, length-E, t .table .in-room)) h in
-        taking-stop (rw (drop-cons ps taken 0 l) (simp s))
-
--- the same, of what a turn left
-pub taking-full : {ks₀ ws₀ : List ℕ} {used room : ℕ} {ps ks ws : List ℕ} {now taken : ℕ}
-    → Taking ks₀ ws₀ used room ps ks ws now taken → (l : taken < length ps) → {ks′ ws′ : List ℕ} {now′ : ℕ} (p : ℕ)
-    → p ≡ 1 → now′ ≡ length (putAll (entries now ks ws) (take p (drop taken ps)))
-    → ks′ ≡ laidKeys room (putAll (entries now ks ws) (take p (drop taken ps))) ks
-    → ws′ ≡ laidWeights room (putAll (entries now ks ws) (take p (drop taken ps))) ws
-    → room < now′ → TookMeets room (entries used ks₀ ws₀) ps ks₀ ws₀ now taken ks′ ws′
-taking-full {ks₀} {ws₀} {used} {room} {ps} {ks} {ws} {now} {taken} t l {ks′} {ws′} {now′} p z un uk uw h =
-    let b : leb (length (putAll (entries now ks ws) (take p (drop taken ps)))) room ≡ false
-    = rw (← un) (lt-leb now′ room h) in
-    let k : ks′ ≡ ks = uk ∙ simp b in
-    let w : ws′ ≡ ws = uw ∙ simp b in
-    let n : room < length (putAll (entries now ks ws) (take p (drop taken ps))) = rw (← un) h in
-    rw (k, w) (taking-at t l (rw (z, one t l) at n))
+        -- and where one pixel was tried, that is the end
+        pub taking-full : p ≡ 1 → TookMeets room (entries used ks₀ ws₀) ps ks₀ ws₀ now taken ks′ ws′
+        taking-full z =
+            let n : room < length F = rw (← un) h in
+            let l′ : taken < length ps = omega arith in
+            rw (keys-as-they-were, weights-as-they-were) (taking-at l′ (rw (z, one l′) at n))

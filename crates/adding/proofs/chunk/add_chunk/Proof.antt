@@ -2,14 +2,14 @@
 -- or are merged.
 use mathlib.Core.Path.{_≡_, ap, _∙_}
 use mathlib.Core.List.{List}
-use Prim.Native.Nat.{ℕ, _≤_, _<_}
+use Prim.Native.Nat.{ℕ, _≤_}
 use native.Mathlib.Omega.{arith}
-use lib.ListN.{length, getD, take}
+use lib.ListN.{length, take}
 use denote.Ref.{now}
 use borrow.Author.Needs.{needs}
 use Rattle.entries.specs.{Entry, entries, keysInto, weightsInto, putAll}
 use Rattle.entries.proofs.Slices.{keys-in-order, entries-length}
-use Rattle.adding.specs.Walk.{giveBack}
+use Rattle.adding.specs.Walk.{giveBack, InOrder}
 use Rattle.adding.specs.Trying.{piece}
 use Rattle.adding.proofs.merge.Backs.{back-length-le}
 use Rattle.adding.proofs.chunk.Listing.{Listed, list-rises, list-all, piece-pixels, laid-shut, laid-open}
@@ -63,8 +63,7 @@ in-keys c = omega (arith, st c .pre .0 .table .in-room, st c .pre .0 .table .key
 in-weights : (c : tie.After-count-with-arg2) → st c .args .used ≤ length (now (st c .args .weights))
 in-weights c = omega (arith, st c .pre .0 .table .in-room, st c .pre .0 .table .weights-room)
 
-keys-rise : (c : tie.After-count-with-arg2) → (p q : ℕ) → p ≤ q → q < st c .args .used
-    → getD (now (st c .args .keys)) p 0 ≤ getD (now (st c .args .keys)) q 0
+keys-rise : (c : tie.After-count-with-arg2) → InOrder (λ x. x) (st c .args .used) (now (st c .args .keys))
 keys-rise c = keys-in-order (st c .args .used) (now (st c .args .keys)) (now (st c .args .weights)) (in-keys c)
     (in-weights c) (st c .pre .0 .table .sounds)
 
