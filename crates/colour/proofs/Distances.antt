@@ -29,6 +29,11 @@ pub distance-zero : (p q : Point) → distance p q ≡ 0 → (p .r ≡ q .r) × 
 unfolding distance
 distance-zero p q e = (sq-zero _ _ (omega arith), sq-zero _ _ (omega arith), sq-zero _ _ (omega arith))
 
+-- points at distance 0 from each other are as far from any point
+pub as-far : (c p q : Point) → distance p q ≡ 0 → distance c p ≡ distance c q
+unfolding distance
+as-far c p q e = let z = distance-zero p q e in rw (z .0, z .1, z .2)
+
 -- points with no coordinate above m are at most three squares of m apart
 pub distance-within : (m : ℕ) (p q : Point) → Within m p → Within m q → distance p q ≤ 3 * (m * m)
 unfolding distance

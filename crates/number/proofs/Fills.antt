@@ -51,3 +51,36 @@ fill-suc (suc n) f (x ∷ d) h = ap {B = List ℕ} (λ t. f zero ∷ t) (fill-su
 -- a store at the first place past the filled ones fills one place more
 pub fill-more : (n : ℕ) (f : ℕ → ℕ) (d : List ℕ) → n < length d → set (fill n f d) n (f n) ≡ fill (n + 1) f d
 fill-more n f d h = rw (add-one n) (fill-suc n f d h)
+
+-- filled twice is filled once, by the second
+pub fill-again : (n : ℕ) (f g : ℕ → ℕ) (d : List ℕ) → fill n f (fill n g d) ≡ fill n f d
+unfolding fill
+fill-again zero f g d = refl
+fill-again (suc n) f g [] = refl
+fill-again (suc n) f g (x ∷ d) =
+    ap {B = List ℕ} (λ l. f zero ∷ l) (fill-again n (λ i. f (suc i)) (λ i. g (suc i)) d)
+
+-- a list that holds the values already stays
+pub fill-self : (n : ℕ) (f : ℕ → ℕ) (d : List ℕ) → ((i : ℕ) → i < n → getD d i 0 ≡ f i) → fill n f d ≡ d
+unfolding fill
+fill-self zero f d e = refl
+fill-self (suc n) f [] e = refl
+fill-self (suc n) f (x ∷ d) e =
+    rw (← e zero (omega arith))
+    (ap {B = List ℕ} (λ l. x ∷ l) (fill-self n (λ i. f (suc i)) d (λ i l. e (suc i) (omega arith))))
+
+-- values that agree fill alike
+pub fill-same : (n : ℕ) (f g : ℕ → ℕ) (d : List ℕ) → ((i : ℕ) → i < n → f i ≡ g i) → fill n f d ≡ fill n g d
+unfolding fill
+fill-same zero f g d e = refl
+fill-same (suc n) f g [] e = refl
+fill-same (suc n) f g (x ∷ d) e =
+    rw (e zero (omega arith))
+    (ap {B = List ℕ} (λ l. g zero ∷ l)
+    (fill-same n (λ i. f (suc i)) (λ i. g (suc i)) d (λ i l. e (suc i) (omega arith))))
+
+-- of no places none is filled
+pub fill-nil : (n : ℕ) (f : ℕ → ℕ) → fill n f [] ≡ []
+unfolding fill
+fill-nil zero f = refl
+fill-nil (suc n) f = refl

@@ -6,10 +6,18 @@ pub mod Sums
 pub mod ListSums
 -- Laws of counts: one place more, and no more than the places.
 pub mod Counts
+-- Counts of tests that agree, of places in a row, of all, of some, of all but one.
+pub mod Tallies
 -- Laws of filled lists: length, what a place holds, one store more.
 pub mod Fills
+-- A part of a list: what its places hold, and a list filled part by part.
+pub mod Parts
 -- Searches: the first best of places is one only, and `firstBest` is it, over any order.
 pub mod Searches
+-- The lesser, the greater, the greatest, and its first place.
+pub mod Peaks
+-- The first place that passes a test.
+pub mod Firsts
 -- The squared difference without a difference, and its bounds.
 pub mod Squares
 -- The cost of a whole shade in two parts, and Cauchy's inequality.

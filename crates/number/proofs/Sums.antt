@@ -3,11 +3,15 @@
 -- the summand will do.
 use mathlib.Core.Path.{_≡_, refl, ap}
 use mathlib.Core.Logic.{⊎-elim}
+use mathlib.Core.Bool.{cond}
 use Prim.Native.Nat.{ℕ, zero, suc, _+_, _*_, _≤_, _<_}
 use native.Mathlib.Nat.{le-suc-iff}
 use native.Mathlib.Numerals.{add-one}
 use native.Mathlib.Omega.{arith}
+use native.Mathlib.Decide.{decLt}
 use lib.Arith.{le-zero}
+use lib.Dec.{eqb}
+use borrow.Author.Tests.{eq-eqb, ne-eqb}
 use Rattle.number.specs.Sum.{sum}
 
 -- ---- one place more, and fewer places
@@ -88,3 +92,24 @@ pub sum-front : (n : ℕ) (f : ℕ → ℕ) → sum (suc n) f ≡ f 0 + sum n (�
 unfolding sum
 sum-front zero f = omega arith
 sum-front (suc n) f = omega (arith, sum-front n f)
+
+-- ---- one place of many
+
+-- a sum that lets no place below n through is 0
+sum-past : (n a : ℕ) (f : ℕ → ℕ) → n ≤ a → sum n (λ j. cond (eqb a j) (f j) 0) ≡ 0
+unfolding sum
+sum-past zero a f h = refl
+sum-past (suc n) a f h =
+    rw (ne-eqb a n (λ z. omega arith)) (omega (arith, sum-past n a f (omega arith)))
+
+-- a sum that lets one place through is that place's value
+pub sum-only : (n a : ℕ) (f : ℕ → ℕ) → a < n → sum n (λ j. cond (eqb a j) (f j) 0) ≡ f a
+unfolding sum
+sum-only zero a f h = absurd (omega arith)
+sum-only (suc n) a f h =
+    elim (decLt a n) [
+      | yes l ↦ rw (ne-eqb a n (λ z. omega arith)) (omega (arith, sum-only n a f l))
+      | no l ↦
+          let e : a ≡ n = omega arith in
+          rw (eq-eqb a n e) (omega (arith, sum-past n a f (omega arith), ap f e))
+    ]

@@ -5,6 +5,9 @@
 --   fill n f d        the list d with f 0 .. f (n - 1) in front, the rest kept
 --   firstBest t n f   the lowest place below n with the best value, `t a b` saying that a is better
 --   least, most       firstBest for the least and for the greatest value
+--   lesserOf, greaterOf   the lesser and the greater of two numbers
+--   peak n f          the greatest value below n
+--   firstThat n b     the lowest place below n that passes the test b, n where none does
 --   Best              a place is the first best of a set of places
 --   Order             a test and the relation it decides, fit for a search
 --   gap, sq           the difference of two numbers either way round, and its square
@@ -21,7 +24,7 @@ pub mod Groups
 unfoldable pub use Sum.{sum, sumOf}
 unfoldable pub use Count.{howMany}
 unfoldable pub use Fill.{fill}
-unfoldable pub use Search.{firstBest, least, most}
+unfoldable pub use Search.{firstBest, least, most, lesserOf, greaterOf, peak, firstThat}
 pub use Search.{Best, Order}
 unfoldable pub use Square.{gap, sq}
 unfoldable pub use Groups.{W, S, Q, cost, roundedMean, scale}

@@ -1,5 +1,5 @@
 -- Searching places for the best value: the lowest place wins a tie. Which of two values is better is a parameter,
--- so that "nearest" and "farthest" are one search.
+-- so that "nearest" and "farthest" are one search. Then the values themselves, and the first place that passes a test.
 use Prim.Native.Nat.{ℕ, zero, suc, _<_}
 use mathlib.Core.Path.{_≡_}
 use mathlib.Core.Bool.{Bool, true, false, cond}
@@ -33,3 +33,21 @@ pub record Order (better : ℕ → ℕ → Bool) (Beats : ℕ → ℕ → Type 0
   pub one-way : (a b : ℕ) → Beats a b → ¬ Beats b a
   pub past-right : (a b c : ℕ) → Beats a b → ¬ Beats c b → Beats a c
   pub past-left : (a b c : ℕ) → Beats a b → ¬ Beats a c → Beats c b
+
+-- the lesser of two numbers
+abbrev pub lesserOf : ℕ → ℕ → ℕ
+lesserOf a b = cond (ltb b a) b a
+
+-- the greater of two numbers
+abbrev pub greaterOf : ℕ → ℕ → ℕ
+greaterOf a b = cond (ltb b a) a b
+
+-- the greatest value below n; 0 where n is 0
+unfoldable pub peak : ℕ → (ℕ → ℕ) → ℕ
+peak zero f = zero
+peak (suc n) f = greaterOf (peak n f) (f n)
+
+-- the lowest place below n that passes the test b; n where none does
+unfoldable pub firstThat : ℕ → (ℕ → Bool) → ℕ
+firstThat zero b = zero
+firstThat (suc n) b = cond (ltb (firstThat n b) n) (firstThat n b) (cond (b n) n (suc n))

@@ -4,3 +4,5 @@ pub mod Promises
 pub mod Numbers
 -- What `firstOf` answers, from what its rows say.
 pub mod Order
+-- The outcome of a call that refuses by an order.
+pub mod Outcomes

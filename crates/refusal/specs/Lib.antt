@@ -4,6 +4,7 @@
 --   done               0, the answer where nothing is refused
 --   Row, row t r       a row of an order: the test t, and the refusal r given where it holds
 --   firstOf rows       the number of the first row whose test holds; done where none does
+--   outcomeOf rows made refused   the outcome of a call: `made`, or what `refused` says for that number
 --   Given rows r       r is the refusal of the first row whose test holds
 --   NoneHolds rows     no row's test holds
 pub mod Numbers
@@ -27,5 +28,5 @@ pub use Numbers.{
   BAD-DEPTH,
   BAD-RASTER,
 }
-unfoldable pub use Order.{row, firstOf, Given, NoneHolds}
+unfoldable pub use Order.{row, firstOf, outcomeOf, Given, NoneHolds}
 pub use Order.{Row}

@@ -5,6 +5,7 @@ use mathlib.Core.Path.{_≡_}
 use mathlib.Core.Bool.{Bool, true, false, cond}
 use mathlib.Core.List.{List, [], _∷_}
 use mathlib.Core.Logic.{_⊎_}
+use lib.Dec.{eqb}
 use Rattle.refusal.specs.Numbers.{Refusal, numberOf, done}
 
 -- a row of the table of refusals: the test, which is its "exactly when", and the refusal
@@ -20,6 +21,11 @@ row test refusal = record { when = test; gives = refusal }
 abbrev pub firstOf : List Row → ℕ
 firstOf [] = done
 firstOf (r ∷ rows) = cond (r .when) (numberOf (r .gives)) (firstOf rows)
+
+-- the outcome of a call that refuses by these rows: where no test holds what is `made`, else what `refused` says for
+-- the number of the first row whose test holds
+abbrev pub outcomeOf : {A : Type 0} → List Row → A → (ℕ → A) → A
+outcomeOf rows made refused = cond (eqb (firstOf rows) done) made (refused (firstOf rows))
 
 -- this refusal is that of the first row whose test holds: the row's test holds, and no test of a row before it does
 abbrev pub Given : List Row → Refusal → Type 0

@@ -1,0 +1,3 @@
+-- The laws of mean.rt.
+-- The loop over the whole table.
+pub mod Totals

@@ -1,0 +1,74 @@
+-- `move_shades` fills in where each coordinate goes, from first to last.
+use Prim.Native.Nat.{_-_, _*_, _≤_}
+use mathlib.Core.Path.{_≡_, refl, ap, _∙_}
+use native.Mathlib.Nat.{le-refl}
+use native.Mathlib.Omega.{arith}
+use lib.ListN.{length}
+use Rattle.number.specs.{fill}
+use Rattle.number.proofs.Fills.{fill-more, fill-length, fill-kept}
+use Rattle.moves.specs.Reading.{goes}
+use Rattle.moves.proofs.step.move_shades.Statement.{statement}
+use Rattle.moves.proofs.step.move_shades.Tie as tie
+
+abbrev Inv-loop : tie.InvT-loop
+Inv-loop t k s₀ end n₀ s n = (n ≤ end) × (s ≡ fill n (goes t s₀) s₀)
+
+abbrev μ-loop : tie.MeasureT-loop
+μ-loop t k s₀ end n₀ s n = end - n
+
+mul-end : tie.Need-mul-end Inv-loop μ-loop
+mul-end c = omega arith
+
+loop-holds : tie.Need-loop-holds Inv-loop μ-loop
+unfolding fill
+loop-holds c = (omega arith, refl)
+
+new-coordinate-requires : tie.Need-new-coordinate-requires Inv-loop μ-loop
+new-coordinate-requires c κs =
+    let p = c .before .before .before .before .pre in
+    (p .0, omega arith, rw (c .before .before .loop .inv .1, fill-length) (omega arith))
+
+mul-s : tie.Need-mul-s Inv-loop μ-loop
+mul-s c = omega arith
+
+slice-write-s : tie.Need-slice-write-s Inv-loop μ-loop
+slice-write-s c = rw (c .before .before .before .loop .inv .1, fill-length) (omega arith)
+
+add-n : tie.Need-add-n Inv-loop μ-loop
+add-n c = omega arith
+
+loop-less : tie.Need-loop-less Inv-loop μ-loop
+loop-less c = omega arith
+
+loop-again : tie.Need-loop-again Inv-loop μ-loop
+loop-again c =
+    let l = c .before .before .before .loop in (
+      omega arith,
+      rw (c .new-coordinate .ensures, l .inv .1, fill-kept (l .n) _ _ _ (le-refl _))
+          (fill-more (l .n) _ _ (omega arith)),
+    )
+
+same-length : tie.Need-same-length Inv-loop μ-loop
+same-length c = ap length (c .before .loop .inv .1) ∙ fill-length _ _ _
+
+returns : tie.Need-returns Inv-loop μ-loop
+returns c =
+    let e : c .before .loop .n ≡ 3 * c .before .before .before .args .k = omega arith in
+    rw e at (c .before .loop .inv .1)
+
+pub move-shades-spec : {M : Type 1} → statement M
+move-shades-spec =
+    tie.close
+    (tie.spec
+    Inv-loop
+    μ-loop
+    mul-end
+    loop-holds
+    new-coordinate-requires
+    mul-s
+    slice-write-s
+    add-n
+    loop-less
+    loop-again
+    same-length
+    returns)

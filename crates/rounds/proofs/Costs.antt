@@ -1,0 +1,121 @@
+-- What a shade costs weighted colours: the laws of one coordinate, added up over the three.
+use mathlib.Core.Path.{_≡_, refl, ap, _∙_}
+use Prim.Native.Nat.{ℕ, zero, suc, _+_, _-_, _*_, _≤_, _<_}
+use native.Mathlib.Nat.{mul-sub}
+use native.Mathlib.Omega.{arith}
+use borrow.Author.Tests.{eq-eqb, ne-eqb}
+use Rattle.number.specs.{sq, cost}
+use Rattle.number.proofs.Costs.{cauchy, cost-parts}
+use Rattle.number.proofs.Fractions.{fraction-exact, fraction-parts}
+use Rattle.number.proofs.Means.{mean-best, mean-bound, mean-fits}
+use Rattle.number.proofs.Sums.{sum-add, sum-none}
+use Rattle.colour.specs.{Point, Within, distance, mostCoordinate}
+use Rattle.colour.proofs.Distances.{each}
+use Rattle.rounds.specs.Colouring.{Colours, on, pixelsIn, sumsOf, leastOf, costAt, meanOf, drawn}
+use Rattle.rounds.specs.Rounding.{toMean, NoDearer, KeepsGrid}
+
+-- a shade costs what its three coordinates cost
+pub cost-coordinates : (C : Colours) (z : Point)
+    → costAt C z ≡ cost (on (λ p. p .r) C) (z .r) + cost (on (λ p. p .g) C) (z .g) + cost (on (λ p. p .b) C) (z .b)
+unfolding distance
+cost-coordinates C z =
+    sum-add (C .n) _ (λ i. C .w i * (sq (C .c i .r) (z .r) + sq (C .c i .g) (z .g))) _ (λ i l. omega arith)
+    ∙ ap (λ t. t + cost (on (λ p. p .b) C) (z .b)) (sum-add (C .n) _ _ _ (λ i l. omega arith))
+
+module _ (C : Colours) where
+  -- colours that weigh nothing cost nothing
+  pub empty-costs-nothing : pixelsIn C ≡ 0 → (z : Point) → costAt C z ≡ 0
+  empty-costs-nothing e z = sum-none (C .n) (C .w) (λ i. distance (C .c i) z) e
+
+  -- no whole shade costs less than the rounded mean
+  pub mean-costs-least : 0 < pixelsIn C → (z : Point) → costAt C (meanOf C) ≤ costAt C z
+  mean-costs-least pos z =
+      omega (
+        arith,
+        cost-coordinates C z,
+        cost-coordinates C (meanOf C),
+        mean-best (on (λ p. p .r) C) pos (z .r),
+        mean-best (on (λ p. p .g) C) pos (z .g),
+        mean-best (on (λ p. p .b) C) pos (z .b),
+      )
+
+  -- no whole shade costs less than the least, both times W
+  pub cost-at-least : (z : Point) → leastOf C ≤ pixelsIn C * costAt C z
+  cost-at-least z =
+      omega (
+        arith,
+        ap (λ t. pixelsIn C * t) (cost-coordinates C z),
+        each (λ f. cost-parts (on f C) (f z)),
+      )
+
+  -- the rounded mean costs at most the least and three quarters for each pixel, both times 4W
+  pub mean-cost-at-most : 0 < pixelsIn C
+      → 4 * (pixelsIn C * costAt C (meanOf C)) ≤ 4 * leastOf C + 3 * (pixelsIn C * pixelsIn C)
+  mean-cost-at-most pos =
+      omega (
+        arith,
+        ap (λ t. pixelsIn C * t) (cost-coordinates C (meanOf C)),
+        each (λ f. cauchy (on f C)),
+        mean-bound (on (λ p. p .r) C) pos,
+        mean-bound (on (λ p. p .g) C) pos,
+        mean-bound (on (λ p. p .b) C) pos,
+      )
+
+  -- a shade at a / n costs no less than the least, both times W and n²
+  pub fraction-at-least : (n : ℕ) (a : Point) → n * n * leastOf C ≤ pixelsIn C * costAt (drawn n C) a
+  fraction-at-least n a =
+      rw mul-sub
+      (omega (
+        arith,
+        ap (λ t. pixelsIn C * t) (cost-coordinates (drawn n C) a),
+        each (λ f. fraction-parts (on f C) n (f a)),
+      ))
+
+  -- the true mean costs just the least, both times W and W²
+  pub fraction-exactly : pixelsIn C * costAt (drawn (pixelsIn C) C) (sumsOf C) ≡ pixelsIn C * pixelsIn C * leastOf C
+  fraction-exactly =
+      rw mul-sub
+      (omega (
+        arith,
+        ap (λ t. pixelsIn C * t) (cost-coordinates (drawn (pixelsIn C) C) (sumsOf C)),
+        each (λ f. fraction-exact (on f C)),
+      ))
+
+  -- the rounded mean of colours on the grid is on the grid
+  pub mean-within : (m : ℕ) → ((i : ℕ) → Within m (C .c i)) → 0 < pixelsIn C → Within m (meanOf C)
+  mean-within m h pos = record {
+    r-low = mean-fits (on (λ p. p .r) C) pos m (λ i l. h i .r-low);
+    g-low = mean-fits (on (λ p. p .g) C) pos m (λ i l. h i .g-low);
+    b-low = mean-fits (on (λ p. p .b) C) pos m (λ i l. h i .b-low);
+  }
+
+-- ---- Lloyd's rule
+
+-- a shade with a group goes to its rounded mean
+pub to-mean-moves : (q : ℕ) (G : Colours) (z : Point) → 0 < pixelsIn G → toMean q G z ≡ meanOf G
+to-mean-moves q G z pos = rw (ne-eqb (pixelsIn G) 0 (λ e. omega arith))
+
+-- a shade with no group stays
+pub to-mean-stays : (q : ℕ) (G : Colours) (z : Point) → pixelsIn G ≡ 0 → toMean q G z ≡ z
+to-mean-stays q G z e = rw (eq-eqb (pixelsIn G) 0 e)
+
+-- whatever place a shade could have, its group costs no more where Lloyd's rule puts it
+pub to-mean-least : (q : ℕ) (G : Colours) (y z : Point) → costAt G (toMean q G y) ≤ costAt G z
+to-mean-least q G y z = go (pixelsIn G) refl
+  where
+    go : (w : ℕ) → pixelsIn G ≡ w → costAt G (toMean q G y) ≤ costAt G z
+    go zero e = omega (arith, empty-costs-nothing G e (toMean q G y))
+    go (suc w) e = rw (to-mean-moves q G y (omega arith)) (mean-costs-least G (omega arith) z)
+
+-- so it costs the group no more than staying
+pub to-mean-no-dearer : NoDearer toMean
+to-mean-no-dearer = record { no-dearer = λ q G z. to-mean-least q G z z }
+
+-- and keeps to the grid
+pub to-mean-keeps-grid : KeepsGrid toMean
+to-mean-keeps-grid = record { keeps = λ q G z h w. go q G z h w (pixelsIn G) refl }
+  where
+    go : (q : ℕ) (G : Colours) (z : Point) → ((i : ℕ) → Within mostCoordinate (G .c i)) → Within mostCoordinate z
+        → (n : ℕ) → pixelsIn G ≡ n → Within mostCoordinate (toMean q G z)
+    go q G z h w zero e = rw (to-mean-stays q G z e) w
+    go q G z h w (suc n) e = rw (to-mean-moves q G z (omega arith)) (mean-within G mostCoordinate h (omega arith))

@@ -1,0 +1,169 @@
+-- What a round by Lloyd's rule leaves: each shade is the best of the grid for its group and near the least, and where
+-- no shade moved the grouping costs just the round's total.
+use mathlib.Core.Bool.{Bool, true, false, cond, not}
+use mathlib.Core.Path.{_≡_, refl, sym, ap, ap₂, _∙_}
+use Prim.Native.Nat.{ℕ, zero, suc, _*_, _≤_, _<_}
+use native.Mathlib.Decide.{decLt}
+use native.Mathlib.Omega.{arith}
+use lib.Dec.{eqb, ltb}
+use lib.ListN.{getD}
+use borrow.Author.Tests.{ne-eqb}
+use Rattle.number.specs.{sum}
+use Rattle.number.proofs.Counts.{howMany-none}
+use Rattle.number.proofs.Cases.{never}
+use Rattle.number.proofs.Searches.{first-same}
+use Rattle.number.proofs.Sums.{sum-eq, sum-le, sum-zero}
+use Rattle.colour.specs.{Point, distance}
+use Rattle.shades.specs.{shadeAt, samePlace, toShade}
+use Rattle.shades.proofs.Laying.{same-place-is}
+use Rattle.rounds.specs.Colouring.{Colours, pixelsIn, costAt, meanOf, groupOf}
+use Rattle.rounds.specs.Rounding.{
+  Rule,
+  toMean,
+  State,
+  joins,
+  groupIn,
+  totalOf,
+  finalOf,
+  movedTo,
+  movedOf,
+  step,
+  Fit,
+  groupAt,
+  groupCost,
+}
+use Rattle.rounds.specs.Leasts.{Bounded}
+use Rattle.rounds.proofs.Costs.{
+  empty-costs-nothing,
+  cost-at-least,
+  mean-cost-at-most,
+  to-mean-moves,
+  to-mean-least,
+}
+use Rattle.rounds.proofs.Totals.{total-by-groups, group-pixels-same, group-sum-same}
+use Rattle.rounds.proofs.Falls.{
+  member-joined,
+  grouped-below,
+  shade-moved,
+  final-of-groups,
+  total-of-groups,
+}
+
+-- groups by members that agree have one mean
+pub group-mean-same : (C : Colours) (m l : ℕ → ℕ) (q : ℕ) → ((i : ℕ) → i < C .n → m i ≡ l i)
+    → meanOf (groupOf C m q) ≡ meanOf (groupOf C l q)
+group-mean-same C m l q same =
+    rw (
+      group-pixels-same C m l q same,
+      group-sum-same C m l q (λ i. C .c i .r) same,
+      group-sum-same C m l q (λ i. C .c i .g) same,
+      group-sum-same C m l q (λ i. C .c i .b) same,
+    )
+
+-- and go to one place
+pub to-mean-same : (C : Colours) (m l : ℕ → ℕ) (q : ℕ) (z : Point) → ((i : ℕ) → i < C .n → m i ≡ l i)
+    → toMean q (groupOf C m q) z ≡ toMean q (groupOf C l q) z
+to-mean-same C m l q z same =
+    ap₂ (λ (w : ℕ) (p : Point). cond (eqb w 0) z p) (group-pixels-same C m l q same) (group-mean-same C m l q same)
+
+-- a group that weighs nothing is bounded, wherever its shade is
+empty-bounded : (G : Colours) (z : Point) → pixelsIn G ≡ 0 → Bounded G (costAt G z)
+empty-bounded G z e =
+    let none = empty-costs-nothing G e z in
+    record { at-least = cost-at-least G z; at-most = rw none (omega arith); empty = λ n. none }
+
+module _ (C : Colours) (k : ℕ) (a : State) (f : Fit C k a) where
+  -- each shade stands where Lloyd's rule puts it for its members
+  shade-is : (q : ℕ) → q < k
+      → shadeAt (step toMean C k a .coordinates) q
+      ≡ toMean q (groupAt C (step toMean C k a) q) (shadeAt (a .coordinates) q)
+  shade-is q h =
+      shade-moved C k a f toMean q h
+      ∙ sym (to-mean-same C _ (joins C k (a .coordinates)) q (shadeAt (a .coordinates) q) (member-joined C k a f))
+
+  -- a shade with a group stands on its rounded mean
+  pub shade-on-mean : (q : ℕ) → q < k → 0 < pixelsIn (groupAt C (step toMean C k a) q)
+      → shadeAt (step toMean C k a .coordinates) q ≡ meanOf (groupAt C (step toMean C k a) q)
+  shade-on-mean q h pos =
+      shade-is q h ∙ to-mean-moves q (groupAt C (step toMean C k a) q) (shadeAt (a .coordinates) q) pos
+
+  -- no place is better for its group
+  pub shade-best : (q : ℕ) → q < k → (z : Point)
+      → groupCost C (step toMean C k a) q ≤ costAt (groupAt C (step toMean C k a) q) z
+  shade-best q h z =
+      rw (shade-is q h) (to-mean-least q (groupAt C (step toMean C k a) q) (shadeAt (a .coordinates) q) z)
+
+  -- a number past the shades has no group
+  past-empty : (q : ℕ) → k ≤ q → pixelsIn (groupAt C (step toMean C k a) q) ≡ 0
+  past-empty q h =
+      sum-eq (C .n) _ (λ i. 0)
+      (λ i l. ap (λ t. cond t (C .w i) 0)
+      (ne-eqb (getD (step toMean C k a .members) i 0) q (λ e. omega (arith, grouped-below C k a f i l))))
+      ∙ sum-zero (C .n)
+
+  -- its cost is bounded by the least of fractional shades, from both sides
+  pub shade-bounded : (q : ℕ) → Bounded (groupAt C (step toMean C k a) q) (groupCost C (step toMean C k a) q)
+  shade-bounded q = go (pixelsIn (groupAt C (step toMean C k a) q)) refl (decLt q k)
+    where
+      go : (w : ℕ) → pixelsIn (groupAt C (step toMean C k a) q) ≡ w → Dec (q < k)
+          → Bounded (groupAt C (step toMean C k a) q) (groupCost C (step toMean C k a) q)
+      go zero e h = empty-bounded (groupAt C (step toMean C k a) q) _ e
+      go (suc w) e (yes h) =
+          record {
+            at-least = cost-at-least (groupAt C (step toMean C k a) q) (shadeAt (step toMean C k a .coordinates) q);
+            at-most = rw (shade-on-mean q h (omega arith))
+                (mean-cost-at-most (groupAt C (step toMean C k a) q) (omega arith));
+            empty = λ n. absurd (omega arith);
+          }
+      go (suc w) e (no h) = absurd (omega (arith, past-empty q (omega arith)))
+
+  -- the members against any places of the shades, group by group
+  pub spent-by-groups : (s : ℕ → Point)
+      → sum (C .n) (λ i. C .w i * distance (C .c i) (s (getD (step toMean C k a .members) i 0)))
+      ≡ sum k (λ q. costAt (groupAt C (step toMean C k a) q) (s q))
+  spent-by-groups s =
+      total-by-groups C k (λ i. getD (step toMean C k a .members) i 0) s (grouped-below C k a f)
+
+  -- the final total is the sum of what the groups cost
+  pub final-by-groups : finalOf C (step toMean C k a) ≡ sum k (groupCost C (step toMean C k a))
+  final-by-groups = spent-by-groups (shadeAt (step toMean C k a .coordinates))
+
+  -- no other shades give this grouping a smaller total
+  pub final-least : (s : ℕ → Point)
+      → finalOf C (step toMean C k a)
+      ≤ sum (C .n) (λ i. C .w i * distance (C .c i) (s (getD (step toMean C k a .members) i 0)))
+  final-least s =
+      omega (arith, final-by-groups, spent-by-groups s, sum-le k _ _ (λ q h. shade-best q h (s q)))
+
+-- ---- a round that moves no shade, by any rule
+
+module _ (rule : Rule) (C : Colours) (k : ℕ) (a : State) (f : Fit C k a) (still : movedOf rule C k a ≡ 0) where
+  -- each shade stays
+  pub shade-stays : (q : ℕ) → q < k → movedTo rule C k a q ≡ shadeAt (a .coordinates) q
+  shade-stays q h =
+      same-place-is (movedTo rule C k a q) (shadeAt (a .coordinates) q)
+      (unmoved (samePlace (movedTo rule C k a q) (shadeAt (a .coordinates) q))
+      (howMany-none k (λ p. not (samePlace (movedTo rule C k a p) (shadeAt (a .coordinates) p))) still q h))
+    where
+      unmoved : (t : Bool) → not t ≡ false → t ≡ true
+      unmoved true e = refl
+      unmoved false e = never e
+
+  -- and the grouping costs just the round's total
+  pub still-final : finalOf C (step rule C k a) ≡ totalOf C k a
+  still-final =
+      final-of-groups C k a f rule
+      ∙ sum-eq k _ _ (λ q h. ap (costAt (groupIn C k a q)) (shade-stays q h))
+      ∙ sym (total-of-groups C k a f)
+
+  -- the shades stand where they stood
+  pub still-shades : (q : ℕ) → q < k → shadeAt (step rule C k a .coordinates) q ≡ shadeAt (a .coordinates) q
+  still-shades q h = shade-moved C k a f rule q h ∙ shade-stays q h
+
+  -- and each member is the nearest of them
+  pub still-joined : (i : ℕ) → i < C .n
+      → getD (step rule C k a .members) i 0 ≡ joins C k (step rule C k a .coordinates) i
+  still-joined i h =
+      member-joined C k a f i h
+      ∙ first-same ltb k (toShade (a .coordinates) (C .c i)) (toShade (step rule C k a .coordinates) (C .c i))
+      (λ q l. ap (distance (C .c i)) (sym (still-shades q l)))

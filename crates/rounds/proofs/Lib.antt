@@ -1,0 +1,20 @@
+-- What is shown, in full statements.
+pub mod Promises
+-- What a shade costs weighted colours, and Lloyd's rule.
+pub mod Costs
+-- A total is the sum of what the groups cost; the nearest grouping has the least.
+pub mod Totals
+-- Totals never rise, over any rule that costs a group no more than staying.
+pub mod Falls
+-- The bounds of several groups, added up as a fraction.
+pub mod Bounds
+-- What a round by Lloyd's rule leaves, and a round that moves no shade.
+pub mod Ends
+-- How many rounds a run makes.
+pub mod Runs
+-- What a table's colours are at most.
+pub mod Sizes
+-- The starting shades: read back one by one, on the grid, each next the farthest colour.
+pub mod Startings
+-- The state in which a run begins.
+pub mod Begins

@@ -1,0 +1,92 @@
+-- What is shown of the method, whatever program carries it out: each theorem in full, under a sentence that says it.
+-- W, S1, S2, S3 and Q are `pixelsIn`, `sumsOf` and `squaresOf`; W·Q - (S1² + S2² + S3²) is `leastOf`.
+use Prim.Native.Nat.{ℕ, _+_, _*_, _≤_, _<_}
+use mathlib.Core.List.{List}
+use mathlib.Core.Path.{_≡_}
+use Rattle.number.specs.{sum, sumOf, most, Best}
+use Rattle.number.proofs.Promises.{most-is-best, best-is-most}
+use Rattle.colour.specs.{Point, distance}
+use Rattle.rounds.specs.Colouring.{Colours, Fair, pixelsIn, sumsOf, leastOf, costAt, meanOf, groupOf, drawn}
+use Rattle.rounds.specs.Rounding.{Rule, toMean, NoDearer, KeepsGrid, State, Fit, totalOf, finalOf, after}
+use Rattle.rounds.specs.Starting.{remote}
+use Rattle.rounds.specs.Leasts.{Bounded, SumBounded, leastSum}
+use Rattle.rounds.proofs.Bounds as bounds
+use Rattle.rounds.proofs.Costs as costs
+use Rattle.rounds.proofs.Falls as falls
+use Rattle.rounds.proofs.Totals as totals
+
+-- ---- starting shades
+
+-- The shade after some chosen ones is, of the table's colours, the one whose distance to its nearest chosen shade is
+-- greatest; every colour before it, which has a lower key, is strictly nearer.
+pub next-is-farthest : (n : ℕ) (c : ℕ → Point) (k : ℕ) (s : List ℕ) → 0 < n
+    → Best (λ a b. b < a) (λ i. i < n) (λ i. remote s k (c i)) (most n (λ i. remote s k (c i)))
+    (remote s k (c (most n (λ i. remote s k (c i)))))
+next-is-farthest n c k s h = most-is-best n (λ i. remote s k (c i)) h
+
+-- It is the only such.
+pub farthest-only : (n : ℕ) (c : ℕ → Point) (k : ℕ) (s : List ℕ) → 0 < n → {i d : ℕ}
+    → Best (λ a b. b < a) (λ j. j < n) (λ j. remote s k (c j)) i d → i ≡ most n (λ j. remote s k (c j))
+farthest-only n c k s h b = best-is-most n (λ j. remote s k (c j)) h b
+
+-- ---- totals never rise
+
+-- By any rule that keeps to the grid and costs a group no more than staying, no round's total is above that of the
+-- round before.
+pub rounds-fall : (rule : Rule) (C : Colours) (k : ℕ) (a : State) → KeepsGrid rule → Fair C → Fit C k a
+    → NoDearer rule → (r : ℕ) → totalOf C k (after rule C k a (r + 1)) ≤ totalOf C k (after rule C k a r)
+rounds-fall = falls.rounds-fall
+
+-- And what a round leaves, its grouping against the moved shades, costs no more than its total.
+pub rounds-end : (rule : Rule) (C : Colours) (k : ℕ) (a : State) → KeepsGrid rule → Fair C → Fit C k a
+    → NoDearer rule → (r : ℕ) → finalOf C (after rule C k a (r + 1)) ≤ totalOf C k (after rule C k a r)
+rounds-end = falls.rounds-end
+
+-- Lloyd's rule is such a rule.
+pub to-mean-no-dearer : NoDearer toMean
+to-mean-no-dearer = costs.to-mean-no-dearer
+
+-- It keeps to the grid.
+pub to-mean-keeps-grid : KeepsGrid toMean
+to-mean-keeps-grid = costs.to-mean-keeps-grid
+
+-- ---- a group
+
+-- A total is the sum of what the groups cost.
+pub total-by-groups : (C : Colours) (k : ℕ) (m : ℕ → ℕ) (s : ℕ → Point) → ((i : ℕ) → i < C .n → m i < k)
+    → sum (C .n) (λ i. C .w i * distance (C .c i) (s (m i))) ≡ sum k (λ q. costAt (groupOf C m q) (s q))
+total-by-groups = totals.total-by-groups
+
+-- Wherever a shade could stand, its group costs no more where Lloyd's rule puts it.
+pub to-mean-least : (q : ℕ) (G : Colours) (y z : Point) → costAt G (toMean q G y) ≤ costAt G z
+to-mean-least = costs.to-mean-least
+
+-- A group's cost is never below the least that a fractional shade could give; both sides stand here times W.
+pub cost-at-least : (G : Colours) (z : Point) → leastOf G ≤ pixelsIn G * costAt G z
+cost-at-least = costs.cost-at-least
+
+-- On its rounded mean it is above that by at most three quarters of a squared sixteenth a pixel, both times 4W.
+pub mean-cost-at-most : (G : Colours) → 0 < pixelsIn G
+    → 4 * (pixelsIn G * costAt G (meanOf G)) ≤ 4 * leastOf G + 3 * (pixelsIn G * pixelsIn G)
+mean-cost-at-most = costs.mean-cost-at-most
+
+-- An empty group costs nothing.
+pub empty-costs-nothing : (G : Colours) → pixelsIn G ≡ 0 → (z : Point) → costAt G z ≡ 0
+empty-costs-nothing = costs.empty-costs-nothing
+
+-- Groups that are bounded each are bounded in sum, over any list of them.
+pub sum-bounded : (G : ℕ → Colours) (cost : ℕ → ℕ) (qs : List ℕ) → ((q : ℕ) → Bounded (G q) (cost q))
+    → SumBounded (leastSum G qs) (sumOf (λ q. pixelsIn (G q)) qs) (sumOf cost qs)
+sum-bounded = bounds.sum-bounded
+
+-- ---- fractional shades
+
+-- W times the weighted sum of (n·coordinate - a)² is at least n²·(W·Q - S1² - S2² - S3²): a shade at a / n costs no
+-- less than the least.
+pub fraction-at-least : (G : Colours) (n : ℕ) (a : Point) → n * n * leastOf G ≤ pixelsIn G * costAt (drawn n G) a
+fraction-at-least = costs.fraction-at-least
+
+-- It is equal to it where n is W and each a is its S.
+pub fraction-exactly : (G : Colours)
+    → pixelsIn G * costAt (drawn (pixelsIn G) G) (sumsOf G) ≡ pixelsIn G * pixelsIn G * leastOf G
+fraction-exactly = costs.fraction-exactly

@@ -1,0 +1,82 @@
+-- Glossary.
+--   Colours              a number n of places, each with a weight and a point
+--   coloursOf n ks ws    the table in two slices, by place
+--   pixelsIn C           W, the sum of the weights
+--   sumsOf C             S1, S2, S3, the weighted sums of the coordinates
+--   squaresOf C          Q, the weighted sum of the squared coordinates
+--   squared p            the sum of a point's three squares
+--   leastOf C            W·Q - (S1² + S2² + S3²): W times the least that a fractional shade could cost
+--   costAt C z           what a shade at z costs: the sum of weight times distance
+--   meanOf C             the rounded mean on each coordinate
+--   groupOf C m q        the colours whose member is q; the others weigh nothing
+--   drawn n C            the colours with every coordinate n times as large
+--   on f C               one coordinate of the colours
+--   Fair C               at most 16,777,216 pixels in at most 1,048,576 entries, all on the grid
+--   Tabled n ks ws       what a good table gives for it
+--   Rule, toMean         where a shade goes, given its number, its group and its place; Lloyd's rule
+--   NoDearer rule        it costs the group no more than staying
+--   KeepsGrid rule       it keeps to the grid
+--   State, stateOf       coordinates and members
+--   joins, grouped       the shade that a colour joins; the members after a grouping
+--   groupIn              the group of a shade in a round
+--   totalOf              a round's total, against the shades as they stand
+--   plainDistances, shortDistances   the distances that a plain and a shortened round work out
+--   movedTo, movedOf     where a round moves a shade, and how many it moves
+--   step, after          what one round leaves, and what many leave
+--   quiet                a round moves no shade
+--   finalOf              the members against the shades
+--   groupAt, groupCost   the group of a shade by the members, and what the shade costs it
+--   Fit, Joined          what a round asks of a state, and of its members where it reads them
+--   startsFrom, starts   the starting shades from a first one, and from the table's mean
+--   remote               how far a colour is from its nearest shade
+--   over l d             d with l over its front
+--   begin                the state in which a run begins
+--   roundsMade           the rounds of a run: up to the first quiet one, or the limit
+--   Fraction, plus       a fraction of whole numbers, and a sum of two
+--   leastSum G qs        the least costs of the groups with the numbers qs, added up
+--   Bounded C cost       a cost of at least the least, and at most three quarters a pixel above it
+--   SumBounded           the same of costs added up
+pub mod Colouring
+pub mod Rounding
+pub mod Starting
+pub mod Running
+pub mod Leasts
+pub use Colouring.{Colours, Fair, Tabled}
+unfoldable pub use Colouring.{
+  coloursOf,
+  on,
+  pixelsIn,
+  sumsOf,
+  squaresOf,
+  squared,
+  leastOf,
+  costAt,
+  meanOf,
+  groupOf,
+  drawn,
+}
+pub use Rounding.{State, NoDearer, KeepsGrid, Fit}
+unfoldable pub use Rounding.{
+  Rule,
+  toMean,
+  stateOf,
+  joins,
+  grouped,
+  groupIn,
+  totalOf,
+  plainDistances,
+  shortDistances,
+  movedTo,
+  step,
+  movedOf,
+  after,
+  quiet,
+  finalOf,
+  groupAt,
+  groupCost,
+  Joined,
+}
+unfoldable pub use Starting.{remote, flat, nextShade, startsFrom, starts, over}
+unfoldable pub use Running.{begin, roundsMade}
+pub use Leasts.{Fraction, Bounded, SumBounded}
+unfoldable pub use Leasts.{plus, leastSum}

@@ -1,0 +1,22 @@
+-- A run: where it begins, and how many rounds it makes.
+use Prim.Native.Nat.{ℕ, _+_}
+use mathlib.Core.Bool.{Bool, cond}
+use mathlib.Core.List.{List}
+use lib.Dec.{ltb}
+use lib.ListN.{replicate}
+use Rattle.number.specs.{fill, firstThat}
+use Rattle.shades.specs.{mostCoordinates}
+use Rattle.rounds.specs.Colouring.{Colours}
+use Rattle.rounds.specs.Rounding.{State}
+use Rattle.rounds.specs.Starting.{starts, over}
+
+-- a run begins with the starting shades, zeros past them, and with every colour in shade 0
+abbrev pub begin : Colours → ℕ → List ℕ → State
+begin C k members = record {
+  coordinates = over (starts C k) (replicate mostCoordinates 0);
+  members = fill (C .n) (λ i. 0) members;
+}
+
+-- the rounds made: up to the first that is quiet, and with it; where none below the limit is, as many as the limit
+abbrev pub roundsMade : ℕ → (ℕ → Bool) → ℕ
+roundsMade limit quiet = cond (ltb (firstThat limit quiet) limit) (firstThat limit quiet + 1) limit

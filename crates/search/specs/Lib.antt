@@ -1,0 +1,14 @@
+-- Glossary.
+--   push j n v d        v put in among the n rising values from place j of d
+--   sorted f k d        d with f 0 .. f (k - 1) in front, rising
+--   Row f k r           r 0 .. r (k - 1) are f 0 .. f (k - 1), each as often, rising
+--   rowOf g p j         place j of row p, each row having 64 places
+--   Rows s k g          row p holds the packed distances from shade p to the k shades, rising
+--   Ready               what the shortened search asks
+--   lookedAt            the least packed number so far, with one shade more looked at
+pub mod Sorting
+pub mod Asking
+unfoldable pub use Sorting.{push, sorted, rowOf}
+pub use Sorting.{Row, Rows}
+pub use Asking.{Ready}
+unfoldable pub use Asking.{lookedAt}

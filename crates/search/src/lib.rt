@@ -1,0 +1,22 @@
+// Searching for the nearest shade, in two ways that answer the same: distance and number in one.
+//
+// Calls; none refuses, and what one requires stands above it
+//   fill_rows    for each shade the shades by rising distance   rows.rt
+//   walk         the shortened search, along a row              short.rt
+//   search_all   the plain search, for the colours of a table   full.rt
+//
+// Read next: specs/Lib.antt (what the words mean), proofs/Lib.antt (what is shown).
+
+mod full;
+mod rows;
+mod short;
+
+pub use full::search_all;
+pub use rows::fill_rows;
+pub use short::walk;
+
+// The nearest shade's distance and number in one, and how many distances were worked out.
+pub struct Met {
+    pub best: u32,
+    pub count: u64,
+}

@@ -1,0 +1,93 @@
+-- Shades laid in a list of coordinates and read back, and how far a shade can be.
+use Prim.Native.Nat.{ℕ, zero, suc, _+_, _*_, _/_, _%_, _≤_, _<_}
+use mathlib.Core.Bool.{Bool, true, false, _&&_}
+use mathlib.Core.List.{List, [], _∷_}
+use mathlib.Core.Path.{_≡_, refl, sym, _∙_}
+use native.Mathlib.Omega.{arith}
+use lib.ListN.{length, getD, set}
+use lib.Dec.{eqb}
+use borrow.Author.Tests.{eqb-true, eq-eqb}
+use Rattle.number.proofs.Cases.{never}
+use Rattle.number.proofs.Fills.{fill-at, fill-at-most, fill-length}
+use Rattle.colour.specs.{Point, Within, mostCoordinate, mostDistance}
+use Rattle.colour.proofs.Distances.{distance-most}
+use Rattle.shades.specs.Places.{shadeAt, axis, coordinateOf, laid, putShade, samePlace, OnGrid}
+use Rattle.shades.specs.Distances.{toShade}
+
+-- a shade of coordinates on the grid is on the grid
+pub shade-within : (s : List ℕ) (q : ℕ) → OnGrid s → Within mostCoordinate (shadeAt s q)
+shade-within s q low = record { r-low = low (3 * q); g-low = low (3 * q + 1); b-low = low (3 * q + 2) }
+
+-- and no farther than the greatest distance from any point of the grid
+pub to-shade-most : (s : List ℕ) (c : Point) (q : ℕ) → OnGrid s → Within mostCoordinate c → toShade s c q ≤ mostDistance
+to-shade-most s c q low w = distance-most c (shadeAt s q) w (shade-within s q low)
+
+-- each coordinate of a point is at most what all are
+pub axis-within : (m e : ℕ) (p : Point) → Within m p → axis e p ≤ m
+axis-within m zero p w = w .r-low
+axis-within m (suc zero) p w = w .g-low
+axis-within m (suc (suc e)) p w = w .b-low
+
+-- coordinate e of shade q stands at place 3q + e
+pub coordinate-at : (f : ℕ → Point) (q e : ℕ) → e < 3 → coordinateOf f (3 * q + e) ≡ axis e (f q)
+coordinate-at f q e h =
+    let d : (3 * q + e) / 3 ≡ q = omega arith in
+    let r : (3 * q + e) % 3 ≡ e = omega arith in
+    rw (d, r)
+
+-- the first coordinate of shade q, with nothing added to its place
+pub first-coordinate : (f : ℕ → Point) (q : ℕ) → coordinateOf f (3 * q) ≡ f q .r
+first-coordinate f q =
+    let z : 3 * q ≡ 3 * q + 0 = omega arith in
+    rw z (coordinate-at f q 0 (omega arith))
+
+module _ (k : ℕ) (f : ℕ → Point) (d : List ℕ) where
+  -- a shade that was laid in is read back
+  pub shade-laid : (q : ℕ) → q < k → 3 * k ≤ length d → shadeAt (laid k f d) q ≡ f q
+  shade-laid q h room =
+      rw (
+        fill-at (3 * k) (3 * q) (coordinateOf f) d (omega arith) (omega arith) ∙ first-coordinate f q,
+        fill-at (3 * k) (3 * q + 1) (coordinateOf f) d (omega arith) (omega arith) ∙ coordinate-at f q 1 (omega arith),
+        fill-at (3 * k) (3 * q + 2) (coordinateOf f) d (omega arith) (omega arith) ∙ coordinate-at f q 2 (omega arith),
+      )
+
+  -- coordinates on the grid stay there when shades of the grid are laid in
+  pub laid-low : ((q : ℕ) → Within mostCoordinate (f q)) → OnGrid d → OnGrid (laid k f d)
+  laid-low w low =
+      fill-at-most (3 * k) mostCoordinate (coordinateOf f) d
+      (λ n. axis-within mostCoordinate (n % 3) (f (n / 3)) (w (n / 3))) low
+
+  -- as many coordinates as before
+  pub laid-length : length (laid k f d) ≡ length d
+  laid-length = fill-length (3 * k) (coordinateOf f) d
+
+-- no coordinate is above m, also where one not above m is stored
+set-low : (m : ℕ) (l : List ℕ) (i v : ℕ) → v ≤ m → ((j : ℕ) → getD l j 0 ≤ m) → (j : ℕ) → getD (set l i v) j 0 ≤ m
+set-low m [] i v h low j = low j
+set-low m (x ∷ l) zero v h low zero = h
+set-low m (x ∷ l) zero v h low (suc j) = low (suc j)
+set-low m (x ∷ l) (suc i) v h low zero = low zero
+set-low m (x ∷ l) (suc i) v h low (suc j) = set-low m l i v h (λ n. low (suc n)) j
+
+-- coordinates on the grid stay there when a shade of the grid is stored
+pub put-low : (s : List ℕ) (q : ℕ) (p : Point) → Within mostCoordinate p → OnGrid s → OnGrid (putShade s q p)
+put-low s q p w low =
+    let s₁ = set s (3 * q) (p .r) in
+    set-low mostCoordinate (set s₁ (3 * q + 1) (p .g)) (3 * q + 2) (p .b) (w .b-low)
+    (set-low mostCoordinate s₁ (3 * q + 1) (p .g) (w .g-low)
+    (set-low mostCoordinate s (3 * q) (p .r) (w .r-low) low))
+
+-- a point stands where it stands
+pub same-place-refl : (p : Point) → samePlace p p ≡ true
+same-place-refl p = simp (eq-eqb (p .r) (p .r) refl, eq-eqb (p .g) (p .g) refl, eq-eqb (p .b) (p .b) refl)
+
+both : (a b : Bool) → (a && b) ≡ true → (a ≡ true) × (b ≡ true)
+both true b e = (refl, e)
+both false b e = never (sym e)
+
+-- points with the same coordinates are one point
+pub same-place-is : (p q : Point) → samePlace p q ≡ true → p ≡ q
+same-place-is p q e =
+    let r = both (eqb (p .r) (q .r)) _ e in
+    let g = both (eqb (p .g) (q .g)) _ (r .1) in
+    rw (eqb-true (p .r) (q .r) (r .0), eqb-true (p .g) (q .g) (g .0), eqb-true (p .b) (q .b) (g .1))

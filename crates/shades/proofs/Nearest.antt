@@ -1,0 +1,109 @@
+-- The nearest shade: by the least packed number, and by the shades that the shortened search looks at.
+use Prim.Native.Nat.{ℕ, _+_, _*_, _/_, _%_, _≤_, _<_}
+use mathlib.Core.Bool.{Bool, true, false}
+use mathlib.Core.List.{List}
+use mathlib.Core.Logic.{_⊎_, inl, inr, ⊎-elim}
+use mathlib.Core.Path.{_≡_, refl, sym, _∙_}
+use native.Mathlib.Decide.{decLe, ℕ-discrete}
+use native.Mathlib.Omega.{arith}
+use lib.Dec.{ltb}
+use borrow.Author.Tests.{le-leb, ne-eqb}
+use Rattle.number.specs.{Best}
+use Rattle.number.proofs.Cases.{never}
+use Rattle.number.proofs.Counts.{howMany-at-most}
+use Rattle.number.proofs.Searches.{first-below, first-is-best, best-is-first, best-keep, rising}
+use Rattle.colour.specs.{Point, distance}
+use Rattle.colour.proofs.Distances.{farther}
+use Rattle.shades.specs.Places.{mostShades, shadeAt}
+use Rattle.shades.specs.Distances.{toShade, nearestShade, tried, worked, pack, packedNearest}
+
+-- the nearest of some shades is one of them
+pub nearest-below : (s : List ℕ) (k : ℕ) (c : Point) → 0 < k → nearestShade s k c < k
+nearest-below s k c h = first-below ltb k (toShade s c) h
+
+-- no shade is nearer
+pub nearest-least : (s : List ℕ) (k : ℕ) (c : Point) (q : ℕ) → q < k → toShade s c (nearestShade s k c) ≤ toShade s c q
+nearest-least s k c q h =
+    elim (decLe (toShade s c (nearestShade s k c)) (toShade s c q)) [
+      | yes l ↦ l
+      | no l ↦ absurd (first-is-best rising (toShade s c) k (omega arith) .unbettered q h (omega arith))
+    ]
+
+-- every lower number is farther
+pub nearest-lowest : (s : List ℕ) (k : ℕ) (c : Point) (q : ℕ) → q < nearestShade s k c → 0 < k
+    → toShade s c (nearestShade s k c) < toShade s c q
+nearest-lowest s k c q h some =
+    first-is-best rising (toShade s c) k some .lower q (omega (arith, nearest-below s k c some)) h
+
+-- ---- distance and number in one
+
+module _ (s : List ℕ) (k : ℕ) (c : Point) (some : 0 < k) (few : k ≤ mostShades) where
+  -- the number is read back
+  pub packed-number : packedNearest s k c % mostShades ≡ nearestShade s k c
+  packed-number = omega (arith, nearest-below s k c some)
+
+  -- and the distance
+  pub packed-distance : packedNearest s k c / mostShades ≡ toShade s c (nearestShade s k c)
+  packed-distance = omega (arith, nearest-below s k c some)
+
+  -- no shade has a lower packed number than the nearest
+  pub packed-least : (q : ℕ) → q < k → packedNearest s k c ≤ pack s c q
+  packed-least q h =
+      elim (decLe (nearestShade s k c) q) [
+        | yes l ↦ omega (arith, nearest-least s k c q h)
+        | no l ↦
+            omega (arith, nearest-lowest s k c q (omega arith) some, nearest-below s k c some)
+      ]
+
+  -- whatever packed number of a shade is the least of those looked at, where each shade left out is farther than one
+  -- looked at, is that of the nearest
+  pub packed-only : (n m : ℕ) → n < k → m ≡ pack s c n
+      → ((q : ℕ) → q < k → (m ≤ pack s c q) ⊎ (toShade s c n < toShade s c q)) → m ≡ packedNearest s k c
+  packed-only n m below is low =
+      omega (arith, packed-least n below, at-least (low (nearestShade s k c) (nearest-below s k c some)))
+    where
+      at-least : (m ≤ packedNearest s k c) ⊎ (toShade s c n < toShade s c (nearestShade s k c))
+          → m ≤ packedNearest s k c
+      at-least (inl l) = l
+      at-least (inr l) = absurd (omega (arith, nearest-least s k c n below))
+
+-- ---- the shortened search
+
+module _ (s : List ℕ) (k : ℕ) (c : Point) (p : ℕ) where
+  -- the shades that the shortened search from p looks at: p itself, and each that is tried
+  abbrev pub LookedAt : ℕ → Type 0
+  LookedAt q = (q < k) × ((q ≡ p) ⊎ (tried s c p q ≡ true))
+
+  -- a shade that is not tried is p, or farther from c than p
+  pub untried-farther : (q : ℕ) → tried s c p q ≡ false → (q ≡ p) ⊎ (toShade s c p < toShade s c q)
+  untried-farther q e = go (ℕ-discrete q p) (decLe (distance (shadeAt s p) (shadeAt s q)) (4 * toShade s c p))
+    where
+      go : Dec (q ≡ p) → Dec (distance (shadeAt s p) (shadeAt s q) ≤ 4 * toShade s c p)
+          → (q ≡ p) ⊎ (toShade s c p < toShade s c q)
+      go (yes h) l = inl h
+      go (no h) (yes l) = never (sym (let z : tried s c p q ≡ true = simp (ne-eqb q p h, le-leb _ _ l) in z) ∙ e)
+      go (no h) (no l) = inr (farther (shadeAt s p) (shadeAt s q) c (omega arith))
+
+  -- the first best of the shades looked at is the first best of all
+  pub shortened-is-full : p < k → {m d : ℕ} → Best (λ a b. a < b) LookedAt (toShade s c) m d → m ≡ nearestShade s k c
+  shortened-is-full h {m} {d} b =
+      best-is-first rising (toShade s c) k (omega arith)
+      (best-keep rising b (λ j l. l .0) (λ j l. left-out j l))
+    where
+      near : d ≤ toShade s c p
+      near =
+          elim (decLe d (toShade s c p)) [
+            | yes l ↦ l
+            | no l ↦ absurd (b .unbettered p (h, inl refl) (omega arith))
+          ]
+
+      left-out : (j : ℕ) → j < k → LookedAt j ⊎ (d < toShade s c j)
+      left-out j l = go (tried s c p j) refl
+        where
+          go : (t : Bool) → tried s c p j ≡ t → LookedAt j ⊎ (d < toShade s c j)
+          go true e = inl (l, inr e)
+          go false e = ⊎-elim (λ z. inl (l, inl z)) (λ w. inr (omega (arith, near))) (untried-farther j e)
+
+-- a search works out at most one distance more than there are shades
+pub worked-at-most : (s : List ℕ) (k : ℕ) (c : Point) (p : ℕ) → worked s k c p ≤ k + 1
+worked-at-most s k c p = omega (arith, howMany-at-most k (tried s c p))

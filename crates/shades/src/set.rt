@@ -1,0 +1,17 @@
+// One value in every place of a list's front.
+ghost use mathlib.Core.Path.{_≡_};
+ghost use Prim.Native.Nat.{_≤_};
+ghost use lib.ListN.{length};
+ghost use Rattle.number.specs.{fill};
+
+// Sets the first `n` places, which are required to be there, to `value`; the others stay.
+pub fn set_all(d: &mut [u32], n: usize, value: u32)
+    requires { ⌜ n ≤ length (now d) ⌝ }
+    ensures { λ _. ⌜ now (d .exit) ≡ fill n (λ i. value) (now (d .entry)) ⌝ }
+{
+    let mut i = 0;
+    while i < n {
+        d[i] = value;
+        i += 1;
+    }
+}

@@ -1,0 +1,2 @@
+-- The kept distances are those to the nearest start so far, and the farthest entry by them is the next start.
+pub mod Keeping

@@ -1,0 +1,2 @@
+-- The loops over the kept distances: what holds at each turn.
+pub mod Loops

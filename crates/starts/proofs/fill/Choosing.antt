@@ -1,0 +1,126 @@
+-- Choosing a start from the kept distances, and storing start after start: what holds at each turn.
+use Prim.Native.Nat.{ℕ, suc, _+_, _-_, _*_, _≤_, _<_}
+use mathlib.Core.List.{List}
+use mathlib.Core.Path.{_≡_, refl, sym, ap, _∙_}
+use native.Mathlib.Omega.{arith}
+use lib.ListN.{length, getD}
+use Rattle.number.specs.{fill, peak, most, lesserOf}
+use Rattle.number.proofs.Fills.{fill-length, fill-at, fill-again, fill-same, fill-self}
+use Rattle.number.proofs.Peaks.{peak-same}
+use Rattle.colour.specs.{Point, Within, mostCoordinate, distance}
+use Rattle.shades.specs.{colourAt, putShade}
+use Rattle.rounds.specs.{startsFrom, over}
+use Rattle.rounds.proofs.Startings.{over-length, starts-more}
+use Rattle.starts.specs.Keeping.{shadeFrom, lowered, kept}
+use Rattle.starts.proofs.Keeping.{kept-start, kept-more, start-within, farthest-is-next}
+
+-- ---- choosing a start
+
+-- start number c is to be chosen: the one before it is p, at c = 0 the first, and the distances to the starts before p
+-- are kept in d
+pub record Choosing (ks : List ℕ) (n : ℕ) (m : Point) (c : ℕ) (p : Point) (d : List ℕ) : Type 0 where
+  pub first : Within mostCoordinate m
+  pub room : n ≤ length d
+  pub last : p ≡ shadeFrom m n (colourAt ks) (c - 1)
+  pub same : (i : ℕ) → i < n → getD d i 0 ≡ kept ks n m (c - 1) i
+
+module _ {ks : List ℕ} {n : ℕ} {m : Point} {c : ℕ} {p : Point} {d : List ℕ} (t : Choosing ks n m c p d) where
+  -- the start before is on the grid
+  pub choosing-within : Within mostCoordinate p
+  choosing-within = rw (t .last) (start-within ks n m (t .first) (c - 1))
+
+  -- at c = 0 nothing is lowered, and the first start is chosen
+  pub choosing-first : c ≡ 0 → (m ≡ shadeFrom m n (colourAt ks) c) × (d ≡ fill n (kept ks n m c) d)
+  choosing-first e =
+      let z : c - 1 ≡ c = omega arith in
+      (rw e, sym (fill-self n (kept ks n m c) d (λ i l. t .same i l ∙ ap (λ k. kept ks n m k i) z)))
+
+  -- from there on, the distances lowered to those to p are the ones kept with it
+  lowered-is-kept : ¬ (c ≡ 0) → (i : ℕ) → i < n → lowered ks p d i ≡ kept ks n m c i
+  lowered-is-kept some i l =
+      let e : suc (c - 1) ≡ c = omega arith in
+      rw (t .last)
+      (ap (λ x. lesserOf x (distance (colourAt ks i) (shadeFrom m n (colourAt ks) (c - 1)))) (t .same i l)
+      ∙ sym (kept-more ks n m (c - 1) i) ∙ ap (λ k. kept ks n m k i) e)
+
+  module _ (d′ : List ℕ) (e : d′ ≡ fill n (lowered ks p d) d) where
+    -- where they are stored, each stands at its place
+    lowered-stored : (i : ℕ) → i < n → lowered ks p d i ≡ getD d′ i 0
+    lowered-stored i l = rw e (sym (fill-at n i (lowered ks p d) d l (omega (arith, t .room))))
+
+    -- there is one for each entry
+    pub choosing-room : n ≤ length d′
+    choosing-room = rw (e, fill-length) (t .room)
+
+    -- the greatest of them is the greatest of those stored
+    pub choosing-greatest : peak n (lowered ks p d) ≡ peak n (λ i. getD d′ i 0)
+    choosing-greatest = peak-same n _ _ lowered-stored
+
+    -- they are the distances kept with p
+    pub choosing-distances : ¬ (c ≡ 0) → d′ ≡ fill n (kept ks n m c) d
+    choosing-distances some = e ∙ fill-same n _ _ d (lowered-is-kept some)
+
+    -- and the entry with the greatest is start number c
+    pub choosing-shade : ¬ (c ≡ 0) → colourAt ks (most n (λ i. getD d′ i 0)) ≡ shadeFrom m n (colourAt ks) c
+    choosing-shade some =
+        farthest-is-next ks n m (t .first) c _ some (λ i l. sym (lowered-stored i l) ∙ lowered-is-kept some i l)
+
+-- ---- storing start after start
+
+-- c starts of k are stored in s, which was s₀; the last is p, and the distances to those before it are kept in d,
+-- which was d₀
+pub record Storing (ks : List ℕ) (n : ℕ) (m : Point) (k : ℕ) (s₀ d₀ s d : List ℕ) (p : Point) (c : ℕ) : Type 0 where
+  pub within : c ≤ k
+  pub room : n ≤ length d₀
+  pub last : p ≡ shadeFrom m n (colourAt ks) (c - 1)
+  pub shades : s ≡ over (startsFrom m n (colourAt ks) c) s₀
+  pub distances : d ≡ fill n (kept ks n m (c - 1)) d₀
+
+-- none is stored
+pub storing-start : (ks : List ℕ) (n : ℕ) (m : Point) (k : ℕ) (s d e : List ℕ) → d ≡ fill n (λ i. 4294967295) e
+    → n ≤ length e → Storing ks n m k s d s d m 0
+unfolding startsFrom over
+storing-start ks n m k s d e set room =
+    record {
+      within = omega arith;
+      room = rw (set, fill-length) room;
+      last = refl;
+      shades = refl;
+      distances = kept-start ks n m d e set;
+    }
+
+module _ {ks : List ℕ} {n : ℕ} {m : Point} {k : ℕ} {s₀ d₀ s d : List ℕ} {p : Point} {c : ℕ}
+    (t : Storing ks n m k s₀ d₀ s d p c) where
+  -- as many coordinates as before
+  pub storing-coordinates : length s ≡ length s₀
+  storing-coordinates = ap length (t .shades) ∙ over-length _ _
+
+  -- a member for each entry
+  pub storing-room : n ≤ length d
+  storing-room = rw (t .distances, fill-length) (t .room)
+
+  -- the distances that are kept, one by one
+  pub storing-same : (i : ℕ) → i < n → getD d i 0 ≡ kept ks n m (c - 1) i
+  storing-same i l = rw (t .distances) (fill-at n i (kept ks n m (c - 1)) d₀ l (omega (arith, t .room)))
+
+  -- start number c is stored
+  pub storing-step : c < k → 3 * k ≤ length s₀ → (s′ d′ : List ℕ) (p′ : Point) → p′ ≡ shadeFrom m n (colourAt ks) c
+      → s′ ≡ putShade s c p′ → d′ ≡ fill n (kept ks n m c) d → Storing ks n m k s₀ d₀ s′ d′ p′ (c + 1)
+  storing-step l room s′ d′ p′ ep es ed =
+      let z : c + 1 - 1 ≡ c = omega arith in
+      record {
+        within = omega arith;
+        room = t .room;
+        last = rw z ep;
+        shades = es ∙ rw (ep, t .shades) (starts-more m n (colourAt ks) c s₀ (omega arith));
+        distances = rw z (ed ∙ rw (t .distances) (fill-again n _ _ d₀));
+      }
+
+  -- all are stored
+  pub storing-done : k ≤ c → s ≡ over (startsFrom m n (colourAt ks) k) s₀
+  storing-done l = let e : c ≡ k = omega (arith, t .within) in rw e at (t .shades)
+
+  -- members that are set to one value are set as if no distance had been kept in them
+  pub storing-set : (v : ℕ) (d′ e : List ℕ) → d₀ ≡ fill n (λ i. 4294967295) e → d′ ≡ fill n (λ i. v) d
+      → d′ ≡ fill n (λ i. v) e
+  storing-set v d′ e set ed = ed ∙ rw (t .distances, set) (fill-again n _ _ _ ∙ fill-again n _ _ _)

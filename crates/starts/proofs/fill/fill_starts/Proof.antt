@@ -1,0 +1,106 @@
+-- `fill_starts` meets its contract: the loop's invariant is `Storing`.
+use Prim.Native.Nat.{_-_}
+use mathlib.Core.Path.{ap, _∙_}
+use native.Mathlib.Omega.{arith}
+use denote.Ref.{now}
+use lib.ListN.{length}
+use Rattle.number.proofs.Fills.{fill-length}
+use Rattle.starts.proofs.fill.Choosing.{
+  Storing,
+  storing-start,
+  storing-coordinates,
+  storing-room,
+  storing-same,
+  storing-step,
+  storing-done,
+  storing-set,
+}
+use Rattle.starts.proofs.fill.fill_starts.Statement.{statement}
+use Rattle.starts.proofs.fill.fill_starts.Tie as tie
+
+abbrev Inv-loop : tie.InvT-loop
+Inv-loop keys used m k s₀ members₀ p₀ c₀ s members p c = Storing keys used m k s₀ members₀ s members p c
+
+abbrev μ-loop : tie.MeasureT-loop
+μ-loop keys used m k s₀ members₀ p₀ c₀ s members p c = k - c
+
+set-all-requires : tie.Need-set-all-requires Inv-loop μ-loop
+set-all-requires c κs = c .before .before .before .before .pre .4
+
+loop-holds : tie.Need-loop-holds Inv-loop μ-loop
+loop-holds c =
+    let set = c .before .before in
+    let s = set .before .before .before .before .before in
+    let a = s .args in
+    storing-start (now (a .keys)) (a .used) (a .m) (a .k) (now (a .s)) _ (now (a .members)) (set .set-all .ensures)
+    (s .pre .4)
+
+turn-requires : tie.Need-turn-requires Inv-loop μ-loop
+turn-requires c κs =
+    let l = c .before .before in
+    let p = l .before .before .before .before .before .before .before .before .pre in
+    (p .0, p .1, storing-room (l .loop .inv), l .loop .inv .last, storing-same (l .loop .inv))
+
+put-shade-requires : tie.Need-put-shade-requires Inv-loop μ-loop
+put-shade-requires c κs =
+    let l = c .before .before .before .before .before .before in
+    let p = l .before .before .before .before .before .before .before .before .pre in
+    rw (storing-coordinates (l .loop .inv)) (omega (arith, p .3))
+
+add-c : tie.Need-add-c Inv-loop μ-loop
+add-c c = omega arith
+
+loop-less : tie.Need-loop-less Inv-loop μ-loop
+loop-less c = omega arith
+
+loop-again : tie.Need-loop-again Inv-loop μ-loop
+loop-again c =
+    let put = c .before .before in
+    let turned = put .before .before .before .before in
+    let l = turned .before .before .before in
+    let p = l .before .before .before .before .before .before .before .before .pre in
+    storing-step (l .loop .inv) (turned .before .before .loop-test .taken) (p .3) _ _ (turned .turn .result)
+    (turned .turn .ensures .0) (put .put-shade .ensures) (turned .turn .ensures .1)
+
+set-all-requires-2 : tie.Need-set-all-requires-2 Inv-loop μ-loop
+set-all-requires-2 c κs = storing-room (c .before .before .loop .inv)
+
+same-length : tie.Need-same-length Inv-loop μ-loop
+same-length c = storing-coordinates (c .before .before .before .before .before .loop .inv)
+
+same-length-2 : tie.Need-same-length-2 Inv-loop μ-loop
+same-length-2 c =
+    let set = c .before .before in
+    let l = set .before .before .before in
+    let start = l .before .before .before in
+    let before = now (start .before .before .before .before .before .args .members) in
+    ap length (storing-set (l .loop .inv) _ _ before (start .set-all .ensures) (set .set-all2 .ensures))
+    ∙ fill-length _ _ before
+
+returns : tie.Need-returns Inv-loop μ-loop
+returns c =
+    let set = c .before .before in
+    let l = set .before .before .before in
+    let start = l .before .before .before in
+    let before = now (start .before .before .before .before .before .args .members) in (
+      storing-done (l .loop .inv) (set .before .before .loop-test .left),
+      storing-set (l .loop .inv) 0 _ before (start .set-all .ensures) (set .set-all2 .ensures),
+    )
+
+pub fill-starts-spec : {M : Type 1} → statement M
+fill-starts-spec =
+    tie.close
+    (tie.spec
+    Inv-loop
+    μ-loop
+    set-all-requires
+    loop-holds
+    turn-requires
+    put-shade-requires
+    add-c
+    loop-less
+    loop-again
+    set-all-requires-2
+    same-length
+    same-length-2
+    returns)

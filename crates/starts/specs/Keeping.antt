@@ -1,0 +1,26 @@
+-- The starting shades by kept distances: each entry's distance to its nearest start so far is lowered start by start.
+use Prim.Native.Nat.{ℕ, zero, suc, _≤_, _<_}
+use mathlib.Core.List.{List}
+use lib.ListN.{getD, length}
+use Rattle.number.specs.{lesserOf}
+use Rattle.colour.specs.{Point, distance}
+use Rattle.shades.specs.{colourAt}
+use Rattle.rounds.specs.{nextShade, startsFrom}
+
+-- start number k, from the first one m
+abbrev pub shadeFrom : Point → ℕ → (ℕ → Point) → ℕ → Point
+shadeFrom m n c k = nextShade m n c k (startsFrom m n c k)
+
+-- entry i's distance, given in d, lowered to that to p
+abbrev pub lowered : List ℕ → Point → List ℕ → ℕ → ℕ
+lowered ks p d i = lesserOf (getD d i 0) (distance (colourAt ks i) p)
+
+-- entry i's distance to the nearest of the first k starts, kept and lowered shade by shade
+unfoldable pub kept : List ℕ → ℕ → Point → ℕ → ℕ → ℕ
+kept ks n m zero i = 4294967295
+kept ks n m (suc k) i = lesserOf (kept ks n m k i) (distance (colourAt ks i) (shadeFrom m n (colourAt ks) k))
+
+-- some entries lie in the keys
+pub record Keyed (n : ℕ) (ks : List ℕ) : Type 0 where
+  pub some : 0 < n
+  pub room : n ≤ length ks

@@ -1,0 +1,4 @@
+-- How large what entries give can get: every sum stays below 2^64.
+pub mod Bounds
+-- The sums of the groups over no entry, and over one entry more.
+pub mod Summing

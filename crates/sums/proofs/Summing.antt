@@ -1,0 +1,88 @@
+-- The sums of the groups: over no entry all are 0, and an entry more raises those of its group.
+use Prim.Native.Nat.{ℕ, _+_, _*_, _<_}
+use mathlib.Core.Bool.{cond}
+use mathlib.Core.List.{List}
+use mathlib.Core.Path.{_≡_, refl, sym, ap, _∙_}
+use native.Mathlib.Decide.{ℕ-discrete}
+use native.Mathlib.Nat.{add-zero}
+use native.Mathlib.Omega.{arith}
+use lib.ListN.{length, getD, set, length-set, replicate, getD-replicate}
+use lib.Seq.{getD-set-same, getD-set-other}
+use borrow.Author.Tests.{eq-eqb, ne-eqb}
+use Rattle.number.specs.{sum}
+use Rattle.number.proofs.Sums.{sum-more}
+use Rattle.shades.specs.{mostShades}
+use Rattle.sums.specs.Summing.{twoOf, oneOf, weighed, given, raised, Summed}
+
+-- over no entry every sum is 0
+pub summed-none : (m : ℕ → ℕ) (ks ws : List ℕ) → Summed m ks ws 0 (replicate 128 0)
+unfolding sum
+summed-none m ks ws = record {
+  long = refl;
+  two = λ q h. getD-replicate 128 (2 * q) 0 0 (omega arith);
+  one = λ q h. getD-replicate 128 (2 * q + 1) 0 0 (omega arith);
+}
+
+-- ---- the raised sums
+
+-- a store to the first sum of a group leaves the second
+pub first-store : (t : List ℕ) (q x : ℕ)
+    → getD (set t (2 * q) (getD t (2 * q) 0 + x)) (2 * q + 1) 0 ≡ getD t (2 * q + 1) 0
+first-store t q x = getD-set-other t (2 * q) (2 * q + 1) (getD t (2 * q) 0 + x) 0 (λ z. omega arith)
+
+module _ (t : List ℕ) (p x y : ℕ) where
+  -- the sums once x is stored
+  abbrev half : List ℕ
+  half = set t (2 * p) (getD t (2 * p) 0 + x)
+
+  -- the first sum of the group is x more
+  raised-two : length t ≡ 2 * mostShades → p < mostShades → getD (raised t p x y) (2 * p) 0 ≡ getD t (2 * p) 0 + x
+  raised-two long few =
+      getD-set-other half (2 * p + 1) (2 * p) _ 0 (λ z. omega arith) ∙ getD-set-same t (2 * p) _ 0 (omega arith)
+
+  -- the second sum of the group is y more
+  raised-one : length t ≡ 2 * mostShades → p < mostShades
+      → getD (raised t p x y) (2 * p + 1) 0 ≡ getD t (2 * p + 1) 0 + y
+  raised-one long few = getD-set-same half (2 * p + 1) _ 0 (simp length-set (omega arith))
+
+  -- every other place stays
+  raised-other : (n : ℕ) → (n ≡ 2 * p → ⊥) → (n ≡ 2 * p + 1 → ⊥) → getD (raised t p x y) n 0 ≡ getD t n 0
+  raised-other n d e = getD-set-other half (2 * p + 1) n _ 0 e ∙ getD-set-other t (2 * p) n _ 0 d
+
+-- ---- one entry more
+
+-- numbers a that are the groups' sums over i entries become those over one more, where that of the entry's group is
+-- raised by what the entry gives and the others stay
+given-more : (m f a b : ℕ → ℕ) (i : ℕ) → ((q : ℕ) → q < mostShades → a q ≡ sum i (given m f q))
+    → b (m i) ≡ a (m i) + f i → ((q : ℕ) → (q ≡ m i → ⊥) → b q ≡ a q)
+    → (q : ℕ) → q < mostShades → b q ≡ sum (i + 1) (given m f q)
+given-more m f a b i sums mine others q h = go (ℕ-discrete q (m i))
+  where
+    go : Dec (q ≡ m i) → b q ≡ sum (i + 1) (given m f q)
+    go (yes e) =
+        ap b e ∙ mine ∙ ap (λ n. a n + f i) (sym e) ∙ ap (λ n. n + f i) (sums q h)
+        ∙ ap (λ g. sum i (given m f q) + cond g (f i) 0) (sym (eq-eqb (m i) q (sym e)))
+        ∙ sym (sum-more i (given m f q))
+    go (no d) =
+        others q d ∙ sums q h ∙ sym (add-zero _)
+        ∙ ap (λ g. sum i (given m f q) + cond g (f i) 0) (sym (ne-eqb (m i) q (λ z. d (sym z))))
+        ∙ sym (sum-more i (given m f q))
+
+-- entry i raises the sums of its group
+pub summed-more : (m : ℕ → ℕ) (ks ws : List ℕ) (i : ℕ) (t : List ℕ) → Summed m ks ws i t → m i < mostShades
+    → Summed m ks ws (i + 1) (raised t (m i) (weighed twoOf ks ws i) (weighed oneOf ks ws i))
+summed-more m ks ws i t s few =
+    let x = weighed twoOf ks ws i in
+    let y = weighed oneOf ks ws i in
+    let u = raised t (m i) x y in
+    record {
+      long = simp length-set (s .long);
+      two =
+          given-more m (weighed twoOf ks ws) (λ q. getD t (2 * q) 0) (λ q. getD u (2 * q) 0) i (s .two)
+          (raised-two t (m i) x y (s .long) few)
+          (λ q d. raised-other t (m i) x y (2 * q) (λ z. d (omega arith)) (λ z. omega arith));
+      one =
+          given-more m (weighed oneOf ks ws) (λ q. getD t (2 * q + 1) 0) (λ q. getD u (2 * q + 1) 0) i (s .one)
+          (raised-one t (m i) x y (s .long) few)
+          (λ q d. raised-other t (m i) x y (2 * q + 1) (λ z. omega arith) (λ z. d (omega arith)));
+    }

@@ -1,0 +1,36 @@
+-- The sums of each group, two in one number: each is below 2^32, as a table has at most 2^24 pixels.
+use Prim.Native.Nat.{ℕ, _+_, _*_, _<_}
+use mathlib.Core.Path.{_≡_}
+use mathlib.Core.Bool.{cond}
+use mathlib.Core.List.{List}
+use lib.Dec.{eqb}
+use lib.ListN.{getD, set, length}
+use Rattle.number.specs.{sum}
+use Rattle.colour.specs.{redOf, greenOf, blueOf}
+use Rattle.shades.specs.{mostShades}
+
+-- the red and the green level of a key, in one
+abbrev pub twoOf : ℕ → ℕ
+twoOf key = 4294967296 * redOf key + greenOf key
+
+-- the blue level of a key and 1, in one
+abbrev pub oneOf : ℕ → ℕ
+oneOf key = 4294967296 * blueOf key + 1
+
+-- the weight of entry i times f of its key
+abbrev pub weighed : (ℕ → ℕ) → List ℕ → List ℕ → ℕ → ℕ
+weighed f ks ws i = getD ws i 0 * f (getD ks i 0)
+
+-- what entry i gives to group q, where it is in group m i
+abbrev pub given : (ℕ → ℕ) → (ℕ → ℕ) → ℕ → ℕ → ℕ
+given m f q i = cond (eqb (m i) q) (f i) 0
+
+-- x and y are added to the two sums of group q
+abbrev pub raised : List ℕ → ℕ → ℕ → ℕ → List ℕ
+raised t q x y = set (set t (2 * q) (getD t (2 * q) 0 + x)) (2 * q + 1) (getD t (2 * q + 1) 0 + y)
+
+-- the sums of 64 groups over the first n entries
+pub record Summed (m : ℕ → ℕ) (ks ws : List ℕ) (n : ℕ) (t : List ℕ) : Type 0 where
+  pub long : length t ≡ 2 * mostShades
+  pub two : (q : ℕ) → q < mostShades → getD t (2 * q) 0 ≡ sum n (given m (weighed twoOf ks ws) q)
+  pub one : (q : ℕ) → q < mostShades → getD t (2 * q + 1) 0 ≡ sum n (given m (weighed oneOf ks ws) q)
