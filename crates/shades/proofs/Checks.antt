@@ -45,6 +45,10 @@ bad-coordinates-exactly n = (
       ),
 )
 
+-- so they are at most 192
+pub coordinates-at-most : (n : ℕ) → badCoordinates n ≡ false → n ≤ mostCoordinates
+coordinates-at-most n h = let whole = bad-coordinates-exactly n .0 h in omega (arith, whole .1, whole .2)
+
 -- past the end of a list stand zeros
 past-end : (l : List ℕ) (i : ℕ) → length l ≤ i → getD l i 0 ≡ 0
 past-end [] i h = refl

@@ -1,0 +1,22 @@
+// Each colour of a table joins its nearest shade, found by the plain or by the shortened search;
+// the groups' sums are taken on the way.
+//
+// Calls; none refuses, and what one requires stands above it
+//   group_short   by the shortened search, from the former shades   short.rt
+//   group_plain   by the plain search                               plain.rt
+//
+// Read next: specs/Lib.antt (what the words mean), proofs/Lib.antt (what is shown).
+
+mod plain;
+mod short;
+
+pub use plain::group_plain;
+pub use short::group_short;
+
+// The total of a grouping, the distances worked out, and the groups' sums: at 2q and 2q + 1 those
+// of group q.
+pub struct Regrouped {
+    pub total: u64,
+    pub count: u64,
+    pub sums: [u64; 128],
+}

@@ -1,0 +1,14 @@
+-- What is shown, in full statements.
+pub mod Promises
+-- What the tests say, fact by fact.
+pub mod Checks
+-- What a good table gives to a round.
+pub mod Tables
+-- The outcomes of single rounds.
+pub mod Rounds
+-- The outcome of a run, and what the tests give.
+pub mod Wholes
+-- What a run that is made leaves and answers.
+pub mod Made
+-- What every accepted run answers and leaves.
+pub mod Accepted

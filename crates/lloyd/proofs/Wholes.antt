@@ -1,0 +1,149 @@
+-- The outcome of a run: refused or made, and what every accepted run leaves and answers.
+use Prim.Native.Nat.{ℕ, _-_}
+use mathlib.Core.Bool.{Bool, false}
+use mathlib.Core.List.{List}
+use mathlib.Core.Logic.{_↔_}
+use mathlib.Core.Path.{_≡_, refl, ap, _∙_}
+use native.Mathlib.Omega.{arith}
+use lib.ListN.{length}
+use borrow.Author.Tests.{ltb-false}
+use Rattle.refusal.specs.{Refusal, numberOf, done, firstOf, Given, NoneHolds}
+use Rattle.refusal.proofs.Outcomes.{
+  outcome-made,
+  outcome-refused,
+  refused-exactly,
+  accepted-exactly,
+  accepted-is-made,
+  refused-is-so,
+}
+use Rattle.table.specs.{Record, badTable}
+use Rattle.rounds.specs.{Colours, State, coloursOf, finalOf, begin}
+use Rattle.steps.specs.{mostRounds, Runnable, SeriesMeets}
+use Rattle.lloyd.specs.Refusals.{limitOf, badCount, fewColours, badLimit, shortMembers, shortTotals, runRows}
+use Rattle.lloyd.specs.Outcomes.{RunOutcome, RunMeets, refusedRun, keptRun, madeRun, runOf}
+use Rattle.lloyd.specs.declared.Ran.{Ran}
+use Rattle.lloyd.proofs.Checks.{neither, bad-count-exactly, limit-some, limit-most}
+use Rattle.lloyd.proofs.Tables.{tabled-of-test, pixels-of-test}
+
+module _ (rec : Record) (ks ws : List ℕ) (k limit : ℕ) (ms ts : List ℕ) where
+  -- the colours of the table, the state in which the run begins, and what it makes
+  abbrev C : Colours
+  C = coloursOf (rec .used) ks ws
+
+  abbrev a : State
+  a = begin (coloursOf (rec .used) ks ws) k ms
+
+  abbrev made : RunOutcome
+  made = madeRun (coloursOf (rec .used) ks ws) k (limitOf limit) (begin (coloursOf (rec .used) ks ws) k ms) ts
+
+  -- ---- refused or made
+
+  -- each refusal is given exactly when its row is the first that holds
+  pub run-refused-exactly : (n : Refusal)
+      → (runOf rec ks ws k limit ms ts .answer .refusal ≡ numberOf n) ↔ Given (runRows rec ks ws k limit ms ts) n
+  unfolding runOf
+  run-refused-exactly =
+      refused-exactly {A = RunOutcome} (runRows rec ks ws k limit ms ts) made (keptRun ms ts) (λ o. o .answer .refusal)
+      refl (λ n. refl)
+
+  -- and none exactly when no row holds
+  pub run-accepted-exactly :
+      (runOf rec ks ws k limit ms ts .answer .refusal ≡ done) ↔ NoneHolds (runRows rec ks ws k limit ms ts)
+  unfolding runOf
+  run-accepted-exactly =
+      accepted-exactly {A = RunOutcome} (runRows rec ks ws k limit ms ts) made (keptRun ms ts) (λ o. o .answer .refusal)
+      refl (λ n. refl)
+
+  -- a refused run answers its number and zeros, and no slice changes
+  pub run-refused : (n : Refusal) → runOf rec ks ws k limit ms ts .answer .refusal ≡ numberOf n
+      → runOf rec ks ws k limit ms ts ≡ keptRun ms ts (numberOf n)
+  unfolding runOf
+  run-refused =
+      refused-is-so {A = RunOutcome} (runRows rec ks ws k limit ms ts) made (keptRun ms ts) (λ o. o .answer .refusal)
+      refl (λ n. refl)
+
+  -- an accepted one is made
+  pub run-accepted : runOf rec ks ws k limit ms ts .answer .refusal ≡ done
+      → runOf rec ks ws k limit ms ts
+      ≡ madeRun (coloursOf (rec .used) ks ws) k (limitOf limit) (begin (coloursOf (rec .used) ks ws) k ms) ts
+  unfolding runOf
+  run-accepted =
+      accepted-is-made {A = RunOutcome} (runRows rec ks ws k limit ms ts) made (keptRun ms ts) (λ o. o .answer .refusal)
+      refl (λ n. refl)
+
+  -- the contract where it is refused
+  pub run-meets-refused : (n : Refusal) (r : Ran) → firstOf (runRows rec ks ws k limit ms ts) ≡ numberOf n
+      → r ≡ refusedRun (numberOf n) → RunMeets (runOf rec ks ws k limit ms ts) r ms ts
+  unfolding runOf
+  run-meets-refused n r e is =
+      rw (outcome-refused (runRows rec ks ws k limit ms ts) made (keptRun ms ts) n e)
+      (record { answer = is; members-are = refl; totals-are = refl })
+
+  -- the contract where it is made
+  pub run-meets-made : (z : State) (totals : List ℕ) (rounds : ℕ) (settled : Bool) (distances total : ℕ) (r : Ran)
+      → firstOf (runRows rec ks ws k limit ms ts) ≡ done
+      → SeriesMeets (coloursOf (rec .used) ks ws) k (limitOf limit) (begin (coloursOf (rec .used) ks ws) k ms) z ts
+      totals rounds settled distances
+      → total ≡ finalOf (coloursOf (rec .used) ks ws) z
+      → r ≡ record {
+        refusal = done;
+        shades = z .coordinates;
+        rounds = rounds;
+        settled = settled;
+        distances = distances;
+        total = total;
+      }
+      → RunMeets (runOf rec ks ws k limit ms ts) r (z .members) totals
+  unfolding runOf
+  run-meets-made z totals rounds settled distances total r e m t is =
+      rw (outcome-made (runRows rec ks ws k limit ms ts) made (keptRun ms ts) e)
+      (record {
+        answer = is ∙ rw (t, m .state, m .rounds-is, m .settled-is, m .distances-is);
+        members-are = ap (λ (y : State). y .members) (m .state);
+        totals-are = m .totals-is;
+      })
+
+  -- ---- what the tests give
+
+  -- the tests of a run fail
+  pub record RunGood : Type 0 where
+    pub table : badTable rec ks ws ≡ false
+    pub count : badCount k ≡ false
+    pub colours : fewColours rec k ≡ false
+    pub limited : badLimit limit ≡ false
+    pub members : shortMembers rec ms ≡ false
+    pub totals : shortTotals limit ts ≡ false
+
+  -- then the run can be made
+  pub runnable : RunGood → Runnable (rec .used) ks ws k (limitOf limit) ms ts
+  runnable g =
+      let some = bad-count-exactly k .0 (g .count) in
+      let colours = ltb-false (rec .used) k (g .colours) in
+      record {
+        table = tabled-of-test rec ks ws (g .table);
+        pixels = pixels-of-test rec ks ws (g .table) (omega (arith, some .0));
+        some = some .0;
+        few = some .1;
+        colours = colours;
+        limit-some = limit-some limit;
+        limit-most = limit-most limit mostRounds (omega arith) (ltb-false mostRounds limit (g .limited));
+        members-room = ltb-false (length ms) (rec .used) (g .members);
+        totals-room = ltb-false (length ts) (limitOf limit) (g .totals);
+      }
+
+  -- and no row holds
+  pub run-none : RunGood → firstOf (runRows rec ks ws k limit ms ts) ≡ done
+  run-none g = simp (g .table, g .count, g .colours, g .limited, g .members, g .totals)
+
+  -- a run that is accepted passes its tests
+  pub run-good : NoneHolds (runRows rec ks ws k limit ms ts) → RunGood
+  run-good h =
+      let room = neither (shortMembers rec ms) (shortTotals limit ts) (h .1 .1 .1 .1 .0) in
+      record {
+        table = h .0;
+        count = h .1 .0;
+        colours = h .1 .1 .0;
+        limited = h .1 .1 .1 .0;
+        members = room .0;
+        totals = room .1;
+      }

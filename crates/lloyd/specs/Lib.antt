@@ -1,0 +1,49 @@
+-- Glossary.
+--   usualLimit             20, what a limit of 0 means
+--   limitOf limit          the limit asked for
+--   Rounded, Ran           the answers of a single round and of a run
+--   badCount k             the test of 4 BAD COUNT of a run
+--   fewColours             the test of 5 FEW COLOURS
+--   badLimit               the test of 6 BAD LIMIT
+--   shortMembers, shortTotals   the two parts of 7 SHORT ROOM
+--   badMember              the test of 9 BAD MEMBER
+--   plainRows, shortRows, runRows   the tests of each call in its order, with their refusals
+--   RoundOutcome, RunOutcome   the answer and both lent slices at exit
+--   refusedRound, refusedRun   the answer of a refusal: its number and zeros
+--   keptRound, keptRun     that answer, and no slice changes
+--   madeRound, madeRun     the outcome where nothing is refused
+--   plainRound, shortRound, runOf   the outcome of each call
+--   RoundMeets, RunMeets   the contracts: answer and slices are those of the outcome
+--   AcceptedRun            answer and slices are those of a run that is accepted
+--   left r members         the shades and the members that a run leaves
+pub mod Refusals
+pub mod Outcomes
+pub use declared.Rounded.{Rounded}
+pub use declared.Ran.{Ran}
+unfoldable pub use Refusals.{
+  usualLimit,
+  limitOf,
+  badCount,
+  fewColours,
+  badLimit,
+  shortMembers,
+  shortTotals,
+  memberOff,
+  badMember,
+  plainRows,
+  shortRows,
+  runRows,
+}
+pub use Outcomes.{RoundOutcome, RunOutcome, RoundMeets, RunMeets, AcceptedRun}
+unfoldable pub use Outcomes.{
+  refusedRound,
+  keptRound,
+  madeRound,
+  refusedRun,
+  keptRun,
+  madeRun,
+  plainRound,
+  shortRound,
+  runOf,
+  left,
+}

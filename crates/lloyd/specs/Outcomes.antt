@@ -1,0 +1,138 @@
+-- What a round and a run leave: the answer, and both lent slices, on every input.
+use Prim.Native.Nat.{ℕ, _/_}
+use mathlib.Core.Bool.{false}
+use mathlib.Core.List.{List}
+use mathlib.Core.Path.{_≡_}
+use lib.Dec.{ltb}
+use lib.ListN.{length, replicate}
+use Rattle.number.specs.{sum, fill, firstThat}
+use Rattle.refusal.specs.{done, outcomeOf}
+use Rattle.table.specs.{Record}
+use Rattle.shades.specs.{mostCoordinates}
+use Rattle.rounds.specs.{
+  Colours,
+  State,
+  coloursOf,
+  toMean,
+  step,
+  after,
+  quiet,
+  totalOf,
+  movedOf,
+  finalOf,
+  plainDistances,
+  shortDistances,
+  begin,
+  roundsMade,
+}
+use Rattle.lloyd.specs.Refusals.{limitOf, plainRows, shortRows, runRows}
+use Rattle.lloyd.specs.declared.Rounded.{Rounded}
+use Rattle.lloyd.specs.declared.Ran.{Ran}
+
+-- ---- a single round
+
+-- the answer, and the lent coordinates and members at exit
+pub record RoundOutcome : Type 0 where
+  pub answer : Rounded
+  pub state : State
+
+-- the answer of a refusal: its number and zeros
+abbrev pub refusedRound : ℕ → Rounded
+refusedRound n = record { refusal = n; total = 0; moved = 0; distances = 0 }
+
+-- a round of Lloyd's rule on k shades, with the distances that a round of its kind works out
+abbrev pub madeRound : Colours → ℕ → State → (Colours → ℕ → State → ℕ) → RoundOutcome
+madeRound C k a distances = record {
+  answer = record {
+    refusal = done;
+    total = totalOf C k a;
+    moved = movedOf toMean C k a;
+    distances = distances C k a;
+  };
+  state = step toMean C k a;
+}
+
+-- that of a refusal: its answer, and no slice changes
+abbrev pub keptRound : State → ℕ → RoundOutcome
+keptRound a n = record { answer = refusedRound n; state = a }
+
+-- the whole outcome of a plain round: a third of the coordinates lent is the count of shades
+unfoldable pub plainRound : Record → List ℕ → List ℕ → State → RoundOutcome
+plainRound rec ks ws a =
+    outcomeOf (plainRows rec ks ws a)
+    (madeRound (coloursOf (rec .used) ks ws) (length (a .coordinates) / 3) a plainDistances) (keptRound a)
+
+-- the whole outcome of a shortened round
+unfoldable pub shortRound : Record → List ℕ → List ℕ → State → RoundOutcome
+shortRound rec ks ws a =
+    outcomeOf (shortRows rec ks ws a)
+    (madeRound (coloursOf (rec .used) ks ws) (length (a .coordinates) / 3) a shortDistances) (keptRound a)
+
+-- the contract: answer and slices are those of the outcome
+pub record RoundMeets (o : RoundOutcome) (r : Rounded) (coordinates members : List ℕ) : Type 0 where
+  pub answer : r ≡ o .answer
+  pub coordinates-are : coordinates ≡ o .state .coordinates
+  pub members-are : members ≡ o .state .members
+
+-- ---- a run
+
+-- the answer, and the lent members and totals at exit
+pub record RunOutcome : Type 0 where
+  pub answer : Ran
+  pub members : List ℕ
+  pub totals : List ℕ
+
+-- the answer of a refusal: its number and zeros
+abbrev pub refusedRun : ℕ → Ran
+refusedRun n = record {
+  refusal = n;
+  shades = replicate mostCoordinates 0;
+  rounds = 0;
+  settled = false;
+  distances = 0;
+  total = 0;
+}
+
+-- that of a refusal: its answer, and no slice changes
+abbrev pub keptRun : List ℕ → List ℕ → ℕ → RunOutcome
+keptRun ms ts n = record { answer = refusedRun n; members = ms; totals = ts }
+
+-- rounds of Lloyd's rule from state a, to the first quiet one or the limit: the shades and the members they leave, each
+-- round's total over the front of the totals, the rounds made, settled or not, the summed distances, and the last
+-- grouping against the final shades
+abbrev pub madeRun : Colours → ℕ → ℕ → State → List ℕ → RunOutcome
+madeRun C k limit a totals = record {
+  answer = record {
+    refusal = done;
+    shades = after toMean C k a (roundsMade limit (quiet toMean C k a)) .coordinates;
+    rounds = roundsMade limit (quiet toMean C k a);
+    settled = ltb (firstThat limit (quiet toMean C k a)) limit;
+    distances = sum (roundsMade limit (quiet toMean C k a)) (λ r. shortDistances C k (after toMean C k a r));
+    total = finalOf C (after toMean C k a (roundsMade limit (quiet toMean C k a)));
+  };
+  members = after toMean C k a (roundsMade limit (quiet toMean C k a)) .members;
+  totals = fill (roundsMade limit (quiet toMean C k a)) (λ r. totalOf C k (after toMean C k a r)) totals;
+}
+
+-- the whole outcome of a run: it begins with the starting shades and every colour in shade 0
+unfoldable pub runOf : Record → List ℕ → List ℕ → ℕ → ℕ → List ℕ → List ℕ → RunOutcome
+runOf rec ks ws k limit ms ts =
+    outcomeOf (runRows rec ks ws k limit ms ts)
+    (madeRun (coloursOf (rec .used) ks ws) k (limitOf limit) (begin (coloursOf (rec .used) ks ws) k ms) ts)
+    (keptRun ms ts)
+
+-- the contract: answer and slices are those of the outcome
+pub record RunMeets (o : RunOutcome) (r : Ran) (members totals : List ℕ) : Type 0 where
+  pub answer : r ≡ o .answer
+  pub members-are : members ≡ o .members
+  pub totals-are : totals ≡ o .totals
+
+-- this answer and these slices are those of a run that is accepted
+pub record AcceptedRun (rec : Record) (ks ws : List ℕ) (k limit : ℕ) (ms ts : List ℕ) (r : Ran)
+    (members totals : List ℕ) : Type 0 where
+  pub meets : RunMeets (runOf rec ks ws k limit ms ts) r members totals
+  pub accepted : r .refusal ≡ done
+
+-- the shades and the members that a run leaves
+abbrev pub left : Ran → List ℕ → State
+left r members = record { coordinates = r .shades; members = members }

@@ -1,0 +1,4 @@
+-- One round: the grouping and the move together.
+pub mod Stepping
+-- Rounds one after the other.
+pub mod Turns

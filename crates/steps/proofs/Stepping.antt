@@ -1,0 +1,38 @@
+-- One round: the grouping and the move together are a step of the method.
+use Prim.Native.Nat.{ℕ, _*_, _≤_}
+use mathlib.Core.Bool.{not}
+use mathlib.Core.List.{List}
+use mathlib.Core.Path.{_≡_, ap₂, _∙_}
+use lib.ListN.{length}
+use Rattle.number.specs.{fill, howMany}
+use Rattle.shades.specs.{mostShades}
+use Rattle.rounds.specs.{State, stateOf, coloursOf, joins}
+use Rattle.groups.specs.{Grouped}
+use Rattle.moves.specs.{Measured, goes, stays}
+use Rattle.moves.proofs.Moving.{measured, moves-laid, movers-are}
+use Rattle.steps.specs.Meeting.{Steppable, StepMeets}
+
+module _ {used : ℕ} {ks ws s : List ℕ} {k : ℕ} {before after t : List ℕ} {total : ℕ}
+    (p : Steppable used ks ws k (stateOf s before)) (g : Grouped used ks ws s k before after total t) where
+  -- what the move asks
+  pub move-asked : Measured t × (k ≤ mostShades) × (3 * k ≤ length s)
+  move-asked = (
+    measured used ks ws (p .table) (joins (coloursOf used ks ws) k s) t (g .sums),
+    p .fit .shades .few,
+    p .fit .shades .room,
+  )
+
+  -- what the round leaves and answers
+  pub step-meets : (s′ : List ℕ) (moved count : ℕ) (distances : State → ℕ) → s′ ≡ fill (3 * k) (goes t s) s
+      → moved ≡ howMany k (λ q. not (stays t s q)) → count ≡ distances (stateOf s before)
+      → StepMeets (coloursOf used ks ws) k distances (stateOf s before) (stateOf s′ after) total moved count
+  step-meets s′ moved count distances es em ec =
+      let m = joins (coloursOf used ks ws) k s in
+      record {
+        state = ap₂ stateOf
+            (es ∙ moves-laid used ks ws (p .table) m t (g .sums) s k (p .fit .shades .few))
+            (g .members);
+        total-is = g .total-is;
+        moved-is = em ∙ movers-are used ks ws (p .table) m t (g .sums) s k (p .fit .shades .few);
+        count-is = ec;
+      }

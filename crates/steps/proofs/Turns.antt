@@ -1,0 +1,174 @@
+-- Rounds one after the other: where they stand after r of them, and how they end.
+use Prim.Native.Nat.{ℕ, zero, suc, _+_, _-_, _*_, _≤_, _<_}
+use mathlib.Core.Bool.{Bool, cond}
+use mathlib.Core.List.{List}
+use mathlib.Core.Path.{_≡_, refl, sym, ap, ap₂, _∙_}
+use native.Mathlib.Nat.{mul-le-mul-right}
+use native.Mathlib.Omega.{arith}
+use lib.Dec.{ltb, eqb}
+use lib.ListN.{set, length, replicate}
+use borrow.Author.Tests.{lt-ltb, le-ltb, ltb-true, ltb-false}
+use Rattle.number.specs.{sum, fill}
+use Rattle.number.proofs.Fills.{fill-more, fill-length}
+use Rattle.number.proofs.Sums.{sum-more, sum-bound}
+use Rattle.entries.specs.{mostEntries}
+use Rattle.colour.specs.{Point}
+use Rattle.shades.specs.{mostShades, mostCoordinates, colourAt}
+use Rattle.rounds.specs.{
+  Colours,
+  Fair,
+  State,
+  stateOf,
+  coloursOf,
+  meanOf,
+  startsFrom,
+  over,
+  begin,
+  toMean,
+  step,
+  after,
+  quiet,
+  totalOf,
+  movedOf,
+  shortDistances,
+  roundsMade,
+}
+use Rattle.rounds.proofs.Begins.{begin-fit, begin-joined}
+use Rattle.rounds.proofs.Costs.{to-mean-keeps-grid}
+use Rattle.rounds.proofs.Falls.{after-more, step-fit, grouped-below}
+use Rattle.rounds.proofs.Runs.{made-at-most, made-some, made-next, made-last}
+use Rattle.rounds.proofs.Sizes.{fair-of-table, short-at-most}
+use Rattle.steps.specs.Meeting.{mostRounds, Steppable, Walkable, StepMeets, SeriesMeets, Runnable}
+
+-- after a round the members are shades' numbers and all is fit for the next
+pub step-walkable : {used : ℕ} {ks ws : List ℕ} {k : ℕ} {a : State} → Steppable used ks ws k a
+    → Walkable used ks ws k (step toMean (coloursOf used ks ws) k a)
+step-walkable {used} {ks} {ws} {k} {a} p = record {
+  steppable = record {
+    table = p .table;
+    fit = step-fit (coloursOf used ks ws) k a (p .fit) toMean to-mean-keeps-grid (fair-of-table (p .table));
+  };
+  joined = grouped-below (coloursOf used ks ws) k a (p .fit);
+}
+
+-- and after any number of rounds, where it was so before
+pub after-walkable : {used : ℕ} {ks ws : List ℕ} {k : ℕ} {a : State} → Walkable used ks ws k a → (r : ℕ)
+    → Walkable used ks ws k (after toMean (coloursOf used ks ws) k a r)
+unfolding after
+after-walkable p zero = p
+after-walkable p (suc r) = step-walkable (after-walkable p r .steppable)
+
+module _ (C : Colours) (k limit : ℕ) (a : State) where
+  abbrev still : ℕ → Bool
+  still = quiet toMean C k a
+
+  abbrev at : ℕ → State
+  at r = after toMean C k a r
+
+  -- the distances of r rounds fit
+  pub distances-at-most : Fair C → k ≤ mostShades → (r : ℕ) → r ≤ mostRounds
+      → sum r (λ n. shortDistances C k (after toMean C k a n)) ≤ mostRounds * (mostEntries * (mostShades + 1))
+  distances-at-most f few r h =
+      omega (
+        arith,
+        sum-bound r (mostEntries * (mostShades + 1)) (λ n. shortDistances C k (at n))
+            (λ n l. short-at-most C f k (at n) few),
+        mul-le-mul-right (mostEntries * (mostShades + 1)) h,
+      )
+
+  -- r rounds are made, with `go` the number to reach
+  pub record Going (before : List ℕ) (z : State) (totals : List ℕ) (r go moved distances : ℕ) : Type 0 where
+    pub within : r ≤ roundsMade limit (quiet toMean C k a)
+    pub more : ltb r go ≡ ltb r (roundsMade limit (quiet toMean C k a))
+    pub state : z ≡ after toMean C k a r
+    pub totals-is : totals ≡ fill r (λ n. totalOf C k (after toMean C k a n)) before
+    pub moved-is : 0 < r → moved ≡ movedOf toMean C k (after toMean C k a (r - 1))
+    pub distances-is : distances ≡ sum r (λ n. shortDistances C k (after toMean C k a n))
+
+  -- none is made
+  pub going-start : (before : List ℕ) → 0 < limit → Going before a before 0 limit 1 0
+  unfolding after fill sum
+  going-start before h = record {
+    within = omega arith;
+    more = lt-ltb 0 limit h ∙ sym (lt-ltb 0 (roundsMade limit still) (made-some limit still h));
+    state = refl;
+    totals-is = refl;
+    moved-is = λ p. absurd (omega arith);
+    distances-is = refl;
+  }
+
+  module _ {before totals : List ℕ} {z : State} {r go moved distances : ℕ}
+      (g : Going before z totals r go moved distances) where
+    -- a round that is to be made is one of those made
+    pub going-made : r < go → r < roundsMade limit (quiet toMean C k a)
+    going-made h = ltb-true r (roundsMade limit still) (sym (g .more) ∙ lt-ltb r go h)
+
+    -- and below the limit
+    pub going-below : r < go → r < limit
+    going-below h = omega (arith, going-made h, made-at-most limit still)
+
+    -- there are as many places for totals as before
+    pub going-length : length totals ≡ length before
+    going-length = ap length (g .totals-is) ∙ fill-length r (λ n. totalOf C k (at n)) before
+
+    -- one round more
+    pub going-next : r < go → r < length before → {y : State} {total moved′ count go′ : ℕ}
+        → StepMeets C k (shortDistances C k) z y total moved′ count → go′ ≡ cond (eqb moved′ 0) (r + 1) limit
+        → Going before y (set totals r total) (r + 1) go′ moved′ (distances + count)
+    going-next h room {y} {total} {moved′} {count} {go′} m eg =
+        let e : r + 1 - 1 ≡ r = omega arith in
+        let mv : moved′ ≡ movedOf toMean C k (at r) = m .moved-is ∙ ap (movedOf toMean C k) (g .state) in
+        record {
+          within = omega (arith, going-made h);
+          more = ap (λ n. ltb (r + 1) n) (eg ∙ ap (λ n. cond (eqb n 0) (r + 1) limit) mv)
+              ∙ made-next limit still r (going-made h);
+          state = m .state ∙ ap (step toMean C k) (g .state) ∙ sym (after-more toMean C k a r);
+          totals-is = rw (m .total-is ∙ ap (totalOf C k) (g .state), g .totals-is)
+              (fill-more r (λ n. totalOf C k (at n)) before room);
+          moved-is = λ p. rw e mv;
+          distances-is = rw (m .count-is ∙ ap (shortDistances C k) (g .state), g .distances-is)
+              (sym (sum-more r (λ n. shortDistances C k (at n))));
+        }
+
+    -- the last is made
+    pub going-done : go ≤ r → 0 < limit → (settled : Bool) → settled ≡ eqb moved 0
+        → SeriesMeets C k limit a z before totals r settled distances
+    going-done h p settled es =
+        let m : r ≡ roundsMade limit still =
+        omega (arith, g .within, ltb-false r (roundsMade limit still) (sym (g .more) ∙ le-ltb r go h)) in
+        let s : 0 < r = omega (arith, made-some limit still p) in
+        record {
+          rounds-is = m;
+          state = g .state ∙ ap at m;
+          totals-is = rw m at (g .totals-is);
+          settled-is = es ∙ ap (λ n. eqb n 0) (g .moved-is s) ∙ made-last limit still r s m;
+          distances-is = rw m at (g .distances-is);
+        }
+
+-- ---- where a run begins
+
+module _ {used : ℕ} {ks ws : List ℕ} {k limit : ℕ} {members totals : List ℕ}
+    (p : Runnable used ks ws k limit members totals) where
+  -- it begins fit for a shortened round
+  pub begin-walkable : Walkable used ks ws k (begin (coloursOf used ks ws) k members)
+  begin-walkable = record {
+    steppable = record {
+      table = p .table;
+      fit = begin-fit (coloursOf used ks ws) k members (fair-of-table (p .table)) (p .pixels) (p .some) (p .few)
+          (p .members-room);
+    };
+    joined = begin-joined (coloursOf used ks ws) k members (p .some) (p .members-room);
+  }
+
+  -- with the starting shades from the table's mean over zeros, and every member 0, it has begun
+  pub begun : (m : Point) (s s′ members′ : List ℕ) → m ≡ meanOf (coloursOf used ks ws)
+      → s ≡ replicate mostCoordinates 0
+      → s′ ≡ over (startsFrom m used (colourAt ks) k) s → members′ ≡ fill used (λ i. 0) members
+      → stateOf s′ members′ ≡ begin (coloursOf used ks ws) k members
+  begun m s s′ members′ em es e f = ap₂ stateOf (rw (e, em, es)) f
+
+  -- what the rounds of a run leave is fit for its final total
+  pub series-walkable : {z : State} {after : List ℕ} {rounds distances : ℕ} {settled : Bool}
+      → SeriesMeets (coloursOf used ks ws) k limit (begin (coloursOf used ks ws) k members) z totals after rounds settled
+      distances → Walkable used ks ws k z
+  series-walkable m = rw (m .state) (after-walkable begin-walkable _)

@@ -1,0 +1,136 @@
+-- `make_rounds` meets its contract: the loop's invariant is `Going`.
+use Prim.Native.Nat.{ℕ, _+_, _-_}
+use mathlib.Core.Path.{_≡_, refl, ap, _∙_}
+use native.Mathlib.Omega.{arith}
+use lib.ListN.{length}
+use denote.Ref.{now}
+use borrow.Author.Needs.{needs}
+use Rattle.number.proofs.Sums.{sum-more}
+use Rattle.rounds.specs.{State, stateOf, coloursOf, toMean, after, shortDistances}
+use Rattle.rounds.proofs.Sizes.{fair-of-table}
+use Rattle.steps.proofs.Turns.{
+  Going,
+  after-walkable,
+  distances-at-most,
+  going-start,
+  going-below,
+  going-length,
+  going-next,
+  going-done,
+}
+use Rattle.steps.proofs.many.make_rounds.Statement.{statement}
+use Rattle.steps.proofs.many.make_rounds.Tie as tie
+
+abbrev Inv-loop : tie.InvT-loop
+Inv-loop keys weights used k limit s₀ members₀ totals₀ r₀ go₀ moved₀ distances₀ s members totals r go moved distances =
+    Going (coloursOf used keys weights) k limit (stateOf s₀ members₀) totals₀ (stateOf s members) totals r go moved
+    distances
+    × (length s ≡ length s₀) × (length members ≡ length members₀)
+
+abbrev μ-loop : tie.MeasureT-loop
+μ-loop keys weights used k limit s₀ members₀ totals₀ r₀ go₀ moved₀ distances₀ s members totals r go moved distances =
+    limit - r
+
+loop-holds : tie.Need-loop-holds Inv-loop μ-loop
+loop-holds c = (going-start _ _ _ _ _ (c .before .before .before .before .before .pre .1), refl, refl)
+
+short-step-requires : tie.Need-short-step-requires Inv-loop μ-loop
+short-step-requires c κs =
+    let l = c .before .before .before in
+    let st = l .before .before .before .before .before .before in
+    rw (l .loop .inv .0 .state) (after-walkable (st .pre .0) _)
+
+mul-totals : tie.Need-mul-totals Inv-loop μ-loop
+mul-totals c =
+    let i = c .before .before .before .before .before .before .before in
+    let st = i .before .before .before .before .before .before .before in
+    omega (arith, st .good, st .pre .2, going-below _ _ _ _ (i .before .loop .inv .0) (i .loop-test .taken))
+
+slice-write-totals : tie.Need-slice-write-totals Inv-loop μ-loop
+slice-write-totals c =
+    let i = c .before .before .before .before .before .before .before in
+    let st = i .before .before .before .before .before .before .before in
+    rw (going-length _ _ _ _ (i .before .loop .inv .0))
+    (omega (arith, st .pre .3, going-below _ _ _ _ (i .before .loop .inv .0) (i .loop-test .taken)))
+
+add-distances : tie.Need-add-distances Inv-loop μ-loop
+add-distances c =
+    let i = c .before .before .before .before .before .before .before .before in
+    let l = i .before .loop in
+    let st = i .before .before .before .before .before .before .before in
+    let a = st .args in
+    let C = coloursOf (a .used) (now (a .keys)) (now (a .weights)) in
+    let z : State = stateOf (now (a .s)) (now (a .members)) in
+    let f : ℕ → ℕ = λ n. shortDistances C (a .k) (after toMean C (a .k) z n) in
+    let r = going-below _ _ _ _ (l .inv .0) (i .loop-test .taken) in
+    omega (
+      arith,
+      distances-at-most C (a .k) (a .limit) z (fair-of-table (st .pre .0 .steppable .table))
+          (st .pre .0 .steppable .fit .shades .few) (l .r + 1) (omega (arith, st .pre .2, r)),
+      sum-more (l .r) f,
+      c .before .before .before .before .before .short-step .ensures .count-is
+          ∙ ap (shortDistances C (a .k)) (l .inv .0 .state),
+      l .inv .0 .distances-is,
+    )
+
+add-r : tie.Need-add-r Inv-loop μ-loop
+add-r c =
+    let i = c .before .before .before .before .before .before .before .before in
+    omega (arith, going-below _ _ _ _ (i .before .loop .inv .0) (i .loop-test .taken))
+
+bound-requires : tie.Need-bound-requires Inv-loop μ-loop
+bound-requires c κs = search needs
+
+loop-less : tie.Need-loop-less Inv-loop μ-loop
+loop-less c =
+    let i = c .before .before .before .before .before .before .before .before .before in
+    omega (arith, going-below _ _ _ _ (i .before .loop .inv .0) (i .loop-test .taken))
+
+loop-again : tie.Need-loop-again Inv-loop μ-loop
+loop-again c =
+    let i = c .before .before .before .before .before .before .before .before .before in
+    let l = i .before .loop in
+    let st = i .before .before .before .before .before .before .before in
+    let e = c .before .before .before .before .before .before .short-step .ensures in
+    let h = i .loop-test .taken in
+    let b = going-below _ _ _ _ (l .inv .0) h in
+    (going-next _ _ _ _ (l .inv .0) h (omega (arith, st .pre .3)) e (c .bound .ensures), omega arith, omega arith)
+
+none-requires : tie.Need-none-requires Inv-loop μ-loop
+none-requires c κs = search needs
+
+same-length : tie.Need-same-length Inv-loop μ-loop
+same-length c = c .before .before .loop .inv .1
+
+same-length-2 : tie.Need-same-length-2 Inv-loop μ-loop
+same-length-2 c = c .before .before .loop .inv .2
+
+same-length-3 : tie.Need-same-length-3 Inv-loop μ-loop
+same-length-3 c = going-length _ _ _ _ (c .before .before .loop .inv .0)
+
+returns : tie.Need-returns Inv-loop μ-loop
+returns c =
+    let l = c .before .before in
+    let st = l .before .before .before .before .before .before in
+    going-done _ _ _ _ (l .loop .inv .0) (omega (arith, c .before .loop-test .left)) (st .pre .1) _ (c .none .ensures)
+
+pub make-rounds-spec : {M : Type 1} → statement M
+make-rounds-spec =
+    tie.close
+    (tie.spec
+    Inv-loop
+    μ-loop
+    loop-holds
+    short-step-requires
+    mul-totals
+    slice-write-totals
+    add-distances
+    add-r
+    bound-requires
+    loop-less
+    loop-again
+    none-requires
+    same-length
+    same-length-2
+    same-length-3
+    returns)

@@ -1,0 +1,44 @@
+// Rounds and runs on a table and shades that are known to be good: one round, plain or shortened;
+// rounds to the first that moves no shade or to a limit; a whole run.
+//
+// Calls; none refuses, and what one requires stands above it
+//   plain_step    one round by the plain search                      step.rt
+//   short_step    one round by the shortened search
+//   make_rounds   shortened rounds to the first quiet one or a limit   many.rt
+//   final_total   the members against the shades                     total.rt
+//   make_run      starting shades, rounds, final total               full.rt
+//
+// Read next: specs/Lib.antt (what the words mean), proofs/Lib.antt (what is shown).
+
+mod full;
+mod many;
+mod step;
+mod total;
+
+pub use full::make_run;
+pub use many::make_rounds;
+pub use step::plain_step;
+pub use step::short_step;
+pub use total::final_total;
+
+// What a round answers: its total, the shades that moved, the distances worked out.
+pub struct Stepped {
+    pub total: u64,
+    pub moved: u32,
+    pub count: u64,
+}
+
+// What rounds answer: how many were made, whether the last moved no shade, and all distances.
+pub struct Series {
+    pub rounds: usize,
+    pub settled: bool,
+    pub distances: u64,
+}
+
+// What a run answers, beside the shades: the same, and the final total.
+pub struct Whole {
+    pub rounds: usize,
+    pub settled: bool,
+    pub distances: u64,
+    pub total: u64,
+}

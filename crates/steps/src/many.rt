@@ -1,0 +1,66 @@
+// Shortened rounds, one after the other, to the first that moves no shade or to the limit.
+ghost use mathlib.Core.Path.{_≡_};
+ghost use mathlib.Core.Bool.{cond};
+ghost use Prim.Native.Nat.{_<_, _≤_};
+ghost use lib.ListN.{length};
+ghost use lib.Dec.{eqb};
+ghost use Rattle.rounds.specs.{stateOf, coloursOf};
+ghost use Rattle.steps.specs.Meeting.{Walkable, SeriesMeets, mostRounds};
+use super::Series;
+use super::Stepped;
+use super::step::short_step;
+
+// Whether no shade moved.
+fn none(moved: u32) -> bool
+    ensures { λ r. ⌜ r ≡ eqb moved 0 ⌝ }
+{
+    moved == 0
+}
+
+// Where the rounds end, after `r` of them: here if no shade moved, else at the limit.
+fn bound(moved: u32, r: usize, limit: usize) -> usize
+    ensures { λ n. ⌜ n ≡ cond (eqb moved 0) r limit ⌝ }
+{
+    if moved == 0 {
+        return r;
+    }
+    limit
+}
+
+// Makes rounds to the first that moves no shade, or to the limit, and stores each total. Requires
+// what a shortened round does, a limit of 1 to 200, and room for as many totals.
+pub fn make_rounds(
+    keys: &[u32],
+    weights: &[u32],
+    used: usize,
+    k: usize,
+    limit: usize,
+    s: &mut [u32],
+    members: &mut [u32],
+    totals: &mut [u64],
+) -> Series
+    requires { ⌜ Walkable used (now keys) (now weights) k (stateOf (now s) (now members))
+        × (0 < limit) × (limit ≤ mostRounds) × (limit ≤ length (now totals)) ⌝ }
+    ensures { λ r. ⌜ SeriesMeets (coloursOf used (now (keys .entry)) (now (weights .entry))) k limit
+        (stateOf (now (s .entry)) (now (members .entry)))
+        (stateOf (now (s .exit)) (now (members .exit)))
+        (now (totals .entry)) (now (totals .exit)) (r .rounds) (r .settled) (r .distances) ⌝ }
+{
+    let mut r = 0;
+    let mut go = limit;
+    let mut moved: u32 = 1;
+    let mut distances: u64 = 0;
+    while r < go {
+        let a = short_step(keys, weights, used, k, s, members);
+        totals[r] = a.total;
+        distances += a.count;
+        moved = a.moved;
+        r += 1;
+        go = bound(moved, r, limit);
+    }
+    Series {
+        rounds: r,
+        settled: none(moved),
+        distances,
+    }
+}

@@ -1,0 +1,61 @@
+// One round: the grouping, by either search, and then the move.
+ghost use Rattle.rounds.specs.{stateOf, coloursOf, plainDistances, shortDistances};
+ghost use Rattle.steps.specs.Meeting.{Steppable, Walkable, StepMeets};
+use super::Stepped;
+use groups::Regrouped;
+
+// One round by the plain search. Requires a table, shades on the grid and a member for each entry.
+pub fn plain_step(
+    keys: &[u32],
+    weights: &[u32],
+    used: usize,
+    k: usize,
+    s: &mut [u32],
+    members: &mut [u32],
+) -> Stepped
+    requires { ⌜ Steppable used (now keys) (now weights) k (stateOf (now s) (now members)) ⌝ }
+    ensures { λ r. ⌜ StepMeets (coloursOf used (now (keys .entry)) (now (weights .entry))) k
+        (plainDistances (coloursOf used (now (keys .entry)) (now (weights .entry))) k)
+        (stateOf (now (s .entry)) (now (members .entry)))
+        (stateOf (now (s .exit)) (now (members .exit)))
+        (r .total) (r .moved) (r .count) ⌝ }
+{
+    let a = groups::group_plain(keys, weights, used, s, k, members);
+    let t = a.sums;
+    let moved = moves::count_movers(&t, k, s);
+    moves::move_shades(&t, k, s);
+    Stepped {
+        total: a.total,
+        moved,
+        count: a.count,
+    }
+}
+
+// One round by the shortened search. Requires the same, and that each member is a shade's number.
+pub fn short_step(
+    keys: &[u32],
+    weights: &[u32],
+    used: usize,
+    k: usize,
+    s: &mut [u32],
+    members: &mut [u32],
+) -> Stepped
+    requires { ⌜ Walkable used (now keys) (now weights) k (stateOf (now s) (now members)) ⌝ }
+    ensures { λ r. ⌜ StepMeets (coloursOf used (now (keys .entry)) (now (weights .entry))) k
+        (shortDistances (coloursOf used (now (keys .entry)) (now (weights .entry))) k)
+        (stateOf (now (s .entry)) (now (members .entry)))
+        (stateOf (now (s .exit)) (now (members .exit)))
+        (r .total) (r .moved) (r .count) ⌝ }
+{
+    let mut g = [0u32; 4096];
+    search::fill_rows(s, k, &mut g);
+    let a = groups::group_short(keys, weights, used, s, &g, k, members);
+    let t = a.sums;
+    let moved = moves::count_movers(&t, k, s);
+    moves::move_shades(&t, k, s);
+    Stepped {
+        total: a.total,
+        moved,
+        count: a.count,
+    }
+}
