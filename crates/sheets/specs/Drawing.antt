@@ -1,6 +1,7 @@
--- The drawing of sheets A to E: two by two pixels, (0,0,0) three times and (10,0,0).
+-- The drawing of sheets A to E: two by two pixels, (0,0,0) three times and (10,0,0); and the tables of the sheets.
 use Prim.Native.Nat.{ℕ}
 use mathlib.Core.List.{List, [], _∷_}
+use lib.ListN.{replicate}
 use Rattle.table.specs.{Record}
 
 -- its bytes
@@ -17,3 +18,31 @@ keysA = 0 ∷ 655360 ∷ []
 
 abbrev pub weightsA : List ℕ
 weightsA = 3 ∷ 1 ∷ []
+
+-- and its record
+abbrev pub recordA : Record
+recordA = record { used = 2; pixels = 4 }
+
+-- sheet F's weights on the same colours, and their record
+abbrev pub weightsF : List ℕ
+weightsF = 1 ∷ 1 ∷ []
+
+abbrev pub recordF : Record
+recordF = record { used = 2; pixels = 2 }
+
+-- sheet G's table: the colour (5,0,0) once
+abbrev pub keysG : List ℕ
+keysG = 327680 ∷ []
+
+abbrev pub weightsG : List ℕ
+weightsG = 1 ∷ []
+
+abbrev pub recordG : Record
+recordG = record { used = 1; pixels = 1 }
+
+-- members and totals as they are lent: places past those that a call writes keep these values
+abbrev pub members : List ℕ
+members = 8 ∷ 8 ∷ 8 ∷ []
+
+abbrev pub totals : List ℕ
+totals = replicate 20 5

@@ -1,6 +1,22 @@
 -- Glossary.
 --   drawing           the two by two pixels of sheets A to E, as bytes
 --   empty             the record of an empty table
---   keysA, weightsA   sheet A's table
+--   keysA, weightsA, recordA   sheet A's table
+--   weightsF, recordF          sheet F's weights on the same colours
+--   keysG, weightsG, recordG   sheet G's table
+--   members, totals   what is lent to rounds and runs
 pub mod Drawing
-unfoldable pub use Drawing.{drawing, empty, keysA, weightsA}
+unfoldable pub use Drawing.{
+  drawing,
+  empty,
+  keysA,
+  weightsA,
+  recordA,
+  weightsF,
+  recordF,
+  keysG,
+  weightsG,
+  recordG,
+  members,
+  totals,
+}

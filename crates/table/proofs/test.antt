@@ -1,4 +1,4 @@
--- The two loops of the test: what holds at each turn.
+-- The loop over the weights: what holds at each turn.
 pub mod Turn
 -- What the test counts, and that it counts nothing exactly where the entries are sound.
 pub mod Faultless

@@ -1,20 +1,21 @@
--- `faults` meets its contract: the loop's invariant is `Comparing`.
+-- `faults` meets its contract: the loop counts the keys that the next one is not above.
 use Prim.Native.Nat.{_-_}
 use native.Mathlib.Omega.{arith}
 use denote.Ref.{now}
 use borrow.Author.Needs.{needs}
-use Rattle.table.proofs.test.Turn.{Comparing, comparing-start, comparing-step, comparing-done}
+use Rattle.number.proofs.Tallies.{Counting, counting-start, counting-step, counting-done}
+use Rattle.table.specs.Testing.{fallsAt}
 use Rattle.table.proofs.test.faults.Statement.{statement}
 use Rattle.table.proofs.test.faults.Tie as tie
 
 abbrev Inv-loop : tie.InvT-loop
-Inv-loop keys last count₀ i₀ count i = Comparing keys last count i
+Inv-loop keys last count₀ i₀ count i = Counting last (fallsAt keys) count i
 
 abbrev μ-loop : tie.MeasureT-loop
 μ-loop keys last count₀ i₀ count i = last - i
 
 loop-holds : tie.Need-loop-holds Inv-loop μ-loop
-loop-holds c = comparing-start (now (c .before .args .keys)) (c .before .args .last)
+loop-holds c = counting-start (c .before .args .last) (fallsAt (now (c .before .args .keys)))
 
 mul-not-above : tie.Need-mul-not-above Inv-loop μ-loop
 mul-not-above c = omega arith
@@ -45,11 +46,11 @@ loop-less c = omega arith
 
 loop-again : tie.Need-loop-again Inv-loop μ-loop
 loop-again c =
-    comparing-step (c .before .before .before .before .loop .inv) (omega arith) (c .not-above .result)
+    counting-step (c .before .before .before .before .loop .inv) (omega arith) (c .not-above .result)
     (c .not-above .ensures .0)
 
 returns : tie.Need-returns Inv-loop μ-loop
-returns c = comparing-done (c .before .loop .inv) (c .loop-test .left)
+returns c = counting-done (c .before .loop .inv) (c .loop-test .left)
 
 pub faults-spec : {M : Type 1} → statement M
 faults-spec =
