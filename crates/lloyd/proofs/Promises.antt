@@ -2,7 +2,7 @@
 -- alone stands in the Promises of the crate rounds, the search's in those of the crate shades.
 -- `AcceptedRun .. r members totals` says that r, members and totals are what an accepted run answers and leaves; the
 -- colours are those of the table, and the group of shade q has the colours whose member is q.
-use Prim.Native.Nat.{ℕ, _+_, _-_, _*_, _≤_, _<_}
+use Prim.Native.Nat.{ℕ, _+_, _-_, _*_, _/_, _≤_, _<_}
 use mathlib.Core.Bool.{true, false}
 use mathlib.Core.List.{List}
 use mathlib.Core.Logic.{_↔_}
@@ -31,6 +31,8 @@ use Rattle.rounds.specs.{
   after,
   movedOf,
   totalOf,
+  plainDistances,
+  shortDistances,
   begin,
   leastSum,
 }
@@ -58,8 +60,10 @@ use Rattle.lloyd.specs.Outcomes.{
   plainRound,
   shortRound,
   keptRound,
+  madeRound,
   runOf,
   keptRun,
+  madeRun,
   left,
 }
 use Rattle.lloyd.specs.declared.Rounded.{Rounded}
@@ -164,6 +168,32 @@ run-refused = wholes.run-refused
 
 -- ---- single rounds
 
+-- An accepted plain round is a round of Lloyd's rule, with the number of shades counted for each colour.
+pub plain-accepted : (rec : Record) (ks ws : List ℕ) (a : State) → plainRound rec ks ws a .answer .refusal ≡ done
+    → plainRound rec ks ws a
+    ≡ madeRound (coloursOf (rec .used) ks ws) (length (a .coordinates) / 3) a plainDistances
+plain-accepted = rounds.plain-accepted
+
+-- An accepted shortened round is the same, with the distances counted that the shortened search works out.
+pub short-accepted : (rec : Record) (ks ws : List ℕ) (a : State) → shortRound rec ks ws a .answer .refusal ≡ done
+    → shortRound rec ks ws a
+    ≡ madeRound (coloursOf (rec .used) ks ws) (length (a .coordinates) / 3) a shortDistances
+short-accepted = rounds.short-accepted
+
+-- In an accepted plain round each used member becomes the nearest shade, as the shades came.
+pub plain-joined : (rec : Record) (ks ws : List ℕ) (a : State) → plainRound rec ks ws a .answer .refusal ≡ done
+    → (i : ℕ) → i < rec .used
+    → getD (plainRound rec ks ws a .state .members) i 0
+    ≡ nearestShade (a .coordinates) (length (a .coordinates) / 3) (colourAt ks i)
+plain-joined = rounds.plain-joined
+
+-- In an accepted shortened round too.
+pub short-joined : (rec : Record) (ks ws : List ℕ) (a : State) → shortRound rec ks ws a .answer .refusal ≡ done
+    → (i : ℕ) → i < rec .used
+    → getD (shortRound rec ks ws a .state .members) i 0
+    ≡ nearestShade (a .coordinates) (length (a .coordinates) / 3) (colourAt ks i)
+short-joined = rounds.short-joined
+
 -- Where a shortened round is accepted, a plain one is, and both leave the same coordinates, members, total and number
 -- of moved shades.
 pub short-leaves-plain : (rec : Record) (ks ws : List ℕ) (a : State) → shortRound rec ks ws a .answer .refusal ≡ done
@@ -184,6 +214,13 @@ pub short-members-kept : (rec : Record) (ks ws : List ℕ) (a : State) (i : ℕ)
 short-members-kept = rounds.short-members-kept
 
 -- ---- every accepted run
+
+-- An accepted run makes rounds of Lloyd's rule from the starting shades, with every colour in shade 0.
+pub run-accepted : (rec : Record) (ks ws : List ℕ) (k limit : ℕ) (ms ts : List ℕ)
+    → runOf rec ks ws k limit ms ts .answer .refusal ≡ done
+    → runOf rec ks ws k limit ms ts
+    ≡ madeRun (coloursOf (rec .used) ks ws) k (limitOf limit) (begin (coloursOf (rec .used) ks ws) k ms) ts
+run-accepted = wholes.run-accepted
 
 module _ {rec : Record} {ks ws : List ℕ} {k limit : ℕ} {ms ts : List ℕ} {r : Ran} {members totals : List ℕ}
     (h : AcceptedRun rec ks ws k limit ms ts r members totals) where

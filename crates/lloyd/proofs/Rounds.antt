@@ -1,5 +1,5 @@
 -- The outcomes of single rounds: refused or made, and what is left either way.
-use Prim.Native.Nat.{ℕ, _/_, _≤_}
+use Prim.Native.Nat.{ℕ, _/_, _≤_, _<_}
 use mathlib.Core.Bool.{false}
 use mathlib.Core.List.{List}
 use mathlib.Core.Logic.{_↔_, inl, inr}
@@ -19,9 +19,10 @@ use Rattle.refusal.proofs.Outcomes.{
   refused-is-so,
 }
 use Rattle.table.specs.{Record, badTable}
-use Rattle.shades.specs.{badCoordinates, badCentre}
+use Rattle.shades.specs.{colourAt, nearestShade, badCoordinates, badCentre}
 use Rattle.shades.proofs.Checks.{bad-coordinates-exactly, shades-of-tests}
 use Rattle.rounds.specs.{Colours, State, coloursOf, joins, plainDistances, shortDistances}
+use Rattle.rounds.proofs.Falls.{member-joined}
 use Rattle.steps.specs.{Steppable, Walkable, StepMeets}
 use Rattle.lloyd.specs.Refusals.{shortMembers, badMember, plainRows, shortRows}
 use Rattle.lloyd.specs.Outcomes.{
@@ -240,6 +241,24 @@ module _ (rec : Record) (ks ws : List ℕ) (a : State) where
   unfolding shortRound
   short-members-kept =
       outcome-kept (shortRows rec ks ws a) (coloursOf (rec .used) ks ws) (length (a .coordinates) / 3) a shortDistances
+
+  -- in an accepted plain round each used member is the nearest shade, as the shades came
+  pub plain-joined : plainRound rec ks ws a .answer .refusal ≡ done → (i : ℕ) → i < rec .used
+      → getD (plainRound rec ks ws a .state .members) i 0
+      ≡ nearestShade (a .coordinates) (length (a .coordinates) / 3) (colourAt ks i)
+  plain-joined h i l =
+      rw (plain-accepted h)
+      (member-joined (coloursOf (rec .used) ks ws) (length (a .coordinates) / 3) a
+      (plain-steppable (plain-good (plain-accepted-exactly .0 h)) .fit) i l)
+
+  -- and in an accepted shortened one
+  pub short-joined : shortRound rec ks ws a .answer .refusal ≡ done → (i : ℕ) → i < rec .used
+      → getD (shortRound rec ks ws a .state .members) i 0
+      ≡ nearestShade (a .coordinates) (length (a .coordinates) / 3) (colourAt ks i)
+  short-joined h i l =
+      rw (short-accepted h)
+      (member-joined (coloursOf (rec .used) ks ws) (length (a .coordinates) / 3) a
+      (plain-steppable (short-good (short-accepted-exactly .0 h) .0) .fit) i l)
 
   -- ---- the contracts, by what the tests said
 

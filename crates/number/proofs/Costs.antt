@@ -1,5 +1,5 @@
 -- What a whole shade costs a weighted group, in the figures W, S and Q. Two inductions over the places; the rest is
--- `omega`. The least cost stands last, with the one difference in it.
+-- `omega`.
 use mathlib.Core.Path.{_≡_, ap}
 use Prim.Native.Nat.{ℕ, zero, suc, _+_, _-_, _*_, _≤_}
 use native.Mathlib.Omega.{arith}
@@ -36,7 +36,3 @@ cauchy G = upto-cauchy (G .w) (G .x) (G .n)
 -- W times a cost is in two parts: the group's own, WQ - S², and the square of how far zW is from S
 pub cost-parts : (G : Group) (z : ℕ) → W G * cost G z + S G * S G ≡ W G * Q G + sq (S G) (z * W G)
 cost-parts G z = omega (arith, ap (λ t. W G * t) (cost-law G z), sq-law (S G) (z * W G))
-
--- no shade does better than the group's own part
-pub cost-least : (G : Group) (z : ℕ) → W G * Q G - S G * S G ≤ W G * cost G z
-cost-least G z = omega (arith, cost-parts G z)

@@ -14,14 +14,6 @@ pub howMany-more : (n : ℕ) (b : ℕ → Bool) → howMany (n + 1) b ≡ cond (
 unfolding howMany
 howMany-more n b = rw (add-one n)
 
--- a place that passes makes one more
-pub howMany-passes : (n : ℕ) (b : ℕ → Bool) → b n ≡ true → howMany (n + 1) b ≡ howMany n b + 1
-howMany-passes n b e = rw (howMany-more n b, e)
-
--- a place that fails changes nothing
-pub howMany-fails : (n : ℕ) (b : ℕ → Bool) → b n ≡ false → howMany (n + 1) b ≡ howMany n b
-howMany-fails n b e = rw (howMany-more n b, e)
-
 -- no more places pass than there are
 pub howMany-at-most : (n : ℕ) (b : ℕ → Bool) → howMany n b ≤ n
 unfolding howMany

@@ -1,12 +1,15 @@
 -- What is shown of searches and of weighted groups: each theorem in full, under a sentence that says it.
 -- The proofs stand in Searches, Costs, Means and Fractions. W, S and Q are a group's pixel count, its weighted sum
 -- of coordinates, and that of their squares.
+use mathlib.Core.Bool.{Bool}
 use mathlib.Core.Path.{_≡_}
 use Prim.Native.Nat.{ℕ, _+_, _-_, _*_, _≤_, _<_}
 use Rattle.number.specs.Groups.{Group, W, S, Q, cost, roundedMean, scale}
-use Rattle.number.specs.Search.{Best, least, most}
+use Rattle.number.specs.Search.{Best, least, most, firstThat}
 use Rattle.number.specs.Square.{gap, sq}
 use Rattle.number.proofs.Searches as Searches
+use Rattle.number.proofs.Firsts as Firsts
+use Rattle.number.proofs.Firsts.{First}
 use Rattle.number.proofs.Costs as Costs
 use Rattle.number.proofs.Means as Means
 use Rattle.number.proofs.Fractions as Fractions
@@ -33,6 +36,14 @@ best-is-least n f = Searches.best-is-first Searches.rising f n
 -- Whatever place is the lowest one with the greatest value, it is `most`.
 pub best-is-most : (n : ℕ) (f : ℕ → ℕ) {m d : ℕ} → 0 < n → Best (λ a b. b < a) (λ j. j < n) f m d → m ≡ most n f
 best-is-most n f = Searches.best-is-first Searches.falling f n
+
+-- Before the first place that passes a test none passes, and it passes itself where it is below the end.
+pub first-that-is : (n : ℕ) (b : ℕ → Bool) → First n b (firstThat n b)
+first-that-is = Firsts.first-that
+
+-- There is one such place only.
+pub first-that-only : (n : ℕ) (b : ℕ → Bool) (m : ℕ) → First n b m → m ≡ firstThat n b
+first-that-only = Firsts.first-that-only
 
 -- ---- what a whole shade costs
 

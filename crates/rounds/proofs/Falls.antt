@@ -100,11 +100,6 @@ module _ (rule : Rule) (C : Colours) (k : ℕ) (a : State) where
   unfolding after
   after-more r = rw (add-one r)
 
-  -- before the first round stands the state given
-  pub after-none : after rule C k a 0 ≡ a
-  unfolding after
-  after-none = refl
-
   module _ (grid : KeepsGrid rule) (fair : Fair C) (f : Fit C k a) where
     -- each round leaves a state fit for the next
     pub after-fit : (r : ℕ) → Fit C k (after rule C k a r)

@@ -14,7 +14,7 @@ pub mod Ends
 pub mod Runs
 -- What a table's colours are at most.
 pub mod Sizes
--- The starting shades: read back one by one, on the grid, each next the farthest colour.
+-- The starting shades: read back one by one, and on the grid.
 pub mod Startings
 -- The state in which a run begins.
 pub mod Begins

@@ -1,4 +1,4 @@
--- The starting shades: a list over the front of another, the starts one by one, and each next the farthest colour.
+-- The starting shades: a list over the front of another, and the starts one by one.
 use Prim.Native.Nat.{ℕ, zero, suc, _+_, _*_, _≤_, _<_}
 use mathlib.Core.List.{List, [], _∷_, _++_, append-assoc}
 use mathlib.Core.Logic.{⊎-elim}
@@ -8,7 +8,6 @@ use native.Mathlib.Omega.{arith}
 use lib.ListN.{length, getD, set, length-append, List·getD-append}
 use lib.Seq.{getD-append-add}
 use Rattle.number.specs.{most}
-use Rattle.number.proofs.Promises.{most-is-best}
 use Rattle.number.proofs.Searches.{below-or-last}
 use Rattle.colour.specs.{Point, Within, mostCoordinate}
 use Rattle.shades.specs.{shadeAt, putShade, OnGrid}
@@ -143,19 +142,3 @@ module _ (m : Point) (n : ℕ) (c : ℕ → Point) where
   starts-low (suc k) w h =
       let s = startsFrom m n c k in
       join-low s (flat (nextShade m n c k s)) (starts-low k w h) (flat-low (nextShade m n c k s) (next-within k s w h))
-
-  -- no colour is farther from its nearest shade so far than the next shade is
-  pub next-is-farthest : (k : ℕ) (s : List ℕ) → 0 < n → (i : ℕ) → i < n
-      → remote s (suc k) (c i) ≤ remote s (suc k) (nextShade m n c (suc k) s)
-  next-is-farthest k s some i h =
-      let f : ℕ → ℕ = λ j. remote s (suc k) (c j) in
-      let none = most-is-best n f some .unbettered i h in
-      omega arith
-
-  -- and every colour of a lower entry is nearer: at a tie the first entry is chosen
-  pub next-is-first : (k : ℕ) (s : List ℕ) → 0 < n → (i : ℕ) → i < most n (λ j. remote s (suc k) (c j))
-      → remote s (suc k) (c i) < remote s (suc k) (nextShade m n c (suc k) s)
-  next-is-first k s some i h =
-      let f : ℕ → ℕ = λ j. remote s (suc k) (c j) in
-      let best = most-is-best n f some in
-      best .lower i (omega (arith, best .member)) h

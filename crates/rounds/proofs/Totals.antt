@@ -29,19 +29,13 @@ total-by-groups C k m s below =
     (λ q g. sum-eq (C .n) _ (λ i. cond (eqb (m i) q) (C .w i) 0 * distance (C .c i) (s q))
     (λ i l. sym (weigh (eqb (m i) q) (C .w i) (distance (C .c i) (s q)))))
 
--- groups by members that agree are the same: they cost the same
-pub group-cost-same : (C : Colours) (m l : ℕ → ℕ) (q : ℕ) (z : Point) → ((i : ℕ) → i < C .n → m i ≡ l i)
-    → costAt (groupOf C m q) z ≡ costAt (groupOf C l q) z
-group-cost-same C m l q z same =
-    sum-eq (C .n) _ _ (λ i h. ap (λ t. cond (eqb t q) (C .w i) 0 * distance (C .c i) z) (same i h))
-
--- and weigh the same, whatever is counted
+-- groups by members that agree weigh the same, whatever is counted
 pub group-sum-same : (C : Colours) (m l : ℕ → ℕ) (q : ℕ) (f : ℕ → ℕ) → ((i : ℕ) → i < C .n → m i ≡ l i)
     → sum (C .n) (λ i. groupOf C m q .w i * f i) ≡ sum (C .n) (λ i. groupOf C l q .w i * f i)
 group-sum-same C m l q f same =
     sum-eq (C .n) _ _ (λ i h. ap (λ t. cond (eqb t q) (C .w i) 0 * f i) (same i h))
 
--- their pixels too
+-- and have as many pixels
 pub group-pixels-same : (C : Colours) (m l : ℕ → ℕ) (q : ℕ) → ((i : ℕ) → i < C .n → m i ≡ l i)
     → pixelsIn (groupOf C m q) ≡ pixelsIn (groupOf C l q)
 group-pixels-same C m l q same = sum-eq (C .n) _ _ (λ i h. ap (λ t. cond (eqb t q) (C .w i) 0) (same i h))

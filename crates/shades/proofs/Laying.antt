@@ -1,17 +1,18 @@
 -- Shades laid in a list of coordinates and read back, and how far a shade can be.
 use Prim.Native.Nat.{ℕ, zero, suc, _+_, _*_, _/_, _%_, _≤_, _<_}
 use mathlib.Core.Bool.{Bool, true, false, _&&_}
-use mathlib.Core.List.{List, [], _∷_}
-use mathlib.Core.Path.{_≡_, refl, sym, _∙_}
+use mathlib.Core.List.{List}
+use mathlib.Core.Logic.{_↔_}
+use mathlib.Core.Path.{_≡_, refl, sym, ap, _∙_}
 use native.Mathlib.Omega.{arith}
-use lib.ListN.{length, getD, set}
+use lib.ListN.{length}
 use lib.Dec.{eqb}
 use borrow.Author.Tests.{eqb-true, eq-eqb}
 use Rattle.number.proofs.Cases.{never}
 use Rattle.number.proofs.Fills.{fill-at, fill-at-most, fill-length}
 use Rattle.colour.specs.{Point, Within, mostCoordinate, mostDistance}
 use Rattle.colour.proofs.Distances.{distance-most}
-use Rattle.shades.specs.Places.{shadeAt, axis, coordinateOf, laid, putShade, samePlace, OnGrid}
+use Rattle.shades.specs.Places.{shadeAt, axis, coordinateOf, laid, samePlace, OnGrid}
 use Rattle.shades.specs.Distances.{toShade}
 
 -- a shade of coordinates on the grid is on the grid
@@ -61,24 +62,8 @@ module _ (k : ℕ) (f : ℕ → Point) (d : List ℕ) where
   pub laid-length : length (laid k f d) ≡ length d
   laid-length = fill-length (3 * k) (coordinateOf f) d
 
--- no coordinate is above m, also where one not above m is stored
-set-low : (m : ℕ) (l : List ℕ) (i v : ℕ) → v ≤ m → ((j : ℕ) → getD l j 0 ≤ m) → (j : ℕ) → getD (set l i v) j 0 ≤ m
-set-low m [] i v h low j = low j
-set-low m (x ∷ l) zero v h low zero = h
-set-low m (x ∷ l) zero v h low (suc j) = low (suc j)
-set-low m (x ∷ l) (suc i) v h low zero = low zero
-set-low m (x ∷ l) (suc i) v h low (suc j) = set-low m l i v h (λ n. low (suc n)) j
-
--- coordinates on the grid stay there when a shade of the grid is stored
-pub put-low : (s : List ℕ) (q : ℕ) (p : Point) → Within mostCoordinate p → OnGrid s → OnGrid (putShade s q p)
-put-low s q p w low =
-    let s₁ = set s (3 * q) (p .r) in
-    set-low mostCoordinate (set s₁ (3 * q + 1) (p .g)) (3 * q + 2) (p .b) (w .b-low)
-    (set-low mostCoordinate s₁ (3 * q + 1) (p .g) (w .g-low)
-    (set-low mostCoordinate s (3 * q) (p .r) (w .r-low) low))
-
 -- a point stands where it stands
-pub same-place-refl : (p : Point) → samePlace p p ≡ true
+same-place-refl : (p : Point) → samePlace p p ≡ true
 same-place-refl p = simp (eq-eqb (p .r) (p .r) refl, eq-eqb (p .g) (p .g) refl, eq-eqb (p .b) (p .b) refl)
 
 both : (a b : Bool) → (a && b) ≡ true → (a ≡ true) × (b ≡ true)
@@ -91,3 +76,7 @@ same-place-is p q e =
     let r = both (eqb (p .r) (q .r)) _ e in
     let g = both (eqb (p .g) (q .g)) _ (r .1) in
     rw (eqb-true (p .r) (q .r) (r .0), eqb-true (p .g) (q .g) (g .0), eqb-true (p .b) (q .b) (g .1))
+
+-- two points have the same coordinates exactly where they are one point
+pub same-place-exactly : (p q : Point) → (samePlace p q ≡ true) ↔ (p ≡ q)
+same-place-exactly p q = (same-place-is p q, λ e. ap (samePlace p) (sym e) ∙ same-place-refl p)

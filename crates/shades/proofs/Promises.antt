@@ -1,15 +1,16 @@
 -- What is shown of shades, for whoever cites it. Each body names the proof.
 use Prim.Native.Nat.{ℕ, _*_, _/_, _≤_, _<_}
-use mathlib.Core.Bool.{false}
+use mathlib.Core.Bool.{true, false}
 use mathlib.Core.List.{List}
 use mathlib.Core.Logic.{_↔_}
 use mathlib.Core.Path.{_≡_}
 use Rattle.number.specs.{Best}
 use Rattle.number.proofs.Promises.{least-is-best, best-is-least}
 use Rattle.colour.specs.{Point}
-use Rattle.shades.specs.Places.{mostShades, OnGrid}
+use Rattle.shades.specs.Places.{mostShades, samePlace, OnGrid}
 use Rattle.shades.specs.Distances.{toShade, nearestShade, pack, packedNearest}
 use Rattle.shades.specs.Tests.{badCoordinates, badCentre}
+use Rattle.shades.proofs.Laying as laying
 use Rattle.shades.proofs.Nearest as nearest
 use Rattle.shades.proofs.Nearest.{LookedAt}
 use Rattle.shades.proofs.Checks as checks
@@ -38,6 +39,10 @@ pub packed-least : (s : List ℕ) (k : ℕ) (c : Point) → 0 < k → k ≤ most
 packed-least = nearest.packed-least
 
 -- ---- lent coordinates
+
+-- Two shades stand in the same place exactly where all three coordinates agree: what "moved" counts.
+pub same-place-exactly : (p q : Point) → (samePlace p q ≡ true) ↔ (p ≡ q)
+same-place-exactly = laying.same-place-exactly
 
 -- The test of BAD COUNT fails exactly for three coordinates for each of 1 to 64 shades.
 pub bad-coordinates-exactly : (n : ℕ)

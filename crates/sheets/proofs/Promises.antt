@@ -119,26 +119,26 @@ sheet-F = refl
 -- is just four times as far from shade 1 as the colour is.
 pub sheet-G : shortRound recordG keysG weightsG
     (record { coordinates = 0 ∷ 0 ∷ 0 ∷ 160 ∷ 0 ∷ 0 ∷ []; members = 1 ∷ 8 ∷ [] }) ≡ record {
-  answer = record { refusal = done; total = 6400; moved = 1; distances = 2 };
-  state = record { coordinates = 80 ∷ 0 ∷ 0 ∷ 160 ∷ 0 ∷ 0 ∷ []; members = 0 ∷ 8 ∷ [] };
-}
+      answer = record { refusal = done; total = 6400; moved = 1; distances = 2 };
+      state = record { coordinates = 80 ∷ 0 ∷ 0 ∷ 160 ∷ 0 ∷ 0 ∷ []; members = 0 ∷ 8 ∷ [] };
+    }
 unfolding shortRound firstBest howMany sum fill distance sq
 sheet-G = refl
 
 -- Sheet I: with the shade (0,0,0) twice both colours of A's table join 0, and shade 1 stays.
 pub sheet-I : plainRound recordA keysA weightsA
     (record { coordinates = replicate 6 0; members = members }) ≡ record {
-  answer = record { refusal = done; total = 25600; moved = 1; distances = 4 };
-  state = record { coordinates = 40 ∷ replicate 5 0; members = 0 ∷ 0 ∷ 8 ∷ [] };
-}
+      answer = record { refusal = done; total = 25600; moved = 1; distances = 4 };
+      state = record { coordinates = 40 ∷ replicate 5 0; members = 0 ∷ 0 ∷ 8 ∷ [] };
+    }
 unfolding plainRound firstBest howMany sum fill distance sq
 sheet-I = refl
 
 -- The shortened round does the same, and works out 4 distances: a twin of the former shade is another shade.
 pub sheet-I-short : shortRound recordA keysA weightsA
     (record { coordinates = replicate 6 0; members = 0 ∷ 0 ∷ 8 ∷ [] }) ≡ record {
-  answer = record { refusal = done; total = 25600; moved = 1; distances = 4 };
-  state = record { coordinates = 40 ∷ replicate 5 0; members = 0 ∷ 0 ∷ 8 ∷ [] };
-}
+      answer = record { refusal = done; total = 25600; moved = 1; distances = 4 };
+      state = record { coordinates = 40 ∷ replicate 5 0; members = 0 ∷ 0 ∷ 8 ∷ [] };
+    }
 unfolding shortRound firstBest howMany sum fill distance sq
 sheet-I-short = refl

@@ -66,7 +66,7 @@ module _ (C : Colours) (k limit : ℕ) (a : State) where
   at r = after toMean C k a r
 
   -- the distances of r rounds fit
-  pub distances-at-most : Fair C → k ≤ mostShades → (r : ℕ) → r ≤ mostRounds
+  distances-at-most : Fair C → k ≤ mostShades → (r : ℕ) → r ≤ mostRounds
       → sum r (λ n. shortDistances C k (after toMean C k a n)) ≤ mostRounds * (mostEntries * (mostShades + 1))
   distances-at-most f few r h =
       omega (
@@ -100,7 +100,7 @@ module _ (C : Colours) (k limit : ℕ) (a : State) where
   module _ {before totals : List ℕ} {z : State} {r go moved distances : ℕ}
       (g : Going before z totals r go moved distances) where
     -- a round that is to be made is one of those made
-    pub going-made : r < go → r < roundsMade limit (quiet toMean C k a)
+    going-made : r < go → r < roundsMade limit (quiet toMean C k a)
     going-made h = ltb-true r (roundsMade limit still) (sym (g .more) ∙ lt-ltb r go h)
 
     -- and below the limit
@@ -110,6 +110,18 @@ module _ (C : Colours) (k limit : ℕ) (a : State) where
     -- there are as many places for totals as before
     pub going-length : length totals ≡ length before
     going-length = ap length (g .totals-is) ∙ fill-length r (λ n. totalOf C k (at n)) before
+
+    -- and its distances are added without overflow
+    pub going-counted : r < go → Fair C → k ≤ mostShades → limit ≤ mostRounds → (count : ℕ)
+        → count ≡ shortDistances C k z → distances + count ≤ mostRounds * (mostEntries * (mostShades + 1))
+    going-counted h fair few most count e =
+        omega (
+          arith,
+          distances-at-most fair few (r + 1) (omega (arith, going-below h)),
+          sum-more r (λ n. shortDistances C k (at n)),
+          e ∙ ap (shortDistances C k) (g .state),
+          g .distances-is,
+        )
 
     -- one round more
     pub going-next : r < go → r < length before → {y : State} {total moved′ count go′ : ℕ}
@@ -169,6 +181,6 @@ module _ {used : ℕ} {ks ws : List ℕ} {k limit : ℕ} {members totals : List 
 
   -- what the rounds of a run leave is fit for its final total
   pub series-walkable : {z : State} {after : List ℕ} {rounds distances : ℕ} {settled : Bool}
-      → SeriesMeets (coloursOf used ks ws) k limit (begin (coloursOf used ks ws) k members) z totals after rounds settled
-      distances → Walkable used ks ws k z
+      → SeriesMeets (coloursOf used ks ws) k limit (begin (coloursOf used ks ws) k members) z totals after rounds
+      settled distances → Walkable used ks ws k z
   series-walkable m = rw (m .state) (after-walkable begin-walkable _)

@@ -1,20 +1,18 @@
 -- `make_rounds` meets its contract: the loop's invariant is `Going`.
-use Prim.Native.Nat.{ℕ, _+_, _-_}
-use mathlib.Core.Path.{_≡_, refl, ap, _∙_}
+use Prim.Native.Nat.{_-_}
+use mathlib.Core.Path.{_≡_, refl}
 use native.Mathlib.Omega.{arith}
 use lib.ListN.{length}
-use denote.Ref.{now}
 use borrow.Author.Needs.{needs}
-use Rattle.number.proofs.Sums.{sum-more}
-use Rattle.rounds.specs.{State, stateOf, coloursOf, toMean, after, shortDistances}
+use Rattle.rounds.specs.{stateOf, coloursOf}
 use Rattle.rounds.proofs.Sizes.{fair-of-table}
 use Rattle.steps.proofs.Turns.{
   Going,
   after-walkable,
-  distances-at-most,
   going-start,
   going-below,
   going-length,
+  going-counted,
   going-next,
   going-done,
 }
@@ -56,21 +54,13 @@ slice-write-totals c =
 add-distances : tie.Need-add-distances Inv-loop μ-loop
 add-distances c =
     let i = c .before .before .before .before .before .before .before .before in
-    let l = i .before .loop in
     let st = i .before .before .before .before .before .before .before in
-    let a = st .args in
-    let C = coloursOf (a .used) (now (a .keys)) (now (a .weights)) in
-    let z : State = stateOf (now (a .s)) (now (a .members)) in
-    let f : ℕ → ℕ = λ n. shortDistances C (a .k) (after toMean C (a .k) z n) in
-    let r = going-below _ _ _ _ (l .inv .0) (i .loop-test .taken) in
+    let p = st .pre .0 .steppable in
     omega (
       arith,
-      distances-at-most C (a .k) (a .limit) z (fair-of-table (st .pre .0 .steppable .table))
-          (st .pre .0 .steppable .fit .shades .few) (l .r + 1) (omega (arith, st .pre .2, r)),
-      sum-more (l .r) f,
-      c .before .before .before .before .before .short-step .ensures .count-is
-          ∙ ap (shortDistances C (a .k)) (l .inv .0 .state),
-      l .inv .0 .distances-is,
+      going-counted _ _ _ _ (i .before .loop .inv .0) (i .loop-test .taken) (fair-of-table (p .table))
+          (p .fit .shades .few) (st .pre .2) _
+          (c .before .before .before .before .before .short-step .ensures .count-is),
     )
 
 add-r : tie.Need-add-r Inv-loop μ-loop
