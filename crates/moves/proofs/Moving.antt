@@ -15,6 +15,7 @@ use Rattle.colour.specs.{Point}
 use Rattle.shades.specs.{mostShades, mostCoordinates, shadeAt, axis, coordinateOf, laid, samePlace}
 use Rattle.shades.proofs.Laying.{coordinate-at, first-coordinate}
 use Rattle.rounds.specs.{Colours, Tabled, coloursOf, pixelsIn, sumsOf, meanOf, groupOf, toMean}
+use Rattle.rounds.proofs.Totals.{weight-times}
 use Rattle.sums.specs.{twoOf, oneOf, weighed, given, Summed}
 use Rattle.sums.proofs.Bounds.{given-at-most}
 use Rattle.moves.specs.Reading.{sumIn, goes, stays, Measured}
@@ -49,11 +50,6 @@ to-mean-axis G s q e h =
 
 -- ---- the sums of a group
 
--- what an entry gives to a group, where it has a product
-given-mul : (b : Bool) (w v : ℕ) → cond b (w * v) 0 ≡ cond b w 0 * v
-given-mul true w v = refl
-given-mul false w v = omega arith
-
 module _ (used : ℕ) (ks ws : List ℕ) (t : Tabled used ks ws)
     (m : ℕ → ℕ) (sums : List ℕ) (h : Summed m ks ws used sums) where
   -- the group of shade q
@@ -67,7 +63,7 @@ module _ (used : ℕ) (ks ws : List ℕ) (t : Tabled used ks ws)
   -- what the entries give to a group, by the weights in the group
   group-given : (f : ℕ → ℕ) (q : ℕ)
       → sum used (given m (weighed f ks ws) q) ≡ sum used (λ i. group q .w i * f (getD ks i 0))
-  group-given f q = sum-eq used _ _ (λ i l. given-mul (eqb (m i) q) (getD ws i 0) (f (getD ks i 0)))
+  group-given f q = sum-eq used _ _ (λ i l. sym (weight-times (eqb (m i) q) (getD ws i 0) (f (getD ks i 0))))
 
   -- the two sums of a group, taken apart
   group-parts : (q : ℕ) → q < mostShades → Parts (group q) (getD sums (2 * q) 0) (getD sums (2 * q + 1) 0)

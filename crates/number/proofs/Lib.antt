@@ -14,7 +14,7 @@ pub mod Fills
 pub mod Parts
 -- Searches: the first best of places is one only, and `firstBest` is it, over any order.
 pub mod Searches
--- The lesser, the greater, the greatest, and its first place.
+-- The lesser, the greater, the greatest and its first place, and the least.
 pub mod Peaks
 -- The first place that passes a test.
 pub mod Firsts

@@ -1,14 +1,14 @@
--- Laws of the lesser, the greater and the greatest, and that the first place of the greatest is `most`.
+-- Laws of the lesser and the greater, of the greatest, whose first place is `most`, and of the least.
 use mathlib.Core.Bool.{Bool, true, false, cond}
 use mathlib.Core.Logic.{⊎-elim}
-use mathlib.Core.Path.{_≡_, refl}
+use mathlib.Core.Path.{_≡_, refl, sym, ap, _∙_}
 use Prim.Native.Nat.{ℕ, zero, suc, _+_, _≤_, _<_}
 use native.Mathlib.Numerals.{add-one}
 use native.Mathlib.Omega.{arith}
 use native.Mathlib.Decide.{decLt}
 use lib.Dec.{ltb}
-use borrow.Author.Tests.{ltb-true, ltb-false}
-use Rattle.number.specs.Search.{most, lesserOf, greaterOf, peak}
+use borrow.Author.Tests.{lt-ltb, ltb-true, ltb-false}
+use Rattle.number.specs.Search.{firstBest, least, most, lesserOf, greaterOf, peak, lowest}
 use Rattle.number.proofs.Searches.{below-or-last, first-below, first-is-best, falling}
 
 -- neither of two numbers is below the lesser, which is one of them
@@ -103,3 +103,36 @@ first-peak-is-most n i f h e before = go (decLt i (most n f)) (decLt (most n f) 
     go (yes l) w = absurd (omega (arith, first-is-best falling f n some .lower i h l, most-is-peak n f some))
     go (no l) (yes w) = absurd (omega (arith, before (most n f) w, most-is-peak n f some))
     go (no l) (no w) = omega arith
+
+-- ---- the least, kept as a loop goes on
+
+-- one place more: the lesser of the least so far and its value
+pub lowest-more : (top n : ℕ) (f : ℕ → ℕ) → lowest top (n + 1) f ≡ lesserOf (lowest top n f) (f n)
+unfolding lowest
+lowest-more top n f = rw (add-one n)
+
+-- of no values it is the top
+pub lowest-none : (top : ℕ) (f : ℕ → ℕ) → lowest top 0 f ≡ top
+unfolding lowest
+lowest-none top f = refl
+
+-- the least value of one place more is the lesser of the least so far and its own
+least-value : (n : ℕ) (f : ℕ → ℕ) → f (least (suc n) f) ≡ lesserOf (f (least n f)) (f n)
+unfolding firstBest
+least-value n f = go (ltb (f n) (f (least n f)))
+  where
+    go : (t : Bool) → f (cond t n (least n f)) ≡ cond t (f n) (f (least n f))
+    go true = refl
+    go false = refl
+
+-- where every value is below the top, the least is that of `least`
+pub lowest-is-least : (top n : ℕ) (f : ℕ → ℕ) → 0 < n → ((i : ℕ) → i < n → f i < top)
+    → lowest top n f ≡ f (least n f)
+unfolding lowest
+lowest-is-least top zero f some low = absurd (omega arith)
+lowest-is-least top (suc zero) f some low =
+    let first : least 1 f ≡ 0 = omega (arith, first-below ltb 1 f (omega arith)) in
+    rw (lt-ltb (f 0) top (low 0 (omega arith)), first)
+lowest-is-least top (suc (suc n)) f some low =
+    ap (λ t. lesserOf t (f (suc n))) (lowest-is-least top (suc n) f (omega arith) (λ i l. low i (omega arith)))
+    ∙ sym (least-value (suc n) f)

@@ -1,14 +1,15 @@
 -- More laws of `howMany`: counts of tests that agree, of places in a row, of all, of some and of all but one; and a
 -- loop that counts.
 use mathlib.Core.Bool.{Bool, true, false, cond, not, _&&_}
-use mathlib.Core.Logic.{⊎-elim}
+use mathlib.Core.Logic.{inl, inr, ⊎-elim}
 use mathlib.Core.Path.{_≡_, refl, sym, ap, _∙_}
 use Prim.Native.Nat.{ℕ, zero, suc, _+_, _≤_, _<_}
-use native.Mathlib.Nat.{le-refl}
+use native.Mathlib.Nat.{le-refl, add-zero}
 use native.Mathlib.Omega.{arith}
 use lib.Dec.{eqb}
 use borrow.Author.Tests.{eq-eqb, ne-eqb}
 use Rattle.number.specs.Count.{howMany}
+use Rattle.number.proofs.Cases.{bool}
 use Rattle.number.proofs.Counts.{howMany-at-most, howMany-counted}
 use Rattle.number.proofs.Searches.{below-or-last}
 
@@ -163,6 +164,14 @@ counting-step {n} {count} {i} {b} t h one e = record {
   is = omega (arith, t .is, howMany-counted i one b e);
   few = omega (arith, t .is, howMany-counted i one b e, howMany-at-most (i + 1) b);
 }
+
+-- one place more, where the count itself goes up by 1 if the place passes
+pub counting-next : {n count i r : ℕ} {b : ℕ → Bool} → Counting n b count i → i < n → r ≡ cond (b i) (count + 1) count
+    → Counting n b r (i + 1)
+counting-next {n} {count} {i} {r} {b} t h e = elim (bool (b i)) [
+  | inl p ↦ rw (e, p) (counting-step t h 1 (rw p))
+  | inr p ↦ rw (e, p, ← add-zero count) (counting-step t h 0 (rw p))
+]
 
 -- past the last place
 pub counting-done : {n count i : ℕ} {b : ℕ → Bool} → Counting n b count i → n ≤ i → count ≡ howMany n b

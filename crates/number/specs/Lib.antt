@@ -7,6 +7,7 @@
 --   least, most       firstBest for the least and for the greatest value
 --   lesserOf, greaterOf   the lesser and the greater of two numbers
 --   peak n f          the greatest value below n
+--   lowest top n f    the least of `top` and the values below n
 --   firstThat n b     the lowest place below n that passes the test b, n where none does
 --   Best              a place is the first best of a set of places
 --   Order             a test and the relation it decides, fit for a search
@@ -24,7 +25,7 @@ pub mod Groups
 unfoldable pub use Sum.{sum, sumOf}
 unfoldable pub use Count.{howMany}
 unfoldable pub use Fill.{fill}
-unfoldable pub use Search.{firstBest, least, most, lesserOf, greaterOf, peak, firstThat}
+unfoldable pub use Search.{firstBest, least, most, lesserOf, greaterOf, peak, lowest, firstThat}
 pub use Search.{Best, Order}
 unfoldable pub use Square.{gap, sq}
 unfoldable pub use Groups.{W, S, Q, cost, roundedMean, scale}

@@ -47,6 +47,11 @@ unfoldable pub peak : ℕ → (ℕ → ℕ) → ℕ
 peak zero f = zero
 peak (suc n) f = greaterOf (peak n f) (f n)
 
+-- the least of `top` and the values below n
+unfoldable pub lowest : ℕ → ℕ → (ℕ → ℕ) → ℕ
+lowest top zero f = top
+lowest top (suc n) f = lesserOf (lowest top n f) (f n)
+
 -- the lowest place below n that passes the test b; n where none does
 unfoldable pub firstThat : ℕ → (ℕ → Bool) → ℕ
 firstThat zero b = zero

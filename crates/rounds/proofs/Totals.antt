@@ -13,10 +13,10 @@ use Rattle.shades.specs.{toShade, nearestShade}
 use Rattle.shades.proofs.Nearest.{nearest-least}
 use Rattle.rounds.specs.Colouring.{Colours, pixelsIn, costAt, groupOf}
 
--- a weight that counts or not, times a distance
-weigh : (t : Bool) (w d : ℕ) → cond t w 0 * d ≡ cond t (w * d) 0
-weigh true w d = refl
-weigh false w d = omega arith
+-- a weight that counts or not, times a number
+pub weight-times : (t : Bool) (w d : ℕ) → cond t w 0 * d ≡ cond t (w * d) 0
+weight-times true w d = refl
+weight-times false w d = omega arith
 
 -- where each colour's member is below k, the total is the sum of what the k groups cost
 pub total-by-groups : (C : Colours) (k : ℕ) (m : ℕ → ℕ) (s : ℕ → Point) → ((i : ℕ) → i < C .n → m i < k)
@@ -27,7 +27,7 @@ total-by-groups C k m s below =
     ∙ sum-swap (C .n) k (λ i q. cond (eqb (m i) q) (C .w i * distance (C .c i) (s q)) 0)
     ∙ sum-eq k _ (λ q. costAt (groupOf C m q) (s q))
     (λ q g. sum-eq (C .n) _ (λ i. cond (eqb (m i) q) (C .w i) 0 * distance (C .c i) (s q))
-    (λ i l. sym (weigh (eqb (m i) q) (C .w i) (distance (C .c i) (s q)))))
+    (λ i l. sym (weight-times (eqb (m i) q) (C .w i) (distance (C .c i) (s q)))))
 
 -- groups by members that agree weigh the same, whatever is counted
 pub group-sum-same : (C : Colours) (m l : ℕ → ℕ) (q : ℕ) (f : ℕ → ℕ) → ((i : ℕ) → i < C .n → m i ≡ l i)

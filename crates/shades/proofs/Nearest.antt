@@ -55,17 +55,10 @@ module _ (s : List ℕ) (k : ℕ) (c : Point) (some : 0 < k) (few : k ≤ mostSh
             omega (arith, nearest-lowest s k c q (omega arith) some, nearest-below s k c some)
       ]
 
-  -- whatever packed number of a shade is the least of those looked at, where each shade left out is farther than one
-  -- looked at, is that of the nearest
-  pub packed-only : (n m : ℕ) → n < k → m ≡ pack s c n
-      → ((q : ℕ) → q < k → (m ≤ pack s c q) ⊎ (toShade s c n < toShade s c q)) → m ≡ packedNearest s k c
+  -- whatever packed number of a shade no shade has a lower one than, is that of the nearest
+  pub packed-only : (n m : ℕ) → n < k → m ≡ pack s c n → ((q : ℕ) → q < k → m ≤ pack s c q) → m ≡ packedNearest s k c
   packed-only n m below is low =
-      omega (arith, packed-least n below, at-least (low (nearestShade s k c) (nearest-below s k c some)))
-    where
-      at-least : (m ≤ packedNearest s k c) ⊎ (toShade s c n < toShade s c (nearestShade s k c))
-          → m ≤ packedNearest s k c
-      at-least (inl l) = l
-      at-least (inr l) = absurd (omega (arith, nearest-least s k c n below))
+      omega (arith, packed-least n below, low (nearestShade s k c) (nearest-below s k c some))
 
 -- ---- the shortened search
 

@@ -8,7 +8,7 @@ use Rattle.number.specs.{firstBest, howMany, sum, fill, firstThat, sq}
 use Rattle.refusal.specs.{done}
 use Rattle.colour.specs.{distance}
 use Rattle.table.specs.{addStrip}
-use Rattle.rounds.specs.{coloursOf, leastOf, startsFrom, starts, over, after}
+use Rattle.rounds.specs.{stateOf, coloursOf, leastOf, startsFrom, starts, over, after}
 use Rattle.lloyd.specs.{plainRound, shortRound, runOf}
 use Rattle.sheets.specs.Drawing.{
   drawing,
@@ -118,27 +118,27 @@ sheet-F = refl
 -- Sheet G: with shades (0,0,0) and (160,0,0) the colour (5,0,0), formerly in shade 1, joins 0 by two distances: shade 0
 -- is just four times as far from shade 1 as the colour is.
 pub sheet-G : shortRound recordG keysG weightsG
-    (record { coordinates = 0 ∷ 0 ∷ 0 ∷ 160 ∷ 0 ∷ 0 ∷ []; members = 1 ∷ 8 ∷ [] }) ≡ record {
+    (stateOf (0 ∷ 0 ∷ 0 ∷ 160 ∷ 0 ∷ 0 ∷ []) (1 ∷ 8 ∷ [])) ≡ record {
       answer = record { refusal = done; total = 6400; moved = 1; distances = 2 };
-      state = record { coordinates = 80 ∷ 0 ∷ 0 ∷ 160 ∷ 0 ∷ 0 ∷ []; members = 0 ∷ 8 ∷ [] };
+      state = stateOf (80 ∷ 0 ∷ 0 ∷ 160 ∷ 0 ∷ 0 ∷ []) (0 ∷ 8 ∷ []);
     }
 unfolding shortRound firstBest howMany sum fill distance sq
 sheet-G = refl
 
 -- Sheet I: with the shade (0,0,0) twice both colours of A's table join 0, and shade 1 stays.
 pub sheet-I : plainRound recordA keysA weightsA
-    (record { coordinates = replicate 6 0; members = members }) ≡ record {
+    (stateOf (replicate 6 0) members) ≡ record {
       answer = record { refusal = done; total = 25600; moved = 1; distances = 4 };
-      state = record { coordinates = 40 ∷ replicate 5 0; members = 0 ∷ 0 ∷ 8 ∷ [] };
+      state = stateOf (40 ∷ replicate 5 0) (0 ∷ 0 ∷ 8 ∷ []);
     }
 unfolding plainRound firstBest howMany sum fill distance sq
 sheet-I = refl
 
 -- The shortened round does the same, and works out 4 distances: a twin of the former shade is another shade.
 pub sheet-I-short : shortRound recordA keysA weightsA
-    (record { coordinates = replicate 6 0; members = 0 ∷ 0 ∷ 8 ∷ [] }) ≡ record {
+    (stateOf (replicate 6 0) (0 ∷ 0 ∷ 8 ∷ [])) ≡ record {
       answer = record { refusal = done; total = 25600; moved = 1; distances = 4 };
-      state = record { coordinates = 40 ∷ replicate 5 0; members = 0 ∷ 0 ∷ 8 ∷ [] };
+      state = stateOf (40 ∷ replicate 5 0) (0 ∷ 0 ∷ 8 ∷ []);
     }
 unfolding shortRound firstBest howMany sum fill distance sq
 sheet-I-short = refl

@@ -1,8 +1,8 @@
 -- The starting shades by kept distances: each entry's distance to its nearest start so far is lowered start by start.
-use Prim.Native.Nat.{ℕ, zero, suc, _≤_, _<_}
+use Prim.Native.Nat.{ℕ, _≤_, _<_}
 use mathlib.Core.List.{List}
 use lib.ListN.{getD, length}
-use Rattle.number.specs.{lesserOf}
+use Rattle.number.specs.{lesserOf, lowest}
 use Rattle.colour.specs.{Point, distance}
 use Rattle.shades.specs.{colourAt}
 use Rattle.rounds.specs.{nextShade, startsFrom}
@@ -15,10 +15,13 @@ shadeFrom m n c k = nextShade m n c k (startsFrom m n c k)
 abbrev pub lowered : List ℕ → Point → List ℕ → ℕ → ℕ
 lowered ks p d i = lesserOf (getD d i 0) (distance (colourAt ks i) p)
 
+-- what is kept before the first start: above every distance
+abbrev pub mostKept : ℕ
+mostKept = 4294967295
+
 -- entry i's distance to the nearest of the first k starts, kept and lowered shade by shade
-unfoldable pub kept : List ℕ → ℕ → Point → ℕ → ℕ → ℕ
-kept ks n m zero i = 4294967295
-kept ks n m (suc k) i = lesserOf (kept ks n m k i) (distance (colourAt ks i) (shadeFrom m n (colourAt ks) k))
+abbrev pub kept : List ℕ → ℕ → Point → ℕ → ℕ → ℕ
+kept ks n m k i = lowest mostKept k (λ q. distance (colourAt ks i) (shadeFrom m n (colourAt ks) q))
 
 -- some entries lie in the keys
 pub record Keyed (n : ℕ) (ks : List ℕ) : Type 0 where

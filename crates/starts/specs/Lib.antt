@@ -1,8 +1,9 @@
 -- Glossary.
 --   shadeFrom        start number k, from the first one m
 --   lowered          an entry's kept distance, lowered to that to a point
+--   mostKept         what is kept before the first start
 --   kept             an entry's distance to the nearest of the first k starts, kept and lowered shade by shade
 --   Keyed            some entries lie in the keys
 pub mod Keeping
-unfoldable pub use Keeping.{shadeFrom, lowered, kept}
+unfoldable pub use Keeping.{shadeFrom, lowered, mostKept, kept}
 pub use Keeping.{Keyed}

@@ -2,7 +2,7 @@
 use Prim.Native.Nat.{ℕ, _+_, _*_, _/_, _%_, _≤_, _<_}
 use mathlib.Core.Bool.{Bool}
 use mathlib.Core.List.{List}
-use mathlib.Core.Logic.{inl, ⊎-elim}
+use mathlib.Core.Logic.{⊎-elim}
 use mathlib.Core.Path.{_≡_, sym, ap, _∙_}
 use native.Mathlib.Decide.{decLt}
 use native.Mathlib.Nat.{add-zero}
@@ -147,7 +147,7 @@ module _ {s g : List ℕ} {k : ℕ} {c : Point} {p : ℕ} (y : Ready s g k c p) 
     walked-done : Ended → (best ≡ packedNearest s k c) × (j ≡ worked s k c p)
     walked-done far = (
       packed-only s k c (omega (arith, y .former)) (y .shades .few) (best % mostShades) best (w .below) (w .is)
-          (λ q l. inl (least-met far q l)),
+          (least-met far),
       places-worked far,
     )
 

@@ -2,9 +2,8 @@
 use Prim.Native.Nat.{_-_}
 use mathlib.Core.Bool.{not}
 use native.Mathlib.Omega.{arith}
-use Rattle.number.proofs.Tallies.{Counting, counting-start, counting-done}
+use Rattle.number.proofs.Tallies.{Counting, counting-start, counting-done, counting-next}
 use Rattle.moves.specs.Reading.{stays}
-use Rattle.moves.proofs.step.Movers.{counting-next}
 use Rattle.moves.proofs.step.count_movers.Statement.{statement}
 use Rattle.moves.proofs.step.count_movers.Tie as tie
 

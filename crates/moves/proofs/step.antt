@@ -1,3 +1,0 @@
--- The laws of step.rt.
--- The loop over the shades that move.
-pub mod Movers
