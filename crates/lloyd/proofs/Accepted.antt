@@ -46,29 +46,30 @@ use Rattle.lloyd.proofs.Wholes.{run-accepted, run-accepted-exactly, run
 
 module _ {rec : Record} {ks ws : List ℕ} {k limit : ℕ} {ms ts : List ℕ} {r : Ran} {members totals : List ℕ}
     (h : AcceptedRun rec ks ws k limit ms ts r members totals) where
+  -- the colours of the table
   abbrev C : Colours
   C = coloursOf (rec .used) ks ws
 
+  -- the state in which the run begins
   abbrev a : State
   a = begin (coloursOf (rec .used) ks ws) k ms
-
-  abbrev made : RunOutcome
-  made = madeRun (coloursOf (rec .used) ks ws) k (limitOf limit) (begin (coloursOf (rec .used) ks ws) k ms) ts
 
   -- the outcome is accepted
   done-is : runOf rec ks ws k limit ms ts .answer .refusal ≡ done
   done-is = ap (λ (x : Ran). x .refusal) (sym (h .meets .answer)) ∙ h .accepted
 
-  -- so it is made, and answer and slices are those of it
+  -- so it is made, and the answer is that of it
   pub answer-made : r
       ≡ madeRun (coloursOf (rec .used) ks ws) k (limitOf limit) (begin (coloursOf (rec .used) ks ws) k ms) ts .answer
   answer-made = h .meets .answer ∙ ap (λ (o : RunOutcome). o .answer) (run-accepted rec ks ws k limit ms ts done-is)
 
+  -- so are the members
   pub members-made : members
       ≡ madeRun (coloursOf (rec .used) ks ws) k (limitOf limit) (begin (coloursOf (rec .used) ks ws) k ms) ts .members
   members-made =
       h .meets .members-are ∙ ap (λ (o : RunOutcome). o .members) (run-accepted rec ks ws k limit ms ts done-is)
 
+  -- and the totals
   pub totals-made : totals
       ≡ madeRun (coloursOf (rec .used) ks ws) k (limitOf limit) (begin (coloursOf (rec .used) ks ws) k ms) ts .totals
   totals-made =
@@ -80,9 +81,11 @@ module _ {rec : Record} {ks ws : List ℕ} {k limit : ℕ} {ms ts : List ℕ} {r
       runnable rec ks ws k limit ms ts
       (run-good rec ks ws k limit ms ts (run-accepted-exactly rec ks ws k limit ms ts .0 done-is))
 
+  -- the table's colours are fair
   fair : Fair (coloursOf (rec .used) ks ws)
   fair = fair-of-table (able .table)
 
+  -- and the run begins fit for a round
   fit : Fit (coloursOf (rec .used) ks ws) k (begin (coloursOf (rec .used) ks ws) k ms)
   fit = begin-fit (coloursOf (rec .used) ks ws) k ms fair (able .pixels) (able .some) (able .few) (able .members-room)
 

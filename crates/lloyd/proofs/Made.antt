@@ -46,9 +46,11 @@ use Rattle.lloyd.specs.Outcomes.{madeRun, left}
 
 module _ (C : Colours) (k limit : ℕ) (a : State) (ts : List ℕ) (fair : Fair C) (fit : Fit C k a) (some : 0 < limit)
     (room : limit ≤ length ts) where
+  -- the rounds made
   abbrev rounds : ℕ
   rounds = roundsMade limit (quiet toMean C k a)
 
+  -- the state after some rounds
   abbrev at : ℕ → State
   at r = after toMean C k a r
 
@@ -140,6 +142,7 @@ module _ (C : Colours) (k limit : ℕ) (a : State) (ts : List ℕ) (fair : Fair 
   settled-is = sym (made-last limit (quiet toMean C k a) rounds rounds-some refl)
 
   module _ (settled : madeRun C k limit a ts .answer .settled ≡ true) where
+    -- the last round moves no shade
     still : movedOf toMean C k (after toMean C k a (roundsMade limit (quiet toMean C k a) - 1)) ≡ 0
     still = eqb-true _ 0 (sym settled-is ∙ settled)
 

@@ -26,13 +26,15 @@ use Rattle.lloyd.proofs.Checks.{neither, bad-count-exactly, limit-some,
 use Rattle.lloyd.proofs.Tables.{tabled-of-test, pixels-of-test}
 
 module _ (rec : Record) (ks ws : List ℕ) (k limit : ℕ) (ms ts : List ℕ) where
-  -- the colours of the table, the state in which the run begins, and what it makes
+  -- the colours of the table
   abbrev C : Colours
   C = coloursOf (rec .used) ks ws
 
+  -- the state in which the run begins
   abbrev a : State
   a = begin (coloursOf (rec .used) ks ws) k ms
 
+  -- what it makes
   abbrev made : RunOutcome
   made = madeRun (coloursOf (rec .used) ks ws) k (limitOf limit) (begin (coloursOf (rec .used) ks ws) k ms) ts
 

@@ -17,6 +17,7 @@ use Rattle.number.proofs.Searches.{below-or-last}
 abbrev pub one : Bool → ℕ
 one t = cond t 1 0
 
+-- a count goes up by what the test adds
 step : (t : Bool) (n : ℕ) → cond t (n + 1) n ≡ n + one t
 step true n = omega arith
 step false n = omega arith
@@ -73,10 +74,12 @@ howMany-below (suc n) m b h inside out =
 pub howMany-all : (n : ℕ) (b : ℕ → Bool) → ((i : ℕ) → i < n → b i ≡ true) → howMany n b ≡ n
 howMany-all n b h = howMany-below n n b (le-refl n) h (λ i g t. absurd (omega arith))
 
+-- a test that adds something holds
 one-true : (t : Bool) → 0 < one t → t ≡ true
 one-true true h = refl
 one-true false h = absurd (omega arith)
 
+-- a test adds at most 1
 one-at-most : (t : Bool) → one t ≤ 1
 one-at-most true = omega arith
 one-at-most false = omega arith

@@ -66,6 +66,7 @@ module _ (k : ℕ) (f : ℕ → Point) (d : List ℕ) where
 same-place-refl : (p : Point) → samePlace p p ≡ true
 same-place-refl p = simp (eq-eqb (p .r) (p .r) refl, eq-eqb (p .g) (p .g) refl, eq-eqb (p .b) (p .b) refl)
 
+-- of two tests joined both hold
 both : (a b : Bool) → (a && b) ≡ true → (a ≡ true) × (b ≡ true)
 both true b e = (refl, e)
 both false b e = never (sym e)

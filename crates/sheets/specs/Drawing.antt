@@ -12,10 +12,11 @@ drawing = 0 ∷ 0 ∷ 0 ∷ 0 ∷ 0 ∷ 0 ∷ 0 ∷ 0 ∷ 0 ∷ 10 ∷ 0 ∷ 0 �
 abbrev pub empty : Record
 empty = record { used = 0; pixels = 0 }
 
--- sheet A's table: its keys and its weights
+-- sheet A's table: its keys
 abbrev pub keysA : List ℕ
 keysA = 0 ∷ 655360 ∷ []
 
+-- its weights
 abbrev pub weightsA : List ℕ
 weightsA = 3 ∷ 1 ∷ []
 
@@ -23,26 +24,30 @@ weightsA = 3 ∷ 1 ∷ []
 abbrev pub recordA : Record
 recordA = record { used = 2; pixels = 4 }
 
--- sheet F's weights on the same colours, and their record
+-- sheet F's weights on the same colours
 abbrev pub weightsF : List ℕ
 weightsF = 1 ∷ 1 ∷ []
 
+-- and their record
 abbrev pub recordF : Record
 recordF = record { used = 2; pixels = 2 }
 
--- sheet G's table: the colour (5,0,0) once
+-- sheet G's table, the colour (5,0,0) once: its key
 abbrev pub keysG : List ℕ
 keysG = 327680 ∷ []
 
+-- its weight
 abbrev pub weightsG : List ℕ
 weightsG = 1 ∷ []
 
+-- its record
 abbrev pub recordG : Record
 recordG = record { used = 1; pixels = 1 }
 
--- members and totals as they are lent: places past those that a call writes keep these values
+-- members as they are lent: places past those that a call writes keep these values
 abbrev pub members : List ℕ
 members = 8 ∷ 8 ∷ 8 ∷ []
 
+-- and totals
 abbrev pub totals : List ℕ
 totals = replicate 20 5

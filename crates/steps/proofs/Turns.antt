@@ -59,9 +59,11 @@ after-walkable p zero = p
 after-walkable p (suc r) = step-walkable (after-walkable p r .steppable)
 
 module _ (C : Colours) (k limit : ℕ) (a : State) where
+  -- which rounds are quiet
   abbrev still : ℕ → Bool
   still = quiet toMean C k a
 
+  -- the state after some rounds
   abbrev at : ℕ → State
   at r = after toMean C k a r
 

@@ -12,7 +12,6 @@ use Rattle.refusal.specs.{BAD-TABLE, BAD-COUNT, FEW-COLOURS, BAD-LIMIT, SHORT-R
 use Rattle.table.specs.{Record, badTable}
 use Rattle.lloyd.specs.Refusals.{limitOf, badCount, fewColours, badLimit, shortTotals}
 use Rattle.lloyd.proofs.Wholes.{RunGood, runnable, run-none, run-meets-refused, run-meets-made}
-use borrow.Author.Needs.{needs}
 use Rattle.lloyd.proofs.call.run.Statement.{statement}
 use Rattle.lloyd.proofs.call.run.Tie as tie
 

@@ -13,7 +13,6 @@ use Rattle.shades.specs.{badCoordinates, badCentre}
 use Rattle.shades.proofs.Checks.{coordinates-at-most}
 use Rattle.rounds.specs.{State, stateOf}
 use Rattle.lloyd.proofs.Rounds.{PlainGood, plain-steppable, plain-meets-refused, plain-meets-made}
-use borrow.Author.Needs.{needs}
 use Rattle.lloyd.proofs.round.plain_round.Statement.{statement}
 use Rattle.lloyd.proofs.round.plain_round.Tie as tie
 

@@ -20,7 +20,6 @@ use Rattle.lloyd.proofs.Rounds.{
   short-meets-refused,
   short-meets-made,
 }
-use borrow.Author.Needs.{needs}
 use Rattle.lloyd.proofs.round.short_round.Statement.{statement}
 use Rattle.lloyd.proofs.round.short_round.Tie as tie
 

@@ -2,7 +2,6 @@
 use native.Mathlib.Omega.{arith}
 use lib.ListN.{length-set}
 use borrow.Author.Needs.{needs}
-use borrow.Author.Needs.{needs}
 use Rattle.shades.proofs.place.put_shade.Statement.{statement}
 use Rattle.shades.proofs.place.put_shade.Tie as tie
 

@@ -2,7 +2,6 @@
 use native.Mathlib.Omega.{arith}
 use native.Mathlib.Nat.{mul-le-mul}
 use borrow.Author.Needs.{needs}
-use borrow.Author.Needs.{needs}
 use Rattle.shades.proofs.reach.cost.Statement.{statement}
 use Rattle.shades.proofs.reach.cost.Tie as tie
 

@@ -3,7 +3,6 @@ use native.Mathlib.Omega.{arith}
 use denote.Ref.{now}
 use borrow.Author.Needs.{needs}
 use Rattle.shades.proofs.Laying.{shade-within}
-use borrow.Author.Needs.{needs}
 use Rattle.shades.proofs.reach.distance_to.Statement.{statement}
 use Rattle.shades.proofs.reach.distance_to.Tie as tie
 

@@ -7,7 +7,6 @@ use borrow.Author.Needs.{needs}
 use Rattle.rounds.specs.{stateOf, coloursOf, begin}
 use Rattle.steps.specs.Meeting.{SeriesMeets}
 use Rattle.steps.proofs.Turns.{begin-walkable, begun, series-walkable}
-use borrow.Author.Needs.{needs}
 use Rattle.steps.proofs.full.make_run.Statement.{statement}
 use Rattle.steps.proofs.full.make_run.Tie as tie
 

@@ -1,7 +1,6 @@
 -- `short_step` meets its contract: a grouping by the shortened search and the move are a step.
 use borrow.Author.Needs.{needs}
 use Rattle.steps.proofs.Stepping.{move-asked, step-meets}
-use borrow.Author.Needs.{needs}
 use Rattle.steps.proofs.step.short_step.Statement.{statement}
 use Rattle.steps.proofs.step.short_step.Tie as tie
 

@@ -4,7 +4,6 @@ use denote.Ref.{now}
 use borrow.Author.Needs.{needs}
 use Rattle.rounds.specs.{coloursOf}
 use Rattle.rounds.proofs.Sizes.{fair-of-table, weight-at-most}
-use borrow.Author.Needs.{needs}
 use Rattle.steps.proofs.total.entry_cost.Statement.{statement}
 use Rattle.steps.proofs.total.entry_cost.Tie as tie
 
