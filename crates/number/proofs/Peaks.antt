@@ -9,7 +9,7 @@ use native.Mathlib.Decide.{decLt}
 use lib.Dec.{ltb}
 use borrow.Author.Tests.{lt-ltb, ltb-true, ltb-false}
 use Rattle.number.specs.Search.{firstBest, least, most, lesserOf, greaterOf, peak, lowest}
-use Rattle.number.proofs.Searches.{below-or-last, first-below, first-is-best, falling}
+use Rattle.number.proofs.Searches.{below-or-last, first-below, first-is-best, rising, falling}
 
 -- neither of two numbers is below the lesser, which is one of them
 pub lesser-at-most : (a b : ℕ) → (lesserOf a b ≤ a) × (lesserOf a b ≤ b)
@@ -115,6 +115,14 @@ lowest-more top n f = rw (add-one n)
 pub lowest-none : (top : ℕ) (f : ℕ → ℕ) → lowest top 0 f ≡ top
 unfolding lowest
 lowest-none top f = refl
+
+-- no value is below that of `least`
+pub least-at-most : (n i : ℕ) (f : ℕ → ℕ) → i < n → f (least n f) ≤ f i
+least-at-most n i f h =
+    elim (decLt (f i) (f (least n f))) [
+      | yes l ↦ absurd (first-is-best rising f n (omega arith) .unbettered i h l)
+      | no l ↦ omega arith
+    ]
 
 -- the least value of one place more is the lesser of the least so far and its own
 least-value : (n : ℕ) (f : ℕ → ℕ) → f (least (suc n) f) ≡ lesserOf (f (least n f)) (f n)

@@ -5,10 +5,13 @@
 --   rowOf g p j         place j of row p, each row having 64 places
 --   Rows s k g          row p holds the packed distances from shade p to the k shades, rising
 --   Ready               what the shortened search asks
+--   pointAt             a point of those whose coordinates are laid out in three lists
+--   RoomFor             three lists have room for the coordinates of so many points
+--   PointsOnGrid        so many points are on the grid
 --   lookedAt            the least packed number so far, with one shade more looked at
 pub mod Sorting
 pub mod Asking
 unfoldable pub use Sorting.{push, sorted, rowOf}
 pub use Sorting.{Row, Rows}
-pub use Asking.{Ready}
-unfoldable pub use Asking.{lookedAt}
+pub use Asking.{Ready, RoomFor}
+unfoldable pub use Asking.{pointAt, PointsOnGrid, lookedAt}

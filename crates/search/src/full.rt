@@ -1,48 +1,92 @@
-// The plain search: a block of colours looks at one shade after the other, and keeps the least
-// packed number. There is no branch, so that several colours are looked at in one operation.
+// The plain search: a block of colours is laid out coordinate by coordinate, looks at one shade
+// after the other, and keeps the least packed number. There is no branch, so that several colours
+// are looked at in one operation.
 ghost use mathlib.Core.Path.{_≡_};
 ghost use Prim.Native.Nat.{_<_, _≤_};
 ghost use lib.ListN.{length};
 ghost use Rattle.number.specs.{fill};
 ghost use Rattle.colour.specs.{Within, mostCoordinate};
 ghost use Rattle.shades.specs.{mostShades, colourAt, Shades, packedNearest};
-ghost use Rattle.search.specs.Asking.{lookedAt};
+ghost use Rattle.search.specs.Asking.{pointAt, lookedAt, PointsOnGrid, RoomFor};
 use colour::Point;
 use shades::lesser;
 
-// The colours of `keys` look at shade `q`, which stands at `p`. Requires a key for each place of
-// `best`, and a shade on the grid with a number below 64.
-fn look(keys: &[u32], p: Point, q: usize, best: &mut [u32])
-    requires { ⌜ (length (now best) ≤ length (now keys)) × Within mostCoordinate p
-        × (q < mostShades) ⌝ }
+// Lays out the colours of `keys`: their coordinates go to the fronts of three lists, the rest of
+// which stays. Requires room for them there.
+fn lay_out(keys: &[u32], reds: &mut [u32], greens: &mut [u32], blues: &mut [u32])
+    requires { ⌜ RoomFor (length (now keys)) (now reds) (now greens) (now blues) ⌝ }
+    ensures reds { λ _. ⌜ now (reds .exit)
+        ≡ fill (length (now (keys .entry))) (λ i. colourAt (now (keys .entry)) i .r)
+        (now (reds .entry)) ⌝ }
+    ensures greens { λ _. ⌜ now (greens .exit)
+        ≡ fill (length (now (keys .entry))) (λ i. colourAt (now (keys .entry)) i .g)
+        (now (greens .entry)) ⌝ }
+    ensures blues { λ _. ⌜ now (blues .exit)
+        ≡ fill (length (now (keys .entry))) (λ i. colourAt (now (keys .entry)) i .b)
+        (now (blues .entry)) ⌝ }
+{
+    let n = keys.len();
+    let mut i = 0;
+    while i < n {
+        let c = colour::colour_of(keys[i]);
+        reds[i] = c.r;
+        greens[i] = c.g;
+        blues[i] = c.b;
+        i += 1;
+    }
+}
+
+// The points laid out look at shade `q`, which stands at `p`. Requires a point on the grid for each
+// place of `best`, and a shade on the grid with a number below 64.
+fn look(reds: &[u32], greens: &[u32], blues: &[u32], p: Point, q: usize, best: &mut [u32])
+    requires { ⌜ RoomFor (length (now best)) (now reds) (now greens) (now blues)
+        × PointsOnGrid (length (now best)) (pointAt (now reds) (now greens) (now blues))
+        × Within mostCoordinate p × (q < mostShades) ⌝ }
     ensures { λ _. ⌜ now (best .exit)
         ≡ fill (length (now (best .entry)))
-        (lookedAt (now (keys .entry)) p q (now (best .entry))) (now (best .entry)) ⌝ }
+        (lookedAt (pointAt (now (reds .entry)) (now (greens .entry)) (now (blues .entry))) p q
+        (now (best .entry))) (now (best .entry)) ⌝ }
 {
     let n = best.len();
     let number = q as u32;
     let mut i = 0;
     while i < n {
-        let d = colour::distance(colour::colour_of(keys[i]), p);
+        let c = Point {
+            r: reds[i],
+            g: greens[i],
+            b: blues[i],
+        };
+        let d = colour::distance(c, p);
         best[i] = lesser(best[i], 64 * d + number);
         i += 1;
     }
 }
 
-// The nearest shade of each colour of `keys`, distance and number in one, into `best`. Requires
-// some shades on the grid, and a key for each place of `best`.
-fn search_block(keys: &[u32], s: &[u32], k: usize, best: &mut [u32])
-    requires { ⌜ (length (now best) ≤ length (now keys)) × Shades k (now s) × (0 < k) ⌝ }
+// The nearest shade of each colour of `keys`, distance and number in one, into `best`; the three
+// lists are where the colours are laid out. Requires some shades on the grid, room for the colours
+// there, and a key for each place of `best`.
+fn search_block(
+    keys: &[u32],
+    s: &[u32],
+    k: usize,
+    reds: &mut [u32],
+    greens: &mut [u32],
+    blues: &mut [u32],
+    best: &mut [u32],
+)
+    requires { ⌜ (length (now best) ≤ length (now keys)) × Shades k (now s) × (0 < k)
+        × RoomFor (length (now keys)) (now reds) (now greens) (now blues) ⌝ }
     ensures { λ _. ⌜ now (best .exit)
         ≡ fill (length (now (best .entry)))
         (λ i. packedNearest (now (s .entry)) k (colourAt (now (keys .entry)) i))
         (now (best .entry)) ⌝ }
 {
+    lay_out(keys, reds, greens, blues);
     let n = best.len();
     shades::set_all(best, n, 4294967295);
     let mut q = 0;
     while q < k {
-        look(keys, shades::shade_at(s, q), q, best);
+        look(reds, greens, blues, shades::shade_at(s, q), q, best);
         q += 1;
     }
 }
@@ -56,11 +100,30 @@ pub fn search_all(keys: &[u32], used: usize, s: &[u32], k: usize, members: &mut 
         ≡ fill used (λ i. packedNearest (now (s .entry)) k (colourAt (now (keys .entry)) i))
         (now (members .entry)) ⌝ }
 {
+    let mut reds = [0u32; 256];
+    let mut greens = [0u32; 256];
+    let mut blues = [0u32; 256];
     let mut i = 0;
     while 256 <= used - i {
         let e = i + 256;
-        search_block(&keys[i..e], s, k, &mut members[i..e]);
+        search_block(
+            &keys[i..e],
+            s,
+            k,
+            &mut reds,
+            &mut greens,
+            &mut blues,
+            &mut members[i..e],
+        );
         i = e;
     }
-    search_block(&keys[i..used], s, k, &mut members[i..used]);
+    search_block(
+        &keys[i..used],
+        s,
+        k,
+        &mut reds,
+        &mut greens,
+        &mut blues,
+        &mut members[i..used],
+    );
 }

@@ -11,6 +11,7 @@ use borrow.Author.Tests.{le-leb, ne-eqb}
 use Rattle.number.specs.{Best}
 use Rattle.number.proofs.Cases.{never}
 use Rattle.number.proofs.Counts.{howMany-at-most}
+use Rattle.number.proofs.Peaks.{least-at-most}
 use Rattle.number.proofs.Searches.{first-below, first-is-best, best-is-first, best-keep, rising}
 use Rattle.colour.specs.{Point, distance}
 use Rattle.colour.proofs.Distances.{farther}
@@ -23,11 +24,7 @@ nearest-below s k c h = first-below ltb k (toShade s c) h
 
 -- no shade is nearer
 pub nearest-least : (s : List ℕ) (k : ℕ) (c : Point) (q : ℕ) → q < k → toShade s c (nearestShade s k c) ≤ toShade s c q
-nearest-least s k c q h =
-    elim (decLe (toShade s c (nearestShade s k c)) (toShade s c q)) [
-      | yes l ↦ l
-      | no l ↦ absurd (first-is-best rising (toShade s c) k (omega arith) .unbettered q h (omega arith))
-    ]
+nearest-least s k c q h = least-at-most k q (toShade s c) h
 
 -- every lower number is farther
 pub nearest-lowest : (s : List ℕ) (k : ℕ) (c : Point) (q : ℕ) → q < nearestShade s k c → 0 < k

@@ -1,21 +1,36 @@
--- `search_all` meets its contract: the loop's invariant is `Searched`.
+-- `search_all` meets its contract: the loop's invariant is `Searched`, and that the three lists keep their places.
 use Prim.Native.Nat.{_-_, _+_}
+use mathlib.Core.Path.{refl, _∙_}
 use native.Mathlib.Omega.{arith}
 use denote.Ref.{now}
-use Rattle.search.proofs.full.Blocks.{Searched, searched-start, searched-step, block-keys}
+use Rattle.search.proofs.full.Blocks.{
+  Searched,
+  searched-start,
+  searched-step,
+  block-keys,
+  BlockLists,
+  block-room,
+}
 use Rattle.search.proofs.full.search_all.Statement.{statement}
 use Rattle.search.proofs.full.search_all.Tie as tie
 
 abbrev Inv-loop : tie.InvT-loop
-Inv-loop keys used s k members₀ i₀ members i = Searched s k keys used members₀ members i
+Inv-loop keys used s k members₀ reds₀ greens₀ blues₀ i₀ members reds greens blues i =
+    Searched s k keys used members₀ members i × BlockLists reds greens blues
 
 abbrev μ-loop : tie.MeasureT-loop
-μ-loop keys used s k members₀ i₀ members i = used - i
+μ-loop keys used s k members₀ reds₀ greens₀ blues₀ i₀ members reds greens blues i = used - i
+
+-- where the function begins
+abbrev st : tie.At-loop Inv-loop μ-loop → tie.Start Inv-loop μ-loop
+st c = c .before .before .before .before
 
 loop-holds : tie.Need-loop-holds Inv-loop μ-loop
 loop-holds c =
-    let a = c .before .before .before .args in
-    searched-start (now (a .s)) (a .k) (now (a .keys)) (a .used) (now (a .members))
+    let a = c .before .before .before .args in (
+      searched-start (now (a .s)) (a .k) (now (a .keys)) (a .used) (now (a .members)),
+      record { red = refl; green = refl; blue = refl },
+    )
 
 sub-loop : tie.Need-sub-loop Inv-loop μ-loop
 sub-loop c = omega arith
@@ -35,6 +50,15 @@ part-search-block-start c = omega arith
 part-search-block-end : tie.Need-part-search-block-end Inv-loop μ-loop
 part-search-block-end c = omega arith
 
+slice-aggregate-search-block : tie.Need-slice-aggregate-search-block Inv-loop μ-loop
+slice-aggregate-search-block c = omega (arith, c .before .before .before .loop .inv .1 .red)
+
+slice-aggregate-search-block-2 : tie.Need-slice-aggregate-search-block-2 Inv-loop μ-loop
+slice-aggregate-search-block-2 c = omega (arith, c .before .before .before .before .loop .inv .1 .green)
+
+slice-aggregate-search-block-3 : tie.Need-slice-aggregate-search-block-3 Inv-loop μ-loop
+slice-aggregate-search-block-3 c = omega (arith, c .before .before .before .before .before .loop .inv .1 .blue)
+
 mul-search-block-2 : tie.Need-mul-search-block-2 Inv-loop μ-loop
 mul-search-block-2 c = omega arith
 
@@ -45,23 +69,34 @@ part-search-block-start-2 : tie.Need-part-search-block-start-2 Inv-loop μ-loop
 part-search-block-start-2 c = omega arith
 
 part-search-block-end-2 : tie.Need-part-search-block-end-2 Inv-loop μ-loop
-part-search-block-end-2 c = omega (arith, c .before .before .loop .inv .long)
+part-search-block-end-2 c = omega (arith, c .before .before .before .before .before .loop .inv .0 .long)
 
 search-block-requires : tie.Need-search-block-requires Inv-loop μ-loop
 search-block-requires c κs =
-    let p = c .before .before .before .before .before .before .before .pre in
-    let l = c .before .before .before .loop in
-    (block-keys (l .inv) (l .i + 256) (omega arith) (p .1) (p .0), p .2, p .3)
+    let l = c .before .before .before .before .before .before in
+    let p = st l .pre in
+    let i = l .loop .i in (
+      block-keys (l .loop .inv .0) (i + 256) (omega arith) (p .1) (p .0),
+      p .2,
+      p .3,
+      block-room (l .loop .inv .1) (now (st l .args .keys)) i (i + 256) (omega arith) (omega arith),
+    )
 
 loop-less : tie.Need-loop-less Inv-loop μ-loop
 loop-less c = omega arith
 
 loop-again : tie.Need-loop-again Inv-loop μ-loop
 loop-again c =
-    let start = c .before .before .before .before .before .before .before .before .before .before in
-    let l = c .before .before .before .before .before .before .loop in
-    searched-step (l .inv) (l .i + 256) (omega arith) (omega arith) (start .pre .1)
-    (c .before .before .search-block .ensures)
+    let l = c .before .before .before .before .before .before .before .before .before .before .before .before in
+    let b = c .before .before .before .before .before .search-block in
+    let w = l .loop .inv .1 in (
+      searched-step (l .loop .inv .0) (l .loop .i + 256) (omega arith) (omega arith) (st l .pre .1) (b .ensures),
+      record {
+        red = b .kept .1 .1 .1 .0 ∙ w .red;
+        green = b .kept .1 .1 .1 .1 .0 ∙ w .green;
+        blue = b .kept .1 .1 .1 .1 .1 .0 ∙ w .blue;
+      },
+    )
 
 mul-search-block-3 : tie.Need-mul-search-block-3 Inv-loop μ-loop
 mul-search-block-3 c = omega arith
@@ -75,6 +110,15 @@ part-search-block-start-3 c = omega arith
 part-search-block-end-3 : tie.Need-part-search-block-end-3 Inv-loop μ-loop
 part-search-block-end-3 c = omega arith
 
+slice-aggregate-search-block-4 : tie.Need-slice-aggregate-search-block-4 Inv-loop μ-loop
+slice-aggregate-search-block-4 c = omega (arith, c .before .before .before .loop .inv .1 .red)
+
+slice-aggregate-search-block-5 : tie.Need-slice-aggregate-search-block-5 Inv-loop μ-loop
+slice-aggregate-search-block-5 c = omega (arith, c .before .before .before .before .loop .inv .1 .green)
+
+slice-aggregate-search-block-6 : tie.Need-slice-aggregate-search-block-6 Inv-loop μ-loop
+slice-aggregate-search-block-6 c = omega (arith, c .before .before .before .before .before .loop .inv .1 .blue)
+
 mul-search-block-4 : tie.Need-mul-search-block-4 Inv-loop μ-loop
 mul-search-block-4 c = omega arith
 
@@ -85,23 +129,29 @@ part-search-block-start-4 : tie.Need-part-search-block-start-4 Inv-loop μ-loop
 part-search-block-start-4 c = omega arith
 
 part-search-block-end-4 : tie.Need-part-search-block-end-4 Inv-loop μ-loop
-part-search-block-end-4 c = omega (arith, c .before .before .loop .inv .long)
+part-search-block-end-4 c = omega (arith, c .before .before .before .before .before .loop .inv .0 .long)
 
 search-block-requires-2 : tie.Need-search-block-requires-2 Inv-loop μ-loop
 search-block-requires-2 c κs =
-    let start = c .before .before .before .before .before .before .before in
-    let p = start .pre in
-    (block-keys (c .before .before .before .loop .inv) (start .args .used) (omega arith) (p .1) (p .0), p .2, p .3)
+    let l = c .before .before .before .before .before .before in
+    let p = st l .pre in
+    let used = st l .args .used in (
+      block-keys (l .loop .inv .0) used (omega arith) (p .1) (p .0),
+      p .2,
+      p .3,
+      block-room (l .loop .inv .1) (now (st l .args .keys)) (l .loop .i) used (omega arith) (omega arith),
+    )
 
 same-length : tie.Need-same-length Inv-loop μ-loop
-same-length c = omega (arith, c .before .before .before .before .before .before .loop .inv .long)
+same-length c =
+    let l = c .before .before .before .before .before .before .before .before .before .before .before .before in
+    omega (arith, l .loop .inv .0 .long)
 
 returns : tie.Need-returns Inv-loop μ-loop
 returns c =
-    let start = c .before .before .before .before .before .before .before .before .before .before in
-    let l = c .before .before .before .before .before .before .loop in
-    searched-step (l .inv) (start .args .used) (omega arith) (omega arith) (start .pre .1)
-    (c .before .before .search-block2 .ensures) .is
+    let l = c .before .before .before .before .before .before .before .before .before .before .before .before in
+    searched-step (l .loop .inv .0) (st l .args .used) (omega arith) (omega arith) (st l .pre .1)
+    (c .before .before .before .before .before .search-block2 .ensures) .is
 
 pub search-all-spec : {M : Type 1} → statement M
 search-all-spec =
@@ -116,6 +166,9 @@ search-all-spec =
     sub-search-block
     part-search-block-start
     part-search-block-end
+    slice-aggregate-search-block
+    slice-aggregate-search-block-2
+    slice-aggregate-search-block-3
     mul-search-block-2
     sub-search-block-2
     part-search-block-start-2
@@ -127,6 +180,9 @@ search-all-spec =
     sub-search-block-3
     part-search-block-start-3
     part-search-block-end-3
+    slice-aggregate-search-block-4
+    slice-aggregate-search-block-5
+    slice-aggregate-search-block-6
     mul-search-block-4
     sub-search-block-4
     part-search-block-start-4

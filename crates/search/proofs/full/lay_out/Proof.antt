@@ -1,0 +1,112 @@
+-- `lay_out` meets its contract: the loop's invariant is `Fronts`.
+use Prim.Native.Nat.{_-_}
+use mathlib.Core.Path.{_≡_}
+use native.Mathlib.Omega.{arith}
+use lib.ListN.{length}
+use denote.Ref.{now}
+use borrow.Author.Needs.{needs}
+use Rattle.search.specs.Asking.{RoomFor}
+use Rattle.search.proofs.full.Layouts.{Fronts, fronts-start, fronts-room, fronts-step, fronts-long}
+use Rattle.search.proofs.full.lay_out.Statement.{statement}
+use Rattle.search.proofs.full.lay_out.Tie as tie
+
+abbrev Inv-loop : tie.InvT-loop
+Inv-loop keys reds₀ greens₀ blues₀ n i₀ reds greens blues i = Fronts keys reds₀ greens₀ blues₀ reds greens blues i
+
+abbrev μ-loop : tie.MeasureT-loop
+μ-loop keys reds₀ greens₀ blues₀ n i₀ reds greens blues i = length keys - i
+
+loop-holds : tie.Need-loop-holds Inv-loop μ-loop
+loop-holds c =
+    let a = c .before .before .before .before .args in
+    fronts-start (now (a .keys)) (now (a .reds)) (now (a .greens)) (now (a .blues))
+
+-- where the turn begins
+abbrev turn : tie.After-colour-of Inv-loop μ-loop → tie.At-loop Inv-loop μ-loop
+turn c = c .before .before .before
+
+-- where the function begins
+abbrev st : tie.After-colour-of Inv-loop μ-loop → tie.Start Inv-loop μ-loop
+st c = turn c .before .before .before .before .before
+
+-- the turn has room in the three lists
+room : (c : tie.After-colour-of Inv-loop μ-loop)
+    → RoomFor (length (now (st c .args .keys))) (turn c .loop .reds) (turn c .loop .greens) (turn c .loop .blues)
+room c = fronts-room (turn c .loop .inv) (st c .pre)
+
+mul-colour-of : tie.Need-mul-colour-of Inv-loop μ-loop
+mul-colour-of c = omega arith
+
+shared-slice-read-colour-of : tie.Need-shared-slice-read-colour-of Inv-loop μ-loop
+shared-slice-read-colour-of c = omega arith
+
+colour-of-requires : tie.Need-colour-of-requires Inv-loop μ-loop
+colour-of-requires c κs = search needs
+
+mul-reds : tie.Need-mul-reds Inv-loop μ-loop
+mul-reds c = omega arith
+
+slice-write-reds : tie.Need-slice-write-reds Inv-loop μ-loop
+slice-write-reds c = omega (arith, room c .red)
+
+mul-greens : tie.Need-mul-greens Inv-loop μ-loop
+mul-greens c = omega arith
+
+slice-write-greens : tie.Need-slice-write-greens Inv-loop μ-loop
+slice-write-greens c = omega (arith, room c .green)
+
+mul-blues : tie.Need-mul-blues Inv-loop μ-loop
+mul-blues c = omega arith
+
+slice-write-blues : tie.Need-slice-write-blues Inv-loop μ-loop
+slice-write-blues c = omega (arith, room c .blue)
+
+add-i : tie.Need-add-i Inv-loop μ-loop
+add-i c = omega arith
+
+loop-less : tie.Need-loop-less Inv-loop μ-loop
+loop-less c = omega arith
+
+loop-again : tie.Need-loop-again Inv-loop μ-loop
+loop-again c =
+    fronts-step (turn c .loop .inv) (omega arith) (st c .pre) (c .colour-of .result) (c .colour-of .ensures .0)
+
+same-length : tie.Need-same-length Inv-loop μ-loop
+same-length c = fronts-long (c .before .loop .inv) .0
+
+same-length-2 : tie.Need-same-length-2 Inv-loop μ-loop
+same-length-2 c = fronts-long (c .before .loop .inv) .1
+
+same-length-3 : tie.Need-same-length-3 Inv-loop μ-loop
+same-length-3 c = fronts-long (c .before .loop .inv) .2
+
+returns : tie.Need-returns Inv-loop μ-loop
+returns c =
+    let a = c .before .before .before .before .before .before .args in
+    let l = c .before .loop in
+    let e : l .i ≡ length (now (a .keys)) = omega (arith, l .inv .within) in
+    (rw e at (l .inv .red), (rw e at (l .inv .green), rw e at (l .inv .blue)))
+
+pub lay-out-spec : {M : Type 1} → statement M
+lay-out-spec =
+    tie.close
+    (tie.spec
+    Inv-loop
+    μ-loop
+    loop-holds
+    mul-colour-of
+    shared-slice-read-colour-of
+    colour-of-requires
+    mul-reds
+    slice-write-reds
+    mul-greens
+    slice-write-greens
+    mul-blues
+    slice-write-blues
+    add-i
+    loop-less
+    loop-again
+    same-length
+    same-length-2
+    same-length-3
+    returns)
