@@ -3,12 +3,14 @@ use Prim.Native.Nat.{ℕ, _+_, _-_, _*_, _≤_, _<_}
 use mathlib.Core.Bool.{true, false}
 use mathlib.Core.List.{List}
 use mathlib.Core.Path.{_≡_, sym, ap, _∙_}
+use native.Mathlib.Omega.{arith}
 use lib.ListN.{getD}
 use lib.Dec.{eqb}
 use Rattle.number.specs.{sum, sumOf}
 use Rattle.number.proofs.Fills.{fill-kept}
 use Rattle.refusal.specs.{done}
 use Rattle.table.specs.{Record}
+use Rattle.table.proofs.Promises.{bad-table-exactly}
 use Rattle.colour.specs.{Point, distance}
 use Rattle.shades.specs.{shadeAt, colourAt, nearestShade, OnGrid}
 use Rattle.rounds.specs.{
@@ -23,6 +25,7 @@ use Rattle.rounds.specs.{
   coloursOf,
   pixelsIn,
   meanOf,
+  starts,
   toMean,
   after,
   quiet,
@@ -39,10 +42,13 @@ use Rattle.rounds.proofs.Runs.{made-at-most, made-before}
 use Rattle.rounds.proofs.Sizes.{fair-of-table}
 use Rattle.steps.specs.{Runnable}
 use Rattle.lloyd.specs.Refusals.{limitOf}
+use Rattle.lloyd.specs.Beginning.{FarthestColour}
 use Rattle.lloyd.specs.Outcomes.{RunOutcome, madeRun, runOf, AcceptedRun, left}
 use Rattle.lloyd.specs.declared.Ran.{Ran}
+use Rattle.lloyd.proofs.Beginnings as beginnings
+use Rattle.lloyd.proofs.Beginnings.{start-stored}
 use Rattle.lloyd.proofs.Made as m
-use Rattle.lloyd.proofs.Wholes.{run-accepted, run-accepted-exactly, run-good, runnable}
+use Rattle.lloyd.proofs.Wholes.{RunGood, run-accepted, run-accepted-exactly, run-good, runnable}
 
 module _ {rec : Record} {ks ws : List ℕ} {k limit : ℕ} {ms ts : List ℕ} {r : Ran} {members totals : List ℕ}
     (h : AcceptedRun rec ks ws k limit ms ts r members totals) where
@@ -76,10 +82,12 @@ module _ {rec : Record} {ks ws : List ℕ} {k limit : ℕ} {ms ts : List ℕ} {r
       h .meets .totals-are ∙ ap (λ (o : RunOutcome). o .totals) (run-accepted rec ks ws k limit ms ts done-is)
 
   -- and its tests failed
+  tests : RunGood rec ks ws k limit ms ts
+  tests = run-good rec ks ws k limit ms ts (run-accepted-exactly rec ks ws k limit ms ts .0 done-is)
+
+  -- so it can be made
   able : Runnable (rec .used) ks ws k (limitOf limit) ms ts
-  able =
-      runnable rec ks ws k limit ms ts
-      (run-good rec ks ws k limit ms ts (run-accepted-exactly rec ks ws k limit ms ts .0 done-is))
+  able = runnable rec ks ws k limit ms ts tests
 
   -- the table's colours are fair
   fair : Fair (coloursOf (rec .used) ks ws)
@@ -88,6 +96,21 @@ module _ {rec : Record} {ks ws : List ℕ} {k limit : ℕ} {ms ts : List ℕ} {r
   -- and the run begins fit for a round
   fit : Fit (coloursOf (rec .used) ks ws) k (begin (coloursOf (rec .used) ks ws) k ms)
   fit = begin-fit (coloursOf (rec .used) ks ws) k ms fair (able .pixels) (able .some) (able .few) (able .members-room)
+
+  -- ---- the starting shades
+
+  -- shade 0 is the rounded mean of the table
+  pub first-is-mean : shadeAt (begin (coloursOf (rec .used) ks ws) k ms .coordinates) 0
+      ≡ meanOf (coloursOf (rec .used) ks ws)
+  first-is-mean = start-stored C k ms 0 (able .few) (able .some)
+
+  -- each next one is the farthest colour
+  pub start-is-farthest : (q : ℕ) → q + 1 < k
+      → FarthestColour (rec .used) ks (starts (coloursOf (rec .used) ks ws) (q + 1)) (q + 1)
+      (shadeAt (begin (coloursOf (rec .used) ks ws) k ms .coordinates) (q + 1))
+  start-is-farthest q l =
+      beginnings.start-is-farthest (bad-table-exactly rec ks ws .0 (tests .table)) k ms q
+      (omega (arith, able .colours)) (able .few) l
 
   -- ---- the rounds
 

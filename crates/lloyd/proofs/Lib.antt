@@ -8,6 +8,8 @@ pub mod Tables
 pub mod Rounds
 -- The outcome of a run, and what the tests give.
 pub mod Wholes
+-- Where a run begins.
+pub mod Beginnings
 -- What a run that is made leaves and answers.
 pub mod Made
 -- What every accepted run answers and leaves.

@@ -33,6 +33,7 @@ use Rattle.rounds.specs.{
   totalOf,
   plainDistances,
   shortDistances,
+  starts,
   begin,
   leastSum,
 }
@@ -51,6 +52,7 @@ use Rattle.lloyd.specs.Refusals.{
   shortRows,
   runRows,
 }
+use Rattle.lloyd.specs.Beginning.{FarthestColour}
 use Rattle.lloyd.specs.Outcomes.{
   RoundOutcome,
   RunOutcome,
@@ -224,6 +226,18 @@ run-accepted = wholes.run-accepted
 
 module _ {rec : Record} {ks ws : List ℕ} {k limit : ℕ} {ms ts : List ℕ} {r : Ran} {members totals : List ℕ}
     (h : AcceptedRun rec ks ws k limit ms ts r members totals) where
+  -- The run begins with shade 0 on the rounded mean of the whole table, weights counted.
+  pub first-is-mean : shadeAt (begin (coloursOf (rec .used) ks ws) k ms .coordinates) 0
+      ≡ meanOf (coloursOf (rec .used) ks ws)
+  first-is-mean = accepted.first-is-mean h
+
+  -- Each next shade begins on the table colour whose distance to its nearest shade before it is greatest; every colour
+  -- with a lower key is strictly nearer.
+  pub start-is-farthest : (q : ℕ) → q + 1 < k
+      → FarthestColour (rec .used) ks (starts (coloursOf (rec .used) ks ws) (q + 1)) (q + 1)
+      (shadeAt (begin (coloursOf (rec .used) ks ws) k ms .coordinates) (q + 1))
+  start-is-farthest = accepted.start-is-farthest h
+
   -- At least one round is made, and at most as many as the limit.
   pub rounds-within : (0 < r .rounds) × (r .rounds ≤ limitOf limit)
   rounds-within = accepted.rounds-within h

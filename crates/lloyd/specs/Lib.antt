@@ -15,9 +15,11 @@
 --   plainRound, shortRound, runOf   the outcome of each call
 --   RoundMeets, RunMeets   the contracts: answer and slices are those of the outcome
 --   AcceptedRun            answer and slices are those of a run that is accepted
+--   FarthestColour         a table colour is the farthest from its nearest shade, lowest key at a tie
 --   left r members         the shades and the members that a run leaves
 pub mod Refusals
 pub mod Outcomes
+pub mod Beginning
 pub use declared.Rounded.{Rounded}
 pub use declared.Ran.{Ran}
 unfoldable pub use Refusals.{
@@ -47,3 +49,4 @@ unfoldable pub use Outcomes.{
   runOf,
   left,
 }
+pub use Beginning.{FarthestColour}
