@@ -1,6 +1,6 @@
 -- What the tests of counts, limits, rooms and members say, fact by fact.
 use Prim.Native.Nat.{ℕ, _≤_, _<_}
-use mathlib.Core.Bool.{Bool, true, false, _||_}
+use mathlib.Core.Bool.{Bool, true, false}
 use mathlib.Core.List.{List}
 use mathlib.Core.Logic.{_↔_}
 use mathlib.Core.Path.{_≡_, refl}
@@ -9,15 +9,10 @@ use lib.ListN.{getD}
 use lib.Dec.{ltb, eqb}
 use borrow.Author.Tests.{ltb-false, le-ltb, leb-false, lt-leb, eqb-false, eq-eqb, ne-eqb}
 use Rattle.number.specs.{howMany}
-use Rattle.number.proofs.Cases.{never}
+use Rattle.number.proofs.Cases.{neither}
 use Rattle.number.proofs.Counts.{howMany-none, none-howMany}
 use Rattle.shades.specs.{mostShades}
 use Rattle.lloyd.specs.Refusals.{usualLimit, limitOf, badCount, memberOff, badMember}
-
--- of two tests neither holds exactly where both fail
-pub neither : (a b : Bool) → (a || b) ≡ false → (a ≡ false) × (b ≡ false)
-neither true b h = never h
-neither false b h = (refl, h)
 
 -- the test of BAD COUNT fails exactly for 1 to 64 shades
 pub bad-count-exactly : (k : ℕ) → (badCount k ≡ false) ↔ ((1 ≤ k) × (k ≤ mostShades))

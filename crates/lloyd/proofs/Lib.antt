@@ -6,6 +6,8 @@ pub mod Checks
 pub mod Tables
 -- The outcomes of single rounds.
 pub mod Rounds
+-- The ways out of a single round.
+pub mod Ways
 -- The outcome of a run, and what the tests give.
 pub mod Wholes
 -- Where a run begins.

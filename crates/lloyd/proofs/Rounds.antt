@@ -3,7 +3,7 @@ use Prim.Native.Nat.{ℕ, _/_, _≤_, _<_}
 use mathlib.Core.Bool.{false}
 use mathlib.Core.List.{List}
 use mathlib.Core.Logic.{_↔_, inl, inr}
-use mathlib.Core.Path.{_≡_, refl, ap, _∙_}
+use mathlib.Core.Path.{_≡_, refl}
 use lib.ListN.{getD, length}
 use lib.Dec.{eqb}
 use borrow.Author.Tests.{ltb-false}
@@ -12,7 +12,6 @@ use Rattle.number.proofs.Fills.{fill-kept}
 use Rattle.refusal.specs.{Row, Refusal, numberOf, done, firstOf, outcomeOf, Given, NoneHolds}
 use Rattle.refusal.proofs.Outcomes.{
   outcome-made,
-  outcome-refused,
   refused-exactly,
   accepted-exactly,
   accepted-is-made,
@@ -23,44 +22,15 @@ use Rattle.shades.specs.{colourAt, nearestShade, badCoordinates, badCentre}
 use Rattle.shades.proofs.Checks.{bad-coordinates-exactly, shades-of-tests}
 use Rattle.rounds.specs.{Colours, State, coloursOf, joins, plainDistances, shortDistances}
 use Rattle.rounds.proofs.Falls.{member-joined}
-use Rattle.steps.specs.{Steppable, Walkable, StepMeets}
+use Rattle.steps.specs.{Steppable, Walkable}
 use Rattle.lloyd.specs.Refusals.{shortMembers, badMember, plainRows, shortRows}
-use Rattle.lloyd.specs.Outcomes.{
-  RoundOutcome,
-  RoundMeets,
-  refusedRound,
-  madeRound,
-  keptRound,
-  plainRound,
-  shortRound,
-}
-use Rattle.lloyd.specs.declared.Rounded.{Rounded}
+use Rattle.lloyd.specs.Outcomes.{RoundOutcome, madeRound, keptRound, plainRound, shortRound}
 use Rattle.lloyd.proofs.Checks.{bad-member-exactly}
 use Rattle.lloyd.proofs.Tables.{tabled-of-test}
 
 -- ---- a round of either kind
 
 module _ (rows : List Row) (C : Colours) (k : ℕ) (a : State) (distances : Colours → ℕ → State → ℕ) where
-  -- the contract where the round is refused
-  meets-refused : (n : Refusal) (r : Rounded) → firstOf rows ≡ numberOf n → r ≡ refusedRound (numberOf n)
-      → RoundMeets (outcomeOf rows (madeRound C k a distances) (keptRound a)) r (a .coordinates) (a .members)
-  meets-refused n r e is =
-      rw (outcome-refused rows (madeRound C k a distances) (keptRound a) n e)
-      (record { answer = is; coordinates-are = refl; members-are = refl })
-
-  -- the contract where it is made
-  meets-made : (z : State) (total moved count : ℕ) (r : Rounded) → firstOf rows ≡ done
-      → StepMeets C k (distances C k) a z total moved count
-      → r ≡ record { refusal = done; total = total; moved = moved; distances = count }
-      → RoundMeets (outcomeOf rows (madeRound C k a distances) (keptRound a)) r (z .coordinates) (z .members)
-  meets-made z total moved count r e m is =
-      rw (outcome-made rows (madeRound C k a distances) (keptRound a) e)
-      (record {
-        answer = is ∙ rw (m .total-is, m .moved-is, m .count-is);
-        coordinates-are = ap (λ (y : State). y .coordinates) (m .state);
-        members-are = ap (λ (y : State). y .members) (m .state);
-      })
-
   -- each refusal is given exactly when its row is the first that holds
   round-refused-exactly : (n : Refusal)
       → (outcomeOf rows (madeRound C k a distances) (keptRound a) .answer .refusal ≡ numberOf n) ↔ Given rows n
@@ -259,42 +229,3 @@ module _ (rec : Record) (ks ws : List ℕ) (a : State) where
       rw (short-accepted h)
       (member-joined (coloursOf (rec .used) ks ws) (length (a .coordinates) / 3) a
       (plain-steppable (short-good (short-accepted-exactly .0 h) .0) .fit) i l)
-
-  -- ---- the contracts, by what the tests said
-
-  -- a plain round that is refused
-  pub plain-meets-refused : (n : Refusal) (r : Rounded) → firstOf (plainRows rec ks ws a) ≡ numberOf n
-      → r ≡ refusedRound (numberOf n) → RoundMeets (plainRound rec ks ws a) r (a .coordinates) (a .members)
-  unfolding plainRound
-  plain-meets-refused =
-      meets-refused (plainRows rec ks ws a) (coloursOf (rec .used) ks ws) (length (a .coordinates) / 3) a plainDistances
-
-  -- a plain round that is made
-  pub plain-meets-made : PlainGood → (z : State) (total moved count : ℕ) (r : Rounded)
-      → StepMeets (coloursOf (rec .used) ks ws) (length (a .coordinates) / 3)
-      (plainDistances (coloursOf (rec .used) ks ws) (length (a .coordinates) / 3)) a z total moved count
-      → r ≡ record { refusal = done; total = total; moved = moved; distances = count }
-      → RoundMeets (plainRound rec ks ws a) r (z .coordinates) (z .members)
-  unfolding plainRound
-  plain-meets-made g z total moved count r m is =
-      meets-made (plainRows rec ks ws a) (coloursOf (rec .used) ks ws) (length (a .coordinates) / 3) a plainDistances z
-      total moved count r (plain-none g) m is
-
-  -- a shortened round that is refused
-  pub short-meets-refused : (n : Refusal) (r : Rounded) → firstOf (shortRows rec ks ws a) ≡ numberOf n
-      → r ≡ refusedRound (numberOf n) → RoundMeets (shortRound rec ks ws a) r (a .coordinates) (a .members)
-  unfolding shortRound
-  short-meets-refused =
-      meets-refused (shortRows rec ks ws a) (coloursOf (rec .used) ks ws) (length (a .coordinates) / 3) a shortDistances
-
-  -- a shortened round that is made
-  pub short-meets-made : PlainGood → badMember (rec .used) (length (a .coordinates) / 3) (a .members) ≡ false
-      → (z : State) (total moved count : ℕ) (r : Rounded)
-      → StepMeets (coloursOf (rec .used) ks ws) (length (a .coordinates) / 3)
-      (shortDistances (coloursOf (rec .used) ks ws) (length (a .coordinates) / 3)) a z total moved count
-      → r ≡ record { refusal = done; total = total; moved = moved; distances = count }
-      → RoundMeets (shortRound rec ks ws a) r (z .coordinates) (z .members)
-  unfolding shortRound
-  short-meets-made g b z total moved count r m is =
-      meets-made (shortRows rec ks ws a) (coloursOf (rec .used) ks ws) (length (a .coordinates) / 3) a shortDistances z
-      total moved count r (short-none g b) m is

@@ -7,6 +7,7 @@ use mathlib.Core.Path.{_≡_, refl, ap, _∙_}
 use native.Mathlib.Omega.{arith}
 use lib.ListN.{length}
 use borrow.Author.Tests.{ltb-false}
+use Rattle.number.proofs.Cases.{neither}
 use Rattle.refusal.specs.{Refusal, numberOf, done, firstOf, Given, NoneHolds}
 use Rattle.refusal.proofs.Outcomes.{
   outcome-made,
@@ -22,7 +23,7 @@ use Rattle.steps.specs.{mostRounds, Runnable, SeriesMeets}
 use Rattle.lloyd.specs.Refusals.{limitOf, badCount, fewColours, badLimit, shortMembers, shortTotals, runRows}
 use Rattle.lloyd.specs.Outcomes.{RunOutcome, RunMeets, refusedRun, keptRun, madeRun, runOf}
 use Rattle.lloyd.specs.declared.Ran.{Ran}
-use Rattle.lloyd.proofs.Checks.{neither, bad-count-exactly, limit-some, limit-most}
+use Rattle.lloyd.proofs.Checks.{bad-count-exactly, limit-some, limit-most}
 use Rattle.lloyd.proofs.Tables.{tabled-of-test, pixels-of-test}
 
 module _ (rec : Record) (ks ws : List ℕ) (k limit : ℕ) (ms ts : List ℕ) where

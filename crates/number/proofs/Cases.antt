@@ -1,6 +1,6 @@
 -- Case splits: on a Bool, and on how a number stands to another, with the values of the tests.
-use mathlib.Core.Path.{_≡_, refl}
-use mathlib.Core.Bool.{Bool, true, false}
+use mathlib.Core.Path.{_≡_, refl, sym}
+use mathlib.Core.Bool.{Bool, true, false, not, _&&_, _||_}
 use mathlib.Core.Logic.{_⊎_, inl, inr}
 use Prim.Native.Nat.{ℕ, _≤_, _<_}
 use native.Mathlib.Omega.{arith}
@@ -15,6 +15,21 @@ bool false = inr refl
 -- no test has both values
 pub never : {X : Type 0} → true ≡ false → X
 never e = absurd (let z : _≡_ {A = ℕ} 0 1 = cc in omega arith)
+
+-- of two tests joined by "and" both hold
+pub both : (a b : Bool) → (a && b) ≡ true → (a ≡ true) × (b ≡ true)
+both true b h = (refl, h)
+both false b h = never (sym h)
+
+-- of two tests joined by "or" neither holds
+pub neither : (a b : Bool) → (a || b) ≡ false → (a ≡ false) × (b ≡ false)
+neither true b h = never h
+neither false b h = (refl, h)
+
+-- a test whose negation fails holds
+pub not-not : (a : Bool) → not a ≡ false → a ≡ true
+not-not true h = refl
+not-not false h = never h
 
 -- how x stands to k, and what the tests say then
 pub data Cmp (x k : ℕ) : Type 0 where

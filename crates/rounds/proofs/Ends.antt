@@ -1,6 +1,6 @@
 -- What a round by Lloyd's rule leaves: each shade is the best of the grid for its group and near the least, and where
 -- no shade moved the grouping costs just the round's total.
-use mathlib.Core.Bool.{Bool, true, false, cond, not}
+use mathlib.Core.Bool.{cond, not}
 use mathlib.Core.Path.{_≡_, refl, sym, ap, ap₂, _∙_}
 use Prim.Native.Nat.{ℕ, zero, suc, _*_, _≤_, _<_}
 use native.Mathlib.Decide.{decLt}
@@ -10,7 +10,7 @@ use lib.ListN.{getD}
 use borrow.Author.Tests.{ne-eqb}
 use Rattle.number.specs.{sum}
 use Rattle.number.proofs.Counts.{howMany-none}
-use Rattle.number.proofs.Cases.{never}
+use Rattle.number.proofs.Cases.{not-not}
 use Rattle.number.proofs.Searches.{first-same}
 use Rattle.number.proofs.Sums.{sum-eq, sum-le, sum-zero}
 use Rattle.colour.specs.{Point, distance}
@@ -142,12 +142,8 @@ module _ (rule : Rule) (C : Colours) (k : ℕ) (a : State) (f : Fit C k a) (stil
   pub shade-stays : (q : ℕ) → q < k → movedTo rule C k a q ≡ shadeAt (a .coordinates) q
   shade-stays q h =
       same-place-is (movedTo rule C k a q) (shadeAt (a .coordinates) q)
-      (unmoved (samePlace (movedTo rule C k a q) (shadeAt (a .coordinates) q))
+      (not-not (samePlace (movedTo rule C k a q) (shadeAt (a .coordinates) q))
       (howMany-none k (λ p. not (samePlace (movedTo rule C k a p) (shadeAt (a .coordinates) p))) still q h))
-    where
-      unmoved : (t : Bool) → not t ≡ false → t ≡ true
-      unmoved true e = refl
-      unmoved false e = never e
 
   -- and the grouping costs just the round's total
   pub still-final : finalOf C (step rule C k a) ≡ totalOf C k a

@@ -1,6 +1,6 @@
 -- Shades laid in a list of coordinates and read back, and how far a shade can be.
 use Prim.Native.Nat.{ℕ, zero, suc, _+_, _*_, _/_, _%_, _≤_, _<_}
-use mathlib.Core.Bool.{Bool, true, false, _&&_}
+use mathlib.Core.Bool.{true}
 use mathlib.Core.List.{List}
 use mathlib.Core.Logic.{_↔_}
 use mathlib.Core.Path.{_≡_, refl, sym, ap, _∙_}
@@ -8,7 +8,7 @@ use native.Mathlib.Omega.{arith}
 use lib.ListN.{length}
 use lib.Dec.{eqb}
 use borrow.Author.Tests.{eqb-true, eq-eqb}
-use Rattle.number.proofs.Cases.{never}
+use Rattle.number.proofs.Cases.{both}
 use Rattle.number.proofs.Fills.{fill-at, fill-at-most, fill-length}
 use Rattle.colour.specs.{Point, Within, mostCoordinate, mostDistance}
 use Rattle.colour.proofs.Distances.{distance-most}
@@ -65,11 +65,6 @@ module _ (k : ℕ) (f : ℕ → Point) (d : List ℕ) where
 -- a point stands where it stands
 same-place-refl : (p : Point) → samePlace p p ≡ true
 same-place-refl p = simp (eq-eqb (p .r) (p .r) refl, eq-eqb (p .g) (p .g) refl, eq-eqb (p .b) (p .b) refl)
-
--- of two tests joined both hold
-both : (a b : Bool) → (a && b) ≡ true → (a ≡ true) × (b ≡ true)
-both true b e = (refl, e)
-both false b e = never (sym e)
 
 -- points with the same coordinates are one point
 pub same-place-is : (p q : Point) → samePlace p q ≡ true → p ≡ q

@@ -1,6 +1,6 @@
 -- A good table, fact by fact: what callers know where the test of BAD TABLE fails, and what makes it fail.
 use mathlib.Core.Path.{_≡_, refl, sym, ap, ap₂, _∙_}
-use mathlib.Core.Bool.{Bool, true, false, not, _||_}
+use mathlib.Core.Bool.{true, false, not}
 use mathlib.Core.Logic.{_↔_, inl, inr}
 use mathlib.Core.List.{List}
 use Prim.Native.Nat.{ℕ, _+_, _≤_}
@@ -8,7 +8,7 @@ use native.Mathlib.Omega.{arith}
 use lib.ListN.{length}
 use lib.Dec.{ltb, eqb}
 use borrow.Author.Tests.{le-ltb, ltb-false, eq-eqb, eqb-true}
-use Rattle.number.proofs.Cases.{bool, never}
+use Rattle.number.proofs.Cases.{bool, never, neither, not-not}
 use Rattle.colour.specs.{mostPixels}
 use Rattle.entries.specs.{entries, sound}
 use Rattle.entries.proofs.Slices.{entries-length, keys-rise, keys-are-keys}
@@ -23,14 +23,6 @@ pub record Good (rec : Record) (ks ws : List ℕ) : Type 0 where
   pub sounds : sound 0 (entries (rec .used) ks ws) ≡ true
   pub is : recordOf (entries (rec .used) ks ws) ≡ rec
   pub most : rec .pixels ≤ mostPixels
-
--- what each of the four parts of the test says where the whole fails
-none-holds : (over sounds same many : Bool) → (over || (not sounds || (not same || many))) ≡ false
-    → (over ≡ false) × (sounds ≡ true) × (same ≡ true) × (many ≡ false)
-none-holds true sounds same many h = never h
-none-holds false false same many h = never h
-none-holds false true false many h = never h
-none-holds false true true many h = (refl, refl, refl, h)
 
 -- records that say the same are one
 pub same-record : (a b : Record) → sameRecord a b ≡ true → a ≡ b
@@ -49,12 +41,14 @@ record-same a = simp (eq-eqb (a .used) (a .used) refl, eq-eqb (a .pixels) (a .pi
 pub good-of-test : (rec : Record) (ks ws : List ℕ) → badTable rec ks ws ≡ false → Good rec ks ws
 good-of-test rec ks ws h =
     let es = entries (rec .used) ks ws in
-    let parts = none-holds (ltb (roomOf ks ws) (rec .used)) (sound 0 es) (sameRecord (recordOf es) rec) _ h in
+    let over = neither (ltb (roomOf ks ws) (rec .used)) _ h in
+    let unsound = neither (not (sound 0 es)) _ (over .1) in
+    let other = neither (not (sameRecord (recordOf es) rec)) _ (unsound .1) in
     record {
-      in-room = ltb-false (roomOf ks ws) (rec .used) (parts .0);
-      sounds = parts .1;
-      is = same-record (recordOf es) rec (parts .2);
-      most = ltb-false mostPixels (rec .pixels) (parts .3);
+      in-room = ltb-false (roomOf ks ws) (rec .used) (over .0);
+      sounds = not-not (sound 0 es) (unsound .0);
+      is = same-record (recordOf es) rec (not-not (sameRecord (recordOf es) rec) (other .0));
+      most = ltb-false mostPixels (rec .pixels) (other .1);
     }
 
 -- a good table passes the test

@@ -1,4 +1,4 @@
--- `plain_round` meets its contract: each way out is a law of `Rounds`, with what the tests before it said.
+-- `plain_round` meets its contract: each way out is a law of `Ways`, with what the tests before it said.
 use mathlib.Core.Bool.{false}
 use mathlib.Core.List.{List}
 use mathlib.Core.Path.{_≡_, sym, _∙_}
@@ -12,7 +12,8 @@ use Rattle.table.specs.{Record, badTable}
 use Rattle.shades.specs.{badCoordinates, badCentre}
 use Rattle.shades.proofs.Checks.{coordinates-at-most}
 use Rattle.rounds.specs.{State, stateOf}
-use Rattle.lloyd.proofs.Rounds.{PlainGood, plain-steppable, plain-meets-refused, plain-meets-made}
+use Rattle.lloyd.proofs.Rounds.{PlainGood, plain-steppable}
+use Rattle.lloyd.proofs.Ways.{plain-meets-refused, plain-meets-made}
 use Rattle.lloyd.proofs.round.plain_round.Statement.{statement}
 use Rattle.lloyd.proofs.round.plain_round.Tie as tie
 

@@ -1,4 +1,4 @@
--- `short_round` meets its contract: each way out is a law of `Rounds`, with what the tests before it said.
+-- `short_round` meets its contract: each way out is a law of `Ways`, with what the tests before it said.
 use mathlib.Core.Bool.{false}
 use mathlib.Core.List.{List}
 use mathlib.Core.Path.{_≡_, sym, _∙_}
@@ -13,13 +13,8 @@ use Rattle.shades.specs.{badCoordinates, badCentre}
 use Rattle.shades.proofs.Checks.{coordinates-at-most}
 use Rattle.rounds.specs.{State, stateOf}
 use Rattle.lloyd.specs.Refusals.{badMember}
-use Rattle.lloyd.proofs.Rounds.{
-  PlainGood,
-  plain-steppable,
-  short-walkable,
-  short-meets-refused,
-  short-meets-made,
-}
+use Rattle.lloyd.proofs.Rounds.{PlainGood, plain-steppable, short-walkable}
+use Rattle.lloyd.proofs.Ways.{short-meets-refused, short-meets-made}
 use Rattle.lloyd.proofs.round.short_round.Statement.{statement}
 use Rattle.lloyd.proofs.round.short_round.Tie as tie
 
