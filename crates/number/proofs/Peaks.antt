@@ -11,7 +11,7 @@ use borrow.Author.Tests.{lt-ltb, ltb-true, ltb-false}
 use Rattle.number.specs.Search.{firstBest, least, most, lesserOf, greaterOf, peak, lowest}
 use Rattle.number.proofs.Searches.{below-or-last, first-below, first-is-best, rising, falling}
 
--- neither of two numbers is below the lesser, which is one of them
+-- neither of two numbers is below the lesser
 pub lesser-at-most : (a b : ℕ) → (lesserOf a b ≤ a) × (lesserOf a b ≤ b)
 lesser-at-most a b = go (ltb b a) refl
   where
@@ -68,19 +68,12 @@ peak-same (suc n) f g e = rw (e n (omega arith), peak-same n f g (λ i l. e i (o
 pub peak-at-most : (n a : ℕ) (f : ℕ → ℕ) → ((i : ℕ) → i < n → f i ≤ a) → peak n f ≤ a
 unfolding peak
 peak-at-most zero a f h = omega arith
-peak-at-most (suc n) a f h = go (ltb (f n) (peak n f)) (peak-at-most n a f (λ i l. h i (omega arith)))
-  where
-    go : (t : Bool) → peak n f ≤ a → cond t (peak n f) (f n) ≤ a
-    go true l = l
-    go false l = h n (omega arith)
+peak-at-most (suc n) a f h =
+    either-has (λ t. t ≤ a) (peak n f) (f n) (peak-at-most n a f (λ i l. h i (omega arith))) (h n (omega arith)) .1
 
 -- no value is above that of `most`
 most-top : (n i : ℕ) (f : ℕ → ℕ) → i < n → f i ≤ f (most n f)
-most-top n i f h =
-    elim (decLt (f (most n f)) (f i)) [
-      | yes l ↦ absurd (first-is-best falling f n (omega arith) .unbettered i h l)
-      | no l ↦ omega arith
-    ]
+most-top n i f h = let none = first-is-best falling f n (omega arith) .unbettered i h in omega arith
 
 -- `most` has the greatest value
 pub most-is-peak : (n : ℕ) (f : ℕ → ℕ) → 0 < n → f (most n f) ≡ peak n f
@@ -118,11 +111,7 @@ lowest-none top f = refl
 
 -- no value is below that of `least`
 pub least-at-most : (n i : ℕ) (f : ℕ → ℕ) → i < n → f (least n f) ≤ f i
-least-at-most n i f h =
-    elim (decLt (f i) (f (least n f))) [
-      | yes l ↦ absurd (first-is-best rising f n (omega arith) .unbettered i h l)
-      | no l ↦ omega arith
-    ]
+least-at-most n i f h = let none = first-is-best rising f n (omega arith) .unbettered i h in omega arith
 
 -- the least value of one place more is the lesser of the least so far and its own
 least-value : (n : ℕ) (f : ℕ → ℕ) → f (least (suc n) f) ≡ lesserOf (f (least n f)) (f n)

@@ -65,7 +65,7 @@ module _ (s : List ℕ) (k : ℕ) (c : Point) (p : ℕ) where
   LookedAt q = (q < k) × ((q ≡ p) ⊎ (tried s c p q ≡ true))
 
   -- a shade that is not tried is p, or farther from c than p
-  pub untried-farther : (q : ℕ) → tried s c p q ≡ false → (q ≡ p) ⊎ (toShade s c p < toShade s c q)
+  untried-farther : (q : ℕ) → tried s c p q ≡ false → (q ≡ p) ⊎ (toShade s c p < toShade s c q)
   untried-farther q e = go (ℕ-discrete q p) (decLe (distance (shadeAt s p) (shadeAt s q)) (4 * toShade s c p))
     where
       go : Dec (q ≡ p) → Dec (distance (shadeAt s p) (shadeAt s q) ≤ 4 * toShade s c p)
@@ -81,11 +81,7 @@ module _ (s : List ℕ) (k : ℕ) (c : Point) (p : ℕ) where
       (best-keep rising b (λ j l. l .0) (λ j l. left-out j l))
     where
       near : d ≤ toShade s c p
-      near =
-          elim (decLe d (toShade s c p)) [
-            | yes l ↦ l
-            | no l ↦ absurd (b .unbettered p (h, inl refl) (omega arith))
-          ]
+      near = let none = b .unbettered p (h, inl refl) in omega arith
 
       left-out : (j : ℕ) → j < k → LookedAt j ⊎ (d < toShade s c j)
       left-out j l = go (tried s c p j) refl
