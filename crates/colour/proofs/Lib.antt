@@ -6,3 +6,5 @@ pub mod Keys
 pub mod Distances
 -- A difference of coordinates with a sign, and its square.
 pub mod Signs
+-- Which strips are whole.
+pub mod Strips

@@ -12,10 +12,14 @@
 --   sixteenth level     16 * level
 --   colourOf key        the point at which the key's colour stands
 --   distance p q        the sum of three squared differences
+--   badStrip s          the test of 1 BAD STRIP
+--   Bytes s             a list of bytes
 pub mod Key
 pub mod Points
+pub mod Strips
 unfoldable pub use Key.{mostLevel, mostKey, keyOf, redOf, greenOf, blueOf}
 pub use Key.{Levels}
 unfoldable pub use Points.{mostCoordinate, mostDistance, mostPixels, sixteenth, colourOf, distance}
 pub use Points.{Within}
 pub use declared.Point.{Point}
+unfoldable pub use Strips.{badStrip, Bytes}

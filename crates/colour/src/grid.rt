@@ -37,7 +37,7 @@ pub fn colour_of(key: u32) -> Point
 
 // The squared difference of two coordinates, which are required to be those of shades.
 // The difference is signed, so that no test is made: a square has no sign.
-fn square(a: u32, b: u32) -> u32
+pub fn square(a: u32, b: u32) -> u32
     requires { ⌜ (a ≤ mostCoordinate) × (b ≤ mostCoordinate) ⌝ }
     ensures { λ r. ⌜ (r ≡ sq a b) × (r ≤ mostCoordinate * mostCoordinate) ⌝ }
 {

@@ -7,6 +7,7 @@
 //   green_of
 //   blue_of
 //   colour_of      the point at which a key's colour stands  grid.rt
+//   square         the squared difference of two coordinates
 //   distance       the sum of three squared differences
 //   rounded_mean   a group's mean coordinate, halves up      mean.rt
 //
@@ -18,6 +19,7 @@ mod mean;
 
 pub use grid::colour_of;
 pub use grid::distance;
+pub use grid::square;
 pub use key::blue_of;
 pub use key::green_of;
 pub use key::key_of;

@@ -4,7 +4,7 @@ use mathlib.Core.Path.{_≡_, refl, ap}
 use Prim.Native.Nat.{ℕ, zero, suc, _+_, _≤_, _<_}
 use native.Mathlib.Numerals.{add-one}
 use native.Mathlib.Omega.{arith}
-use lib.ListN.{length, getD, set}
+use lib.ListN.{length, getD, set, replicate}
 use Rattle.number.specs.Fill.{fill}
 
 -- filling keeps the length
@@ -84,3 +84,9 @@ pub fill-nil : (n : ℕ) (f : ℕ → ℕ) → fill n f [] ≡ []
 unfolding fill
 fill-nil zero f = refl
 fill-nil (suc n) f = refl
+
+-- zeros are zeros, also past their end
+pub zeros-at : (n i : ℕ) → getD {A = ℕ} (replicate n 0) i 0 ≡ 0
+zeros-at zero i = refl
+zeros-at (suc n) zero = refl
+zeros-at (suc n) (suc i) = zeros-at n i

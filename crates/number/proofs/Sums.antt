@@ -5,7 +5,7 @@ use mathlib.Core.Path.{_≡_, refl, ap}
 use mathlib.Core.Logic.{⊎-elim}
 use mathlib.Core.Bool.{cond}
 use Prim.Native.Nat.{ℕ, zero, suc, _+_, _*_, _≤_, _<_}
-use native.Mathlib.Nat.{le-suc-iff}
+use native.Mathlib.Nat.{le-suc-iff, add-zero}
 use native.Mathlib.Numerals.{add-one}
 use native.Mathlib.Omega.{arith}
 use native.Mathlib.Decide.{decLt}
@@ -30,6 +30,14 @@ sum-part i (suc n) f h = ⊎-elim (λ l. omega (arith, sum-part i n f l)) (λ e.
 -- each value is at most the sum
 pub sum-term : (i n : ℕ) (f : ℕ → ℕ) → i < n → f i ≤ sum n f
 sum-term i n f h = omega (arith, sum-part (i + 1) n f (omega arith), sum-more i f)
+
+-- a sum over a + n places is that over a, and that over the n behind
+pub sum-parts : (a n : ℕ) (f : ℕ → ℕ) → sum (a + n) f ≡ sum a f + sum n (λ i. f (a + i))
+unfolding sum
+sum-parts a zero f = rw (add-zero a) (omega arith)
+sum-parts a (suc n) f =
+    let e : a + suc n ≡ suc (a + n) = omega arith in
+    rw e (omega (arith, sum-parts a n f))
 
 -- ---- place by place
 

@@ -3,6 +3,7 @@
 --   sumOf f xs        f added up over the elements of a list
 --   howMany n b       how many places below n pass the test b
 --   fill n f d        the list d with f 0 .. f (n - 1) in front, the rest kept
+--   fillFrom a n f d  the same from place a on
 --   firstBest t n f   the lowest place below n with the best value, `t a b` saying that a is better
 --   least, most       firstBest for the least and for the greatest value
 --   lesserOf, greaterOf   the lesser and the greater of two numbers
@@ -24,7 +25,7 @@ pub mod Square
 pub mod Groups
 unfoldable pub use Sum.{sum, sumOf}
 unfoldable pub use Count.{howMany}
-unfoldable pub use Fill.{fill}
+unfoldable pub use Fill.{fill, fillFrom}
 unfoldable pub use Search.{firstBest, least, most, lesserOf, greaterOf, peak, lowest, firstThat}
 pub use Search.{Best, Order}
 unfoldable pub use Square.{gap, sq}

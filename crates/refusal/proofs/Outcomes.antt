@@ -1,6 +1,7 @@
 -- The outcome of a call that refuses by an order: it is refused exactly by the first row whose test holds, and else
 -- made. Stated once for outcomes of any kind, with the place of the number in them.
 use Prim.Native.Nat.{ℕ}
+use mathlib.Core.Bool.{Bool, true, false, cond}
 use mathlib.Core.List.{List}
 use mathlib.Core.Logic.{_↔_, inl, inr}
 use mathlib.Core.Path.{_≡_, sym, _∙_}
@@ -20,6 +21,14 @@ module _ {A : Type 0} (rows : List Row) (made : A) (refused : ℕ → A) where
   -- where something is, it is refused with that number
   pub outcome-refused : (n : Refusal) → firstOf rows ≡ numberOf n → outcomeOf rows made refused ≡ refused (numberOf n)
   outcome-refused n e = rw (e, ne-eqb (numberOf n) done (number-not-done n))
+
+  -- whatever holds of what is made and of every refusal holds of the outcome
+  pub outcome-all : (P : A → Type 0) → P made → ((n : ℕ) → P (refused n)) → P (outcomeOf rows made refused)
+  outcome-all P m r = go (eqb (firstOf rows) done)
+    where
+      go : (b : Bool) → P (cond b made (refused (firstOf rows)))
+      go true = m
+      go false = r (firstOf rows)
 
   module _ (number : A → ℕ) (made-is : number made ≡ done) (refused-is : (n : ℕ) → number (refused n) ≡ n) where
     -- the number in it is that of the first row whose test holds

@@ -1,10 +1,10 @@
 -- The state in which a run begins is fit for a round, and every member is shade 0.
-use Prim.Native.Nat.{ℕ, zero, suc, _*_, _≤_, _<_}
+use Prim.Native.Nat.{ℕ, _*_, _≤_, _<_}
 use mathlib.Core.List.{List}
-use mathlib.Core.Path.{_≡_, refl, _∙_}
+use mathlib.Core.Path.{_≡_, _∙_}
 use native.Mathlib.Omega.{arith}
 use lib.ListN.{getD, length, replicate, length-replicate}
-use Rattle.number.proofs.Fills.{fill-at, fill-length, fill-kept}
+use Rattle.number.proofs.Fills.{fill-at, fill-length, fill-kept, zeros-at}
 use Rattle.colour.specs.{mostCoordinate}
 use Rattle.shades.specs.{mostShades, mostCoordinates}
 use Rattle.rounds.specs.Colouring.{Colours, pixelsIn, meanOf, Fair}
@@ -13,12 +13,6 @@ use Rattle.rounds.specs.Starting.{starts}
 use Rattle.rounds.specs.Running.{begin}
 use Rattle.rounds.proofs.Costs.{mean-within}
 use Rattle.rounds.proofs.Startings.{over-length, over-kept, over-low, starts-length, starts-low}
-
--- zeros are zeros, also past their end
-pub zeros-at : (n i : ℕ) → getD {A = ℕ} (replicate n 0) i 0 ≡ 0
-zeros-at zero i = refl
-zeros-at (suc n) zero = refl
-zeros-at (suc n) (suc i) = zeros-at n i
 
 module _ (C : Colours) (k : ℕ) (members : List ℕ) where
   -- the starts stand on the grid

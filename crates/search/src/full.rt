@@ -62,6 +62,34 @@ fn look(reds: &[u32], greens: &[u32], blues: &[u32], p: Point, q: usize, best: &
     }
 }
 
+// The nearest shade of each point laid out in the three lists, distance and number in one, into
+// `best`. Requires a point on the grid for each place of `best`, and some shades on the grid.
+pub fn search_points(
+    reds: &[u32],
+    greens: &[u32],
+    blues: &[u32],
+    s: &[u32],
+    k: usize,
+    best: &mut [u32],
+)
+    requires { ⌜ RoomFor (length (now best)) (now reds) (now greens) (now blues)
+        × PointsOnGrid (length (now best)) (pointAt (now reds) (now greens) (now blues))
+        × Shades k (now s) × (0 < k) ⌝ }
+    ensures { λ _. ⌜ now (best .exit)
+        ≡ fill (length (now (best .entry)))
+        (λ i. packedNearest (now (s .entry)) k
+        (pointAt (now (reds .entry)) (now (greens .entry)) (now (blues .entry)) i))
+        (now (best .entry)) ⌝ }
+{
+    let n = best.len();
+    shades::set_all(best, n, 4294967295);
+    let mut q = 0;
+    while q < k {
+        look(reds, greens, blues, shades::shade_at(s, q), q, best);
+        q += 1;
+    }
+}
+
 // The nearest shade of each colour of `keys`, distance and number in one, into `best`; the three
 // lists are where the colours are laid out. Requires some shades on the grid, room for the colours
 // there, and a key for each place of `best`.
@@ -82,13 +110,7 @@ fn search_block(
         (now (best .entry)) ⌝ }
 {
     lay_out(keys, reds, greens, blues);
-    let n = best.len();
-    shades::set_all(best, n, 4294967295);
-    let mut q = 0;
-    while q < k {
-        look(reds, greens, blues, shades::shade_at(s, q), q, best);
-        q += 1;
-    }
+    search_points(reds, greens, blues, s, k, best);
 }
 
 // The nearest shade of each of the first `used` colours, distance and number in one, into the first

@@ -1,9 +1,10 @@
 // Searching for the nearest shade, in two ways that answer the same: distance and number in one.
 //
 // Calls; none refuses, and what one requires stands above it
-//   fill_rows    for each shade the shades by rising distance   rows.rt
-//   walk         the shortened search, along a row              short.rt
-//   search_all   the plain search, for the colours of a table   full.rt
+//   fill_rows      for each shade the shades by rising distance   rows.rt
+//   walk           the shortened search, along a row              short.rt
+//   search_points  the plain search, for points laid out          full.rt
+//   search_all     the same for the colours of a table
 //
 // Read next: specs/Lib.antt (what the words mean), proofs/Lib.antt (what is shown).
 
@@ -12,6 +13,7 @@ mod rows;
 mod short;
 
 pub use full::search_all;
+pub use full::search_points;
 pub use rows::fill_rows;
 pub use short::walk;
 

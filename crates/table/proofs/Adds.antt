@@ -10,7 +10,8 @@ use Rattle.refusal.specs.{numberOf, done, BAD-STRIP, BAD-TABLE, FULL}
 use Rattle.entries.specs.{entries, pixelsOf, stripKeys, withTaken}
 use Rattle.entries.proofs.Strips.{strip-length}
 use Rattle.entries.proofs.Takes.{taken-at-most, taken-pixels}
-use Rattle.table.specs.Refusals.{roomOf, badStrip, badTable, full}
+use Rattle.colour.specs.{badStrip}
+use Rattle.table.specs.Refusals.{roomOf, badTable, full}
 use Rattle.table.specs.Outcomes.{refused, asItCame, withPixels, addStrip, AddMeets}
 use Rattle.taking.specs.{TookMeets}
 use Rattle.table.specs.declared.Record.{Record}

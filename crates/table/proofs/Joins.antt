@@ -1,15 +1,12 @@
 -- Adding two strips one after the other is adding them joined; an empty strip changes nothing; a table is determined
 -- by the weights of its colours.
 use mathlib.Core.Path.{_≡_, refl, sym, ap, _∙_}
-use mathlib.Core.Bool.{false, not}
-use mathlib.Core.Logic.{inl, inr}
+use mathlib.Core.Bool.{false}
 use mathlib.Core.List.{List, [], _++_, map}
-use Prim.Native.Nat.{ℕ, _+_, _/_, _%_, _≤_}
+use Prim.Native.Nat.{ℕ, _+_, _/_, _≤_}
 use native.Mathlib.Omega.{arith}
 use lib.ListN.{length, drop, length-append}
-use lib.Dec.{eqb}
-use borrow.Author.Tests.{le-ltb, eq-eqb, eqb-true}
-use Rattle.number.proofs.Cases.{bool, never}
+use borrow.Author.Tests.{le-ltb}
 use Rattle.refusal.specs.{done}
 use Rattle.entries.specs.{Entry, entries, keysInto, weightsInto, weightOf, stripKeys, putAll, takenOf}
 use Rattle.entries.proofs.Gives.{putAll-length, putAll-append}
@@ -24,9 +21,11 @@ use Rattle.entries.proofs.Slices.{
 }
 use Rattle.entries.proofs.Strips.{strip-append}
 use Rattle.entries.proofs.Takes.{taken-all, taken-append}
-use Rattle.table.specs.Refusals.{roomOf, recordOf, badStrip, badTable}
+use Rattle.colour.specs.{Bytes}
+use Rattle.colour.proofs.Strips.{whole-exactly, whole-append}
+use Rattle.table.specs.Refusals.{roomOf, recordOf, badTable}
 use Rattle.table.specs.Outcomes.{Outcome, asItCame, addStrip}
-use Rattle.table.specs.Goods.{GoodTable, Bytes}
+use Rattle.table.specs.Goods.{GoodTable}
 use Rattle.table.specs.declared.Record.{Record}
 use Rattle.table.proofs.Goods.{Good, good-of-test, good-of-table}
 use Rattle.table.proofs.Adds.{outcome-done}
@@ -87,20 +86,6 @@ into-twice f P Q cs h =
     ap (λ (r : List ℕ). map f Q ++ r)
     (drop-later (length P) (length Q) (map f P ++ drop (length P) cs) cs h (laid-kept f P cs))
 
--- what a whole strip is
-whole-of : (u : List ℕ) → badStrip u ≡ false → length u % 3 ≡ 0
-whole-of u h = elim (bool (eqb (length u % 3) 0)) [
-  | inl e ↦ eqb-true (length u % 3) 0 e
-  | inr e ↦ never (simp e at h)
-]
-
--- two whole strips joined are a whole strip
-whole-append : (s t : List ℕ) → badStrip s ≡ false → badStrip t ≡ false → badStrip (s ++ t) ≡ false
-whole-append s t a b =
-    let m : length s % 3 ≡ 0 = whole-of s a in
-    let n : length t % 3 ≡ 0 = whole-of t b in
-    ap not (eq-eqb (length (s ++ t) % 3) 0 (rw length-append (omega arith)))
-
 module _ (rec : Record) (ks ws s t : List ℕ) (bytes : Bytes s) (a : Accepted rec ks ws s) where
   -- the table before, and with the first strip
   abbrev es : List Entry
@@ -132,7 +117,7 @@ module _ (rec : Record) (ks ws s t : List ℕ) (bytes : Bytes s) (a : Accepted r
 
     -- the pixels of the strips joined are those of one and then of the other
     joined-keys : stripKeys (s ++ t) ≡ stripKeys s ++ stripKeys t
-    joined-keys = strip-append (length s / 3) s t (omega (arith, whole-of s (a .whole)))
+    joined-keys = strip-append (length s / 3) s t (omega (arith, whole-exactly s .0 (a .whole)))
 
     -- and so do the strips joined
     joined-taken : takenOf (roomOf ks ws) es (stripKeys (s ++ t)) ≡ length (stripKeys (s ++ t))

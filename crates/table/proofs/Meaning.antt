@@ -1,17 +1,17 @@
 -- What adding a strip means: when each refusal is given, what an accepted add does to the weights, that a good table
 -- stays good, that FULL keeps the longest prefix, and that two strips are the strips joined.
 use mathlib.Core.Path.{_≡_, refl, sym, ap, _∙_}
-use mathlib.Core.Bool.{true, false, not}
+use mathlib.Core.Bool.{true, false}
 use mathlib.Core.Logic.{_↔_, inl, inr}
 use mathlib.Core.List.{List}
-use Prim.Native.Nat.{ℕ, _+_, _%_, _≤_, _<_}
+use Prim.Native.Nat.{ℕ, _+_, _≤_, _<_}
 use native.Mathlib.Omega.{arith}
 use lib.ListN.{length, getD, drop}
-use borrow.Author.Tests.{lt-ltb, ltb-true, ltb-false, eq-eqb, ne-eqb}
-use Rattle.number.proofs.Cases.{bool, never}
+use borrow.Author.Tests.{lt-ltb, ltb-true, ltb-false}
+use Rattle.number.proofs.Cases.{bool}
 use Rattle.refusal.specs.{Refusal, numberOf, done, Given, NoneHolds}
 use Rattle.refusal.proofs.Promises.{first-exactly, done-exactly}
-use Rattle.colour.specs.{mostPixels}
+use Rattle.colour.specs.{badStrip, Bytes, mostPixels}
 use Rattle.entries.specs.{
   Entry,
   entries,
@@ -30,9 +30,9 @@ use Rattle.entries.proofs.Gives.{keys-take, putAll-weight, putAll-sound}
 use Rattle.entries.proofs.Slices.{entries-length, entries-laid, laid-length, laid-kept}
 use Rattle.entries.proofs.Strips.{byte-keys}
 use Rattle.entries.proofs.Takes.{Prefix, taken-prefix, prefix-only, taken-at-most, taken-all, taken-fits}
-use Rattle.table.specs.Refusals.{roomOf, recordOf, badStrip, badTable, full, addRows, addRefusal}
+use Rattle.table.specs.Refusals.{roomOf, recordOf, badTable, full, addRows, addRefusal}
 use Rattle.table.specs.Outcomes.{Outcome, asItCame, withPixels, handsBack, addStrip, tableAfter}
-use Rattle.table.specs.Goods.{GoodTable, Bytes}
+use Rattle.table.specs.Goods.{GoodTable}
 use Rattle.table.specs.declared.Record.{Record}
 use Rattle.table.proofs.Goods.{Good, test-of-good, table-of-good, good-of-table}
 use Rattle.table.proofs.Adds.{outcome-bad-strip, outcome-bad-table, outcome-full, outcome-done}
@@ -63,13 +63,6 @@ module _ (rec : Record) (ks ws s : List ℕ) where
   unfolding addStrip
   refused-as-it-came n b h =
       let e : addRefusal rec ks ws s ≡ numberOf n = sym refusal-is ∙ h in rw (e, b)
-
--- bytes not a multiple of 3
-pub bad-strip-exactly : (s : List ℕ) → (badStrip s ≡ true) ↔ (length s % 3 ≡ 0 → ⊥)
-bad-strip-exactly s = (
-  (λ h e. never (sym (rw (eq-eqb (length s % 3) 0 e) at h))),
-  (λ n. ap not (ne-eqb (length s % 3) 0 n)),
-)
 
 -- ---- what an outcome is, where the strip is whole and the table good
 

@@ -10,11 +10,13 @@ use lib.ListN.{length, getD, drop}
 use Rattle.refusal.specs.{Refusal, numberOf, done, Given, NoneHolds}
 use Rattle.entries.specs.{entries, weightOf, stripKeys, countOf, stops, takenOf, withTaken}
 use Rattle.entries.proofs.Takes.{Prefix}
-use Rattle.table.specs.Refusals.{roomOf, recordOf, badStrip, badTable, full, addRows}
+use Rattle.colour.specs.{badStrip, Bytes}
+use Rattle.table.specs.Refusals.{roomOf, recordOf, badTable, full, addRows}
 use Rattle.table.specs.Outcomes.{asItCame, handsBack, addStrip, tableAfter, AddMeets}
-use Rattle.table.specs.Goods.{GoodTable, Bytes}
+use Rattle.table.specs.Goods.{GoodTable}
 use Rattle.table.specs.declared.Record.{Record}
 use Rattle.table.specs.declared.Added.{Added}
+use Rattle.colour.proofs.Strips as strips
 use Rattle.table.proofs.Goods as goods
 use Rattle.table.proofs.Meaning as meaning
 use Rattle.table.proofs.Joins as joins
@@ -41,15 +43,14 @@ accepted-exactly = meaning.accepted-exactly
 
 -- The test of BAD STRIP holds exactly when the bytes are not a multiple of 3.
 pub bad-strip-exactly : (s : List ℕ) → (badStrip s ≡ true) ↔ (length s % 3 ≡ 0 → ⊥)
-bad-strip-exactly = meaning.bad-strip-exactly
+bad-strip-exactly = strips.bad-strip-exactly
 
 -- The test of BAD TABLE fails exactly for a good table.
 pub bad-table-exactly : (rec : Record) (ks ws : List ℕ) → (badTable rec ks ws ≡ false) ↔ GoodTable rec ks ws
 bad-table-exactly = goods.bad-table-exactly
 
 -- The test of FULL holds exactly when there is a next pixel and it does not go in: it meets a total of 16,777,216, or
--- is
--- a new colour with no room.
+-- is a new colour with no room.
 pub full-exactly : (rec : Record) (ks ws s : List ℕ)
     → (full rec ks ws s ≡ true)
     ↔ ((takenOf (roomOf ks ws) (entries (rec .used) ks ws) (stripKeys s) < length (stripKeys s))

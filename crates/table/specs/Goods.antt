@@ -18,7 +18,3 @@ pub record GoodTable (rec : Record) (ks ws : List ℕ) : Type 0 where
   pub weights : (p : ℕ) → p < rec .used → 1 ≤ getD ws p 0
   pub pixels : rec .pixels ≡ sum (rec .used) (weightAt ws)
   pub most : rec .pixels ≤ mostPixels
-
--- a strip is a list of bytes
-abbrev pub Bytes : List ℕ → Type 0
-Bytes s = (i : ℕ) → getD s i 0 < 256

@@ -4,7 +4,6 @@
 --   roomOf        the shorter of the two lent slices, capped at 1,048,576
 --   recordOf      the record of a table
 --   sameRecord    two records say the same
---   badStrip      the test of 1 BAD STRIP
 --   badTable      the test of 2 BAD TABLE; badEntries its part on the used entries
 --   full          the test of 3 FULL
 --   addRows       these tests in the order of adding, with their refusals
@@ -15,7 +14,6 @@
 --   AddMeets      the contract: answer and slices are those of the outcome
 --   tableAfter    the table in an outcome's slices
 --   GoodTable     a good table, fact by fact
---   Bytes         a list of bytes
 --   fallsAt       a key that the next one is not above; emptyAt a weight of 0; weightAt the weight at a place
 pub mod Refusals
 pub mod Outcomes
@@ -27,7 +25,6 @@ unfoldable pub use Refusals.{
   roomOf,
   recordOf,
   sameRecord,
-  badStrip,
   badEntries,
   badTable,
   full,
@@ -37,5 +34,4 @@ unfoldable pub use Refusals.{
 unfoldable pub use Outcomes.{refused, asItCame, withPixels, handsBack, addStrip, tableAfter}
 pub use Outcomes.{Outcome, AddMeets}
 pub use Goods.{GoodTable}
-unfoldable pub use Goods.{Bytes}
 unfoldable pub use Testing.{fallsAt, emptyAt, weightAt}

@@ -1,11 +1,11 @@
 -- When adding a strip is refused: one test a row of document 01's table, and the order of the rows.
-use Prim.Native.Nat.{ℕ, _%_, min}
+use Prim.Native.Nat.{ℕ, min}
 use mathlib.Core.Bool.{Bool, not, _&&_, _||_}
 use mathlib.Core.List.{List, [], _∷_}
 use lib.ListN.{length}
 use lib.Dec.{ltb, eqb}
 use Rattle.refusal.specs.{Row, row, firstOf, BAD-STRIP, BAD-TABLE, FULL}
-use Rattle.colour.specs.{mostPixels}
+use Rattle.colour.specs.{badStrip, mostPixels}
 use Rattle.entries.specs.{Entry, entries, pixelsOf, sound, stripKeys, mostEntries, takenOf}
 use Rattle.table.specs.declared.Record.{Record}
 
@@ -20,10 +20,6 @@ recordOf es = record { used = length es; pixels = pixelsOf es }
 -- two records say the same
 abbrev pub sameRecord : Record → Record → Bool
 sameRecord a b = eqb (a .used) (b .used) && eqb (a .pixels) (b .pixels)
-
--- BAD STRIP: pixel bytes not a multiple of 3
-abbrev pub badStrip : List ℕ → Bool
-badStrip s = not (eqb (length s % 3) 0)
 
 -- the used entries are no table of this record: a key above 16,777,215 or not above the one before, a weight of 0,
 -- a record that is not theirs, or a pixel total above 16,777,216

@@ -10,7 +10,6 @@ use Rattle.number.proofs.Fills.{fill-length}
 use Rattle.shades.specs.{colourAt, packedNearest}
 use Rattle.number.proofs.Parts.{part-at, part-filled}
 use Rattle.colour.specs.{colourOf}
-use Rattle.search.specs.Asking.{RoomFor}
 
 -- colour i of a part of the keys is colour a + i of them all
 part-colour : (a n i : ℕ) (ks : List ℕ) → i < n → colourAt (midOf a n ks) i ≡ colourAt ks (a + i)
@@ -50,16 +49,3 @@ pub block-keys : {s ks before m : List ℕ} {k used a : ℕ} → Searched s k ks
     → used ≤ length before → used ≤ length ks → length (midOf a (e - a) m) ≤ length (midOf a (e - a) ks)
 block-keys {ks = ks} {m = m} {a = a} b e h room keys =
     omega (arith, mid-len a e m (omega (arith, b .long)), mid-len a e ks (omega arith))
-
--- three lists of 256 places each, where a block's colours are laid out
-pub record BlockLists (reds greens blues : List ℕ) : Type 0 where
-  pub red : length reds ≡ 256
-  pub green : length greens ≡ 256
-  pub blue : length blues ≡ 256
-
--- they have room for the keys of a block
-pub block-room : {reds greens blues : List ℕ} → BlockLists reds greens blues → (ks : List ℕ) (a e : ℕ) → e ≤ length ks
-    → e - a ≤ 256 → RoomFor (length (midOf a (e - a) ks)) reds greens blues
-block-room w ks a e h m =
-    let n = mid-len a e ks h in
-    record { red = omega (arith, n, w .red); green = omega (arith, n, w .green); blue = omega (arith, n, w .blue) }

@@ -11,11 +11,10 @@ use Rattle.number.proofs.Fills.{fill-at, fill-again, fill-kept, fill-length, fi
 use Rattle.number.proofs.Peaks.{lowest-more, lowest-is-least, least-at-most}
 use Rattle.number.proofs.Searches.{first-below}
 use Rattle.colour.specs.{Point, Within, distance, mostCoordinate}
-use Rattle.colour.proofs.Distances.{colour-within}
-use Rattle.shades.specs.{mostShades, shadeAt, colourAt, pack, packedNearest, Shades}
+use Rattle.shades.specs.{mostShades, shadeAt, pack, packedNearest, Shades}
 use Rattle.shades.proofs.Laying.{to-shade-most}
 use Rattle.shades.proofs.Nearest.{packed-only}
-use Rattle.search.specs.Asking.{lookedAt}
+use Rattle.search.specs.Asking.{lookedAt, PointsOnGrid}
 
 -- the greatest number that a place holds: no packed number is as great
 abbrev pub mostPlace : ℕ
@@ -94,17 +93,14 @@ looked-step {s} {start} {best} {x} {c} {k} {q} l h e =
           ∙ fill-again n f (leastAt s c q) start ∙ fill-same n f _ start (looked-place l);
     }
 
--- past the last shade every place holds the nearest of its colour, if the points are the colours
+-- past the last shade every place holds the nearest of its point, if the points are on the grid
 pub looked-done : {s start best : List ℕ} {c : ℕ → Point} {k q : ℕ} → Looked s c k start best q → k ≤ q → Shades k s
-    → 0 < k → (ks d : List ℕ) → start ≡ fill (length d) (λ i. mostPlace) d
-    → ((i : ℕ) → i < length d → c i ≡ colourAt ks i)
-    → best ≡ fill (length d) (λ i. packedNearest s k (colourAt ks i)) d
-looked-done {s} {start} {best} {c} {k} {q} l h shades some ks d e same =
+    → 0 < k → (d : List ℕ) → start ≡ fill (length d) (λ i. mostPlace) d → PointsOnGrid (length d) c
+    → best ≡ fill (length d) (λ i. packedNearest s k (c i)) d
+looked-done {s} {start} {best} {c} {k} {q} l h shades some d e inside =
     let n = length d in
     let f = leastAt s c k in
     let z : q ≡ k = omega (arith, l .within) in
     let is : best ≡ fill n f start = rw (z, filled-length _ d e) at (l .is) in
-    let nearest : (i : ℕ) → i < n → f i ≡ packedNearest s k (colourAt ks i) =
-    λ i m. ap (leastPacked s k) (same i m)
-    ∙ least-packed-nearest s k (colourAt ks i) shades some (colour-within _) in
-    is ∙ ap (fill n f) e ∙ fill-again n f (λ i. mostPlace) d ∙ fill-same n f _ d nearest
+    is ∙ ap (fill n f) e ∙ fill-again n f (λ i. mostPlace) d
+    ∙ fill-same n f _ d (λ i m. least-packed-nearest s k (c i) shades some (inside i m))

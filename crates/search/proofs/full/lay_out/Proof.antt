@@ -5,13 +5,15 @@ use native.Mathlib.Omega.{arith}
 use lib.ListN.{length}
 use denote.Ref.{now}
 use borrow.Author.Needs.{needs}
+use Rattle.shades.specs.{colourAt}
 use Rattle.search.specs.Asking.{RoomFor}
-use Rattle.search.proofs.full.Layouts.{Fronts, fronts-start, fronts-room, fronts-step, fronts-long}
+use Rattle.search.proofs.Layouts.{Fronts, fronts-start, fronts-room, fronts-step, fronts-long}
 use Rattle.search.proofs.full.lay_out.Statement.{statement}
 use Rattle.search.proofs.full.lay_out.Tie as tie
 
 abbrev Inv-loop : tie.InvT-loop
-Inv-loop keys reds₀ greens₀ blues₀ n i₀ reds greens blues i = Fronts keys reds₀ greens₀ blues₀ reds greens blues i
+Inv-loop keys reds₀ greens₀ blues₀ n i₀ reds greens blues i =
+    Fronts (colourAt keys) (length keys) reds₀ greens₀ blues₀ reds greens blues i
 
 abbrev μ-loop : tie.MeasureT-loop
 μ-loop keys reds₀ greens₀ blues₀ n i₀ reds greens blues i = length keys - i
@@ -19,7 +21,8 @@ abbrev μ-loop : tie.MeasureT-loop
 loop-holds : tie.Need-loop-holds Inv-loop μ-loop
 loop-holds c =
     let a = c .before .before .before .before .args in
-    fronts-start (now (a .keys)) (now (a .reds)) (now (a .greens)) (now (a .blues))
+    let ks = now (a .keys) in
+    fronts-start (colourAt ks) (length ks) (now (a .reds)) (now (a .greens)) (now (a .blues))
 
 -- where the turn begins
 abbrev turn : tie.After-colour-of Inv-loop μ-loop → tie.At-loop Inv-loop μ-loop

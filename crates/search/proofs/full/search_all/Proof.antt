@@ -3,14 +3,8 @@ use Prim.Native.Nat.{_-_, _+_}
 use mathlib.Core.Path.{refl, _∙_}
 use native.Mathlib.Omega.{arith}
 use denote.Ref.{now}
-use Rattle.search.proofs.full.Blocks.{
-  Searched,
-  searched-start,
-  searched-step,
-  block-keys,
-  BlockLists,
-  block-room,
-}
+use Rattle.search.proofs.Layouts.{BlockLists, block-room}
+use Rattle.search.proofs.full.Blocks.{Searched, searched-start, searched-step, block-keys}
 use Rattle.search.proofs.full.search_all.Statement.{statement}
 use Rattle.search.proofs.full.search_all.Tie as tie
 

@@ -1,0 +1,14 @@
+-- A strip of a picture: the bytes R, G, B of its pixels, from first to last.
+use Prim.Native.Nat.{ℕ, _%_, _<_}
+use mathlib.Core.Bool.{Bool, not}
+use mathlib.Core.List.{List}
+use lib.Dec.{eqb}
+use lib.ListN.{getD, length}
+
+-- BAD STRIP: pixel bytes not a multiple of 3
+abbrev pub badStrip : List ℕ → Bool
+badStrip s = not (eqb (length s % 3) 0)
+
+-- a list of bytes
+abbrev pub Bytes : List ℕ → Type 0
+Bytes s = (i : ℕ) → getD s i 0 < 256
