@@ -1,0 +1,34 @@
+-- Glossary.
+--   Mapped               refusal, error, errors, mean, means: the answer
+--   manyPixels           the test of 11 MANY PIXELS
+--   shortIndex           the test of 7 SHORT ROOM of a mapping
+--   mapRows              the tests in their order, with their refusals
+--   MapOutcome           the answer and the index picture at exit
+--   answerWith, answerOf answers with the figures of their errors
+--   refusedMap           the answer of a refusal: its number, zeros, "no pixels"
+--   madeMap, keptMap     the outcome where nothing is refused, and where something is
+--   mapStrip             the outcome of a call
+--   MapMeets             the contract: answer and index picture are those of the outcome
+--   OfEachError          a fact of each of the four errors in an answer
+--   joined strips        strips joined from first to last
+--   EachWhole            every strip has whole pixels
+--   Pieced, inStrips     what calls one after the other leave: index picture and errors added up
+--   leftBy               the same of one call
+--   EachAccepted         every one of them is accepted
+pub mod Outcomes
+pub mod Pieces
+pub use declared.Mapped.{Mapped}
+unfoldable pub use Outcomes.{
+  manyPixels,
+  shortIndex,
+  mapRows,
+  answerWith,
+  answerOf,
+  refusedMap,
+  madeMap,
+  keptMap,
+  mapStrip,
+}
+pub use Outcomes.{MapOutcome, MapMeets, OfEachError}
+unfoldable pub use Pieces.{joined, EachWhole, leftBy, inStrips, EachAccepted}
+pub use Pieces.{Pieced}

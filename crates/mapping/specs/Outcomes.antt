@@ -1,0 +1,85 @@
+-- When a mapping is refused, and what it leaves on every input: the answer, and the index picture.
+use Prim.Native.Nat.{ℕ, _+_}
+use mathlib.Core.Bool.{Bool}
+use mathlib.Core.List.{List, [], _∷_}
+use mathlib.Core.Path.{_≡_}
+use lib.Dec.{ltb}
+use lib.ListN.{length}
+use Rattle.number.specs.{fillFrom}
+use Rattle.refusal.specs.{Row, row, outcomeOf, done, BAD-STRIP, BAD-PALETTE, MANY-PIXELS, SHORT-ROOM}
+use Rattle.colour.specs.{badStrip, mostPixels}
+use Rattle.palette.specs.{badPalette}
+use Rattle.figures.specs.{meanOf, meansOf}
+use Rattle.strips.specs.{Errors, pixelCount, entryFor, errorsOf, errorOf}
+use Rattle.mapping.specs.declared.Mapped.{Mapped}
+
+-- MANY PIXELS: mapping over 16,777,216 pixels
+abbrev pub manyPixels : List ℕ → Bool
+manyPixels strip = ltb mostPixels (pixelCount strip)
+
+-- SHORT ROOM: the stretch's first place plus the strip's pixels above the index length
+abbrev pub shortIndex : List ℕ → List ℕ → ℕ → Bool
+shortIndex strip index first = ltb (length index) (first + pixelCount strip)
+
+-- the order of a mapping: 1, 10, 11, 7
+abbrev pub mapRows : List ℕ → List ℕ → List ℕ → ℕ → List Row
+mapRows strip palette index first =
+    row (badStrip strip) BAD-STRIP
+    ∷ row (badPalette palette) BAD-PALETTE
+    ∷ row (manyPixels strip) MANY-PIXELS
+    ∷ row (shortIndex strip index first) SHORT-ROOM
+    ∷ []
+
+-- the answer, and the index picture at exit
+pub record MapOutcome : Type 0 where
+  pub answer : Mapped
+  pub index : List ℕ
+
+-- an answer with this number, this error, and the figures of these errors and so many pixels
+abbrev pub answerWith : ℕ → ℕ → Errors → ℕ → Mapped
+answerWith n error errors pixels = record {
+  refusal = n;
+  error = error;
+  errors = errors;
+  mean = meanOf error pixels;
+  means = meansOf (errors .red) (errors .green) (errors .blue) pixels;
+}
+
+-- the answer of a strip with these errors and so many pixels: the error is the channels' sum
+abbrev pub answerOf : Errors → ℕ → Mapped
+answerOf errors pixels = answerWith done (errors .red + errors .green + errors .blue) errors pixels
+
+-- the answer of a refusal: its number, zeros, and the figures of no pixels
+abbrev pub refusedMap : ℕ → Mapped
+refusedMap n = answerWith n 0 (record { red = 0; green = 0; blue = 0 }) 0
+
+-- a strip mapped: the error is the sum of squared level differences, the figures are those of the strip, and its
+-- stretch of the index picture holds the numbers of the nearest entries
+abbrev pub madeMap : List ℕ → List ℕ → List ℕ → ℕ → MapOutcome
+madeMap strip palette index first =
+    let n = pixelCount strip in
+    record {
+      answer = answerWith done (errorOf palette strip n) (errorsOf palette strip n) n;
+      index = fillFrom first n (entryFor palette strip) index;
+    }
+
+-- a refusal: no index byte changes
+abbrev pub keptMap : List ℕ → ℕ → MapOutcome
+keptMap index n = record { answer = refusedMap n; index = index }
+
+-- the whole outcome of a call
+unfoldable pub mapStrip : List ℕ → List ℕ → List ℕ → ℕ → MapOutcome
+mapStrip strip palette index first =
+    outcomeOf (mapRows strip palette index first) (madeMap strip palette index first) (keptMap index)
+
+-- the contract: answer and index picture are those of the outcome
+pub record MapMeets (o : MapOutcome) (r : Mapped) (index : List ℕ) : Type 0 where
+  pub answer : r ≡ o .answer
+  pub index-is : index ≡ o .index
+
+-- a fact of each of the four errors in an answer
+pub record OfEachError (r : Mapped) (F : ℕ → Type 0) : Type 0 where
+  pub whole : F (r .error)
+  pub red : F (r .errors .red)
+  pub green : F (r .errors .green)
+  pub blue : F (r .errors .blue)

@@ -1,0 +1,26 @@
+// The index picture: a strip mapped to a palette in its own stretch, with error and figures.
+//
+// Calls; none requires anything of its caller
+//   map_strip   maps a strip into the stretch of the index picture that begins at a place. call.rt
+//               Refuses 1 BAD STRIP, 10 BAD PALETTE, 11 MANY PIXELS, 7 SHORT ROOM, in this order.
+// A refusal answers its number, zeros and "no pixels", and writes nothing. The pixels are mapped by
+// the crate strips, the figures made by the crate figures.
+//
+// Read next: specs/Lib.antt (what the words mean), proofs/Promises.antt (what is shown).
+use figures::Mean;
+use figures::Means;
+use strips::Errors;
+
+mod call;
+
+pub use call::map_strip;
+
+// The answer of a mapping: 0 or the refusal's number; the error, and that of each channel; the mean
+// square error, and the mean of each channel.
+pub struct Mapped {
+    pub refusal: u8,
+    pub error: u64,
+    pub errors: Errors,
+    pub mean: Mean,
+    pub means: Means,
+}

@@ -1,0 +1,2 @@
+-- A block searched: the numbers found are those of the nearest shades.
+pub mod Searches

@@ -1,0 +1,2 @@
+-- Place after place the numbers are stored and the squared differences added up.
+pub mod Settling

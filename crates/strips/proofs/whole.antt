@@ -1,0 +1,2 @@
+-- Block after block, the pixels of a strip are mapped.
+pub mod Blocks

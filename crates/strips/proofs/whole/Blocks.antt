@@ -1,0 +1,119 @@
+-- Block after block, the pixels of a strip are mapped.
+use Prim.Native.Nat.{ℕ, _+_, _-_, _*_, _≤_, _<_}
+use mathlib.Core.List.{List}
+use mathlib.Core.Path.{_≡_, refl, sym, ap, ap₂, _∙_}
+use native.Mathlib.Omega.{arith}
+use lib.ListN.{length}
+use borrow.Rule.Slice.PartMut.{midOf, putMid, mid-len}
+use Rattle.number.specs.{fill, sum}
+use Rattle.number.proofs.Fills.{fill-length}
+use Rattle.number.proofs.Parts.{part-filled}
+use Rattle.colour.specs.{Point, Bytes, mostCoordinate, mostPixels}
+use Rattle.shades.specs.{shadeAt, nearestShade, OnGrid, Shades}
+use Rattle.shades.proofs.Laying.{shade-within}
+use Rattle.search.specs.{PointsOnGrid, RoomFor}
+use Rattle.search.proofs.Layouts.{BlockLists, block-room}
+use Rattle.strips.specs.declared.Errors.{Errors}
+use Rattle.strips.specs.Meaning.{pixelAt, nearestTo, missOn, missesOf, plusErrors}
+use Rattle.strips.specs.Asking.{SmallErrors}
+use Rattle.strips.proofs.Misses.{miss-most, misses-same, misses-parts}
+use Rattle.strips.proofs.Pixels.{pixels-on-grid, pixel-part}
+
+-- the pixels before place i are mapped to the k shades of s, and their errors are added up
+pub record Mapped (strip s : List ℕ) (k : ℕ) (before index : List ℕ) (errors : Errors) (i : ℕ) : Type 0 where
+  pub within : i ≤ length before
+  pub is : index ≡ fill i (nearestTo s k strip) before
+  pub errors-are : errors ≡ missesOf (pixelAt strip) s (nearestTo s k strip) i
+
+-- before the first pixel
+pub mapped-start : (strip s : List ℕ) (k : ℕ) (d : List ℕ)
+    → Mapped strip s k d d (record { red = 0; green = 0; blue = 0 }) 0
+unfolding fill sum
+mapped-start strip s k d = record { within = omega arith; is = refl; errors-are = refl }
+
+-- errors of points and shades on the grid are small
+misses-small : (c : ℕ → Point) (s : List ℕ) (f : ℕ → ℕ) (n : ℕ) → PointsOnGrid n c → OnGrid s → n ≤ mostPixels
+    → SmallErrors (missesOf c s f n)
+misses-small c s f n inside low few =
+    let most : (e : ℕ) → missOn e c s f n ≤ mostCoordinate * mostCoordinate * mostPixels =
+    λ e. omega (arith, miss-most mostCoordinate e n c s f inside (λ q. shade-within s q low)) in
+    record { red-small = most 0; green-small = most 1; blue-small = most 2 }
+
+-- what is asked for a whole strip: three bytes for each place, some shades on the grid, and no more pixels than may be
+abbrev pub Asked : List ℕ → List ℕ → ℕ → List ℕ → Type 0
+Asked strip s k before =
+    (length strip ≡ 3 * length before) × Shades k s × (0 < k) × (length before ≤ mostPixels)
+
+module _ {strip s : List ℕ} {k : ℕ} {before index : List ℕ} {errors : Errors} {a : ℕ}
+    (w : Mapped strip s k before index errors a) where
+  -- as many places as before
+  pub mapped-long : length index ≡ length before
+  mapped-long = ap length (w .is) ∙ fill-length a (nearestTo s k strip) before
+
+  -- ---- the block from place a up to place e
+
+  module _ (e : ℕ) (h : a ≤ e) (room : e ≤ length before) where
+    -- its bytes
+    abbrev block : List ℕ
+    block = midOf (3 * a) (3 * e - 3 * a) strip
+
+    -- its places in the index picture
+    abbrev part : List ℕ
+    part = midOf a (e - a) index
+
+    -- they are e - a
+    part-long : length part ≡ e - a
+    part-long = mid-len a e index (omega (arith, mapped-long))
+
+    -- its pixels are those of the strip
+    block-pixel : (i : ℕ) → i < e - a → pixelAt block i ≡ pixelAt strip (a + i)
+    block-pixel i l = pixel-part a e i strip (omega arith)
+
+    -- and so are its errors
+    block-errors : {r : Errors} → r ≡ missesOf (pixelAt block) s (nearestTo s k block) (length part)
+        → r ≡ missesOf (λ i. pixelAt strip (a + i)) s (λ i. nearestTo s k strip (a + i)) (e - a)
+    block-errors x =
+        rw part-long at x
+        ∙ misses-same (e - a) (pixelAt block) _ s s (nearestTo s k block) _ block-pixel
+        (λ i l. ap (λ c. shadeAt s (nearestShade s k c)) (block-pixel i l))
+
+    -- what mapping it asks is there, in lists of 256 places, with a place for each packed number
+    pub block-asked : Asked strip s k before → {reds greens blues : List ℕ} → BlockLists reds greens blues
+        → {best : ℕ} → best ≡ e - a → e - a ≤ 256
+        → (length block ≡ 3 * length part) × Shades k s × (0 < k) × RoomFor (length part) reds greens blues
+        × (best ≡ length part) × (length part ≤ mostPixels)
+    block-asked ask lists long few = (
+      omega (arith, part-long, ask .0, mid-len (3 * a) (3 * e) strip (omega (arith, ask .0))),
+      ask .1,
+      ask .2,
+      block-room lists index a e (omega (arith, mapped-long)) few,
+      omega (arith, part-long),
+      omega (arith, part-long, ask .3),
+    )
+
+    -- the errors so far and those of the block are small
+    pub errors-small : Asked strip s k before → Bytes strip → {r : Errors}
+        → r ≡ missesOf (pixelAt block) s (nearestTo s k block) (length part) → SmallErrors errors × SmallErrors r
+    errors-small ask bytes x = (
+      rw (w .errors-are)
+          (misses-small (pixelAt strip) s (nearestTo s k strip) a (pixels-on-grid strip a bytes) (ask .1 .low)
+          (omega (arith, ask .3))),
+      rw (block-errors x)
+          (misses-small (λ i. pixelAt strip (a + i)) s _ (e - a)
+          (λ i l. pixels-on-grid strip e bytes (a + i) (omega arith)) (ask .1 .low) (omega (arith, ask .3))),
+    )
+
+    -- the block is mapped too
+    pub mapped-step : {x : List ℕ} {r : Errors} → x ≡ fill (length part) (nearestTo s k block) part
+        → r ≡ missesOf (pixelAt block) s (nearestTo s k block) (length part)
+        → Mapped strip s k before (putMid a (e - a) index x) (plusErrors errors r) e
+    mapped-step ex er =
+        let f = nearestTo s k strip in
+        let z : a + (e - a) ≡ e = omega arith in
+        record {
+          within = room;
+          is = rw (ex, part-long, w .is)
+              (rw z at (part-filled a (e - a) f _ before (λ i l. ap (nearestShade s k) (block-pixel i l))));
+          errors-are = ap₂ plusErrors (w .errors-are) (block-errors er)
+              ∙ rw z at (sym (misses-parts a (e - a) (pixelAt strip) s f));
+        }

@@ -1,0 +1,37 @@
+-- What the strip mapper and its parts ask.
+use Prim.Native.Nat.{ℕ, _+_, _*_, _%_, _≤_, _<_}
+use mathlib.Core.List.{List}
+use mathlib.Core.Path.{_≡_}
+use lib.ListN.{getD, length}
+use Rattle.colour.specs.{mostCoordinate, mostPixels}
+use Rattle.shades.specs.{mostShades, OnGrid}
+use Rattle.search.specs.{pointAt, PointsOnGrid, RoomFor}
+use Rattle.strips.specs.Meaning.{entryCount}
+use Rattle.strips.specs.declared.Errors.{Errors}
+
+-- the number in the packed number at place i
+abbrev pub numberIn : List ℕ → ℕ → ℕ
+numberIn best i = getD best i 0 % mostShades
+
+-- n points on the grid are laid out, and for each a number is found whose shade is in s
+pub record Found (reds greens blues s best : List ℕ) (n : ℕ) : Type 0 where
+  pub room : RoomFor n reds greens blues
+  pub points : PointsOnGrid n (pointAt reds greens blues)
+  pub shades : OnGrid s
+  pub found : n ≤ length best
+  pub inside : (i : ℕ) → i < n → 3 * numberIn best i + 2 < length s
+  pub few : n ≤ mostPixels
+
+-- no error is above that of 16,777,216 pixels
+pub record SmallErrors (a : Errors) : Type 0 where
+  pub red-small : a .red ≤ mostCoordinate * mostCoordinate * mostPixels
+  pub green-small : a .green ≤ mostCoordinate * mostCoordinate * mostPixels
+  pub blue-small : a .blue ≤ mostCoordinate * mostCoordinate * mostPixels
+
+-- a strip of n pixels, at most 16,777,216, and a palette of 1 to 64 entries
+pub record Mappable (strip palette : List ℕ) (n : ℕ) : Type 0 where
+  pub pixels : length strip ≡ 3 * n
+  pub few : n ≤ mostPixels
+  pub entries : length palette ≡ 3 * entryCount palette
+  pub some : 0 < entryCount palette
+  pub at-most : entryCount palette ≤ mostShades
