@@ -1,0 +1,233 @@
+-- A field, as it is read and as it stands: white bytes and a number after them, from one place to another.
+use Prim.Native.Nat.{ℕ, _+_, _-_, _≤_, _<_}
+use mathlib.Core.Bool.{Bool, true, false}
+use mathlib.Core.List.{List}
+use mathlib.Core.Logic.{inl, inr}
+use mathlib.Core.Path.{_≡_, refl, sym, ap, _∙_, subst}
+use native.Mathlib.Decide.{ℕ-discrete}
+use native.Mathlib.Omega.{arith}
+use lib.ListN.{length}
+use borrow.Author.Tests.{ne-eqb}
+use Rattle.number.proofs.Cases.{bool, never}
+use Rattle.headers.specs.Bytes.{byteAt, isWhite, isDigit}
+use Rattle.headers.specs.Numbers.{mostDigits, whitesAt, digitsAt, AllOf, decimal, numberAt, fieldAt}
+use Rattle.headers.specs.declared.Reading.{Reading}
+use Rattle.headers.specs.declared.Reading.the-variants.{Number, Failed}
+use Rattle.headers.specs.Standing.{DigitsEnd, Field, FieldFailed, FieldRead}
+use Rattle.headers.proofs.Spans.{
+  span-at-most,
+  span-all,
+  span-ends,
+  span-only,
+  whites-end,
+  whites-only,
+  white-inside,
+}
+use Rattle.headers.proofs.Decimals.{decimal-same, digit-range}
+use Rattle.headers.proofs.field.Readings.{digits-inside, number-reads, field-reads, number-fails, field-fails}
+
+-- ---- bytes of two inputs that agree
+
+-- the first n bytes agree
+abbrev pub Agree : ℕ → List ℕ → List ℕ → Type 0
+Agree n s t = (i : ℕ) → i < n → byteAt t i ≡ byteAt s i
+
+-- bytes of one kind stay so where they agree
+pub all-agree : (kind : ℕ → Bool) (s t : List ℕ) (at n : ℕ) → Agree (at + n) s t → AllOf kind s at n → AllOf kind t at n
+all-agree kind s t at n same all i h = ap kind (same (at + i) (omega arith)) ∙ all i h
+
+-- a digit is not white
+pub digit-not-white : (b : ℕ) → isDigit b ≡ true → isWhite b ≡ false
+unfolding isWhite
+digit-not-white b h =
+    let low = digit-range b h .0 in
+    simp (
+      ne-eqb b 32 (λ e. omega arith),
+      ne-eqb b 9 (λ e. omega arith),
+      ne-eqb b 13 (λ e. omega arith),
+      ne-eqb b 10 (λ e. omega arith),
+    )
+
+-- a white byte is no digit
+pub white-not-digit : (b : ℕ) → isWhite b ≡ true → isDigit b ≡ false
+white-not-digit b h = elim (bool (isDigit b)) [
+  | inl d ↦ never (sym h ∙ digit-not-white b d)
+  | inr d ↦ d
+]
+
+-- ---- a field that is read
+
+-- a field stands where it stood in an input that agrees up to its end
+pub field-agree : (s t : List ℕ) (a b value : ℕ) → Agree b s t → Field s a b value → Field t a b value
+field-agree s t a b value same f = record {
+  whites = f .whites;
+  digits = f .digits;
+  some-white = f .some-white;
+  some-digit = f .some-digit;
+  few-digits = f .few-digits;
+  white = all-agree isWhite s t a (f .whites) (λ i h. same i (omega (arith, f .ends))) (f .white);
+  digit = all-agree isDigit s t (a + f .whites) (f .digits) (λ i h. same i (omega (arith, f .ends))) (f .digit);
+  is = f .is ∙ decimal-same (f .digits) _ _ (λ i h. sym (same (a + f .whites + i) (omega (arith, f .ends))));
+  ends = f .ends;
+}
+
+-- it begins with a white byte
+pub field-white : (s : List ℕ) (a b value : ℕ) → Field s a b value → isWhite (byteAt s a) ≡ true
+field-white s a b value f =
+    let z : a + 0 ≡ a = omega arith in
+    ap (λ i. isWhite (byteAt s i)) (sym z) ∙ f .white 0 (f .some-white)
+
+-- it ends after it begins
+pub field-after : (s : List ℕ) (a b value : ℕ) → Field s a b value → a + 2 ≤ b
+field-after s a b value f = omega (arith, f .ends, f .some-white, f .some-digit)
+
+-- and inside the input
+pub field-inside : (s : List ℕ) (a b value : ℕ) → Field s a b value → b ≤ length s
+field-inside s a b value f =
+    omega (arith, f .ends, digits-inside s (a + f .whites) (f .digits) (f .digit) (f .some-digit))
+
+-- white bytes and the digit 1 are a field
+pub one-field : (s : List ℕ) (a n : ℕ) → 0 < n → AllOf isWhite s a n → byteAt s (a + n) ≡ 49 → Field s a (a + n + 1) 1
+unfolding isDigit decimal
+one-field s a n some white one =
+    let here : (i : ℕ) → i < 1 → byteAt s (a + n + i) ≡ 49 =
+    λ i h. let z : a + n + i ≡ a + n = omega arith in rw z one in
+    record {
+      whites = n;
+      digits = 1;
+      some-white = some;
+      some-digit = omega arith;
+      few-digits = omega arith;
+      white = white;
+      digit = λ i h. rw (here i h);
+      is = rw (here 0 (omega arith));
+      ends = refl;
+    }
+
+-- a field that stands, with its digits ended, is read
+pub field-is-read : (s : List ℕ) (a b value : ℕ) (f : Field s a b value) → DigitsEnd s a b value f
+    → fieldAt s a ≡ Number value b
+field-is-read s a b value f ended =
+    let w = f .whites in
+    let n = f .digits in
+    let first : isDigit (byteAt s (a + w)) ≡ true =
+    let z : a + w + 0 ≡ a + w = omega arith in
+    ap (λ i. isDigit (byteAt s i)) (sym z) ∙ f .digit 0 (f .some-digit) in
+    let whites : w ≡ whitesAt s a = whites-only s a w (f .white) (digit-not-white _ first) in
+    let digits : n ≡ digitsAt s (a + w) =
+    span-only isDigit mostDigits s (a + w) n (f .few-digits) (f .digit) (λ l. rw (← f .ends) (ended l)) in
+    sym (field-reads s a (a + w) (ap (λ i. a + i) whites) (λ e. omega (arith, f .some-white)))
+    ∙ sym (number-reads s (a + w) n value digits (λ e. omega (arith, f .some-digit)) (f .is))
+    ∙ ap (Number value) (sym (f .ends))
+
+-- ---- what a reading says
+
+-- a reading of a field is one of the two
+pub data Told (s : List ℕ) (a : ℕ) : Reading → Type 0 where
+  read : (value b : ℕ) → FieldRead s a b value → Told s a (Number value b)
+  failed : (at : ℕ) → FieldFailed s a at → Told s a (Failed at)
+
+-- with no white byte there it failed at once
+told-at-once : (s : List ℕ) (a : ℕ) → whitesAt s a ≡ 0 → Told s a (fieldAt s a)
+told-at-once s a z =
+    let here : a + whitesAt s a ≡ a = omega arith in
+    subst (Told s a) (field-fails s a a (sym here) refl) (failed a (record {
+      whites = 0;
+      white = λ i h. absurd (omega arith);
+      ends = omega arith;
+      not-white = ap (λ i. isWhite (byteAt s i)) (sym here) ∙ whites-end s a;
+      not-digit = λ h. absurd (omega arith);
+    }))
+
+module _ (s : List ℕ) (a : ℕ) (some : ¬ (whitesAt s a ≡ 0)) where
+  -- after the white bytes the field is the number there
+  after : numberAt s (a + whitesAt s a) ≡ fieldAt s a
+  after = field-reads s a (a + whitesAt s a) refl (λ e. some (omega arith))
+
+  -- with no digit there it failed
+  told-no-digit : digitsAt s (a + whitesAt s a) ≡ 0 → Told s a (fieldAt s a)
+  told-no-digit z =
+      let b = a + whitesAt s a in
+      let here : b + digitsAt s b ≡ b = omega arith in
+      subst (Told s a) (number-fails s b 0 (sym z) refl ∙ after) (failed b (record {
+        whites = whitesAt s a;
+        white = span-all isWhite (length s) s a;
+        ends = refl;
+        not-white = whites-end s a;
+        not-digit = λ h. ap (λ i. isDigit (byteAt s i)) (sym here) ∙ span-ends isDigit mostDigits s b (omega arith);
+      }))
+
+  -- with digits there it is read
+  told-read : ¬ (digitsAt s (a + whitesAt s a) ≡ 0) → Told s a (fieldAt s a)
+  told-read digits =
+      let b = a + whitesAt s a in
+      let value = decimal (digitsAt s b) (λ i. byteAt s (b + i)) in
+      let f : Field s a (b + digitsAt s b) value = record {
+        whites = whitesAt s a;
+        digits = digitsAt s b;
+        some-white = omega (arith, some);
+        some-digit = omega (arith, digits);
+        few-digits = span-at-most isDigit mostDigits s b;
+        white = span-all isWhite (length s) s a;
+        digit = span-all isDigit mostDigits s b;
+        is = refl;
+        ends = refl;
+      } in
+      subst (Told s a) (number-reads s b (digitsAt s b) value refl digits refl ∙ after)
+      (read value (b + digitsAt s b) (record { field = f; ended = span-ends isDigit mostDigits s b }))
+
+-- every field is read or failed
+pub field-told : (s : List ℕ) (a : ℕ) → Told s a (fieldAt s a)
+field-told s a = go (ℕ-discrete (whitesAt s a) 0) (ℕ-discrete (digitsAt s (a + whitesAt s a)) 0)
+  where
+    go : Dec (whitesAt s a ≡ 0) → Dec (digitsAt s (a + whitesAt s a) ≡ 0) → Told s a (fieldAt s a)
+    go (yes z) n = told-at-once s a z
+    go (no z) (yes n) = told-no-digit s a z n
+    go (no z) (no n) = told-read s a z n
+
+-- ---- a reading looks no further than the place where it ended or failed
+
+-- what failed fails alike in an input that agrees up to that place and there
+pub failed-agree : (s t : List ℕ) (a at : ℕ) → FieldFailed s a at → Agree (at + 1) s t → fieldAt t a ≡ Failed at
+failed-agree s t a at f same = go (ℕ-discrete (f .whites) 0)
+  where
+    here : byteAt t (a + f .whites) ≡ byteAt s at
+    here = rw (← f .ends) (same at (omega arith))
+
+    whites : a + f .whites ≡ a + whitesAt t a
+    whites =
+        ap (λ n. a + n) (whites-only t a (f .whites)
+        (all-agree isWhite s t a (f .whites) (λ i h. same i (omega (arith, f .ends))) (f .white))
+        (ap isWhite here ∙ f .not-white))
+
+    go : Dec (f .whites ≡ 0) → fieldAt t a ≡ Failed at
+    go (yes z) = sym (field-fails t a (a + f .whites) whites (omega arith)) ∙ ap Failed (omega (arith, f .ends))
+    go (no z) =
+        let none : 0 ≡ digitsAt t (a + f .whites) =
+        span-only isDigit mostDigits t (a + f .whites) 0 (omega arith) (λ i h. absurd (omega arith))
+        (λ l.
+        let y : a + f .whites + 0 ≡ a + f .whites = omega arith in
+        rw y (ap isDigit here ∙ f .not-digit (omega arith))) in
+        sym (field-reads t a (a + f .whites) whites (λ e. z (omega arith)))
+        ∙ sym (number-fails t (a + f .whites) 0 none refl) ∙ ap Failed (sym (f .ends))
+
+-- what was read is read alike in an input that agrees up to its end, if no digit follows where none did
+pub read-on : (s t : List ℕ) (a b value : ℕ) → FieldRead s a b value → Agree b s t
+    → (isDigit (byteAt s b) ≡ false → isDigit (byteAt t b) ≡ false) → fieldAt t a ≡ Number value b
+unfolding field-agree
+read-on s t a b value f same ended =
+    field-is-read t a b value (field-agree s t a b value same (f .field)) (λ l. ended (f .ended l))
+
+-- so in one that agrees there too
+pub read-agree : (s t : List ℕ) (a b value : ℕ) → FieldRead s a b value → Agree (b + 1) s t
+    → fieldAt t a ≡ Number value b
+read-agree s t a b value f same =
+    read-on s t a b value f (λ i h. same i (omega arith)) (λ none. ap isDigit (same b (omega arith)) ∙ none)
+
+-- a field that begins inside the input fails inside it, or at its end
+pub failed-inside : (s : List ℕ) (a at : ℕ) → a ≤ length s → FieldFailed s a at → at ≤ length s
+failed-inside s a at h f = go (ℕ-discrete (f .whites) 0)
+  where
+    go : Dec (f .whites ≡ 0) → at ≤ length s
+    go (yes z) = omega (arith, f .ends)
+    go (no z) = omega (arith, f .ends, white-inside s (a + (f .whites - 1)) (f .white (f .whites - 1) (omega arith)))

@@ -1,0 +1,81 @@
+-- The ways out of the call: what reading a picture answers, by its header and what the tests said.
+use Prim.Native.Nat.{ℕ, _-_}
+use mathlib.Core.Bool.{true, false}
+use mathlib.Core.List.{List, [], _∷_}
+use mathlib.Core.Path.{_≡_, ap, _∙_}
+use lib.ListN.{length}
+use Rattle.refusal.specs.{
+  Row,
+  row,
+  Refusal,
+  BAD-HEADER,
+  BAD-SIZE,
+  BAD-DEPTH,
+  BAD-RASTER,
+  numberOf,
+  done,
+  firstOf,
+}
+use Rattle.refusal.proofs.Outcomes.{outcome-made, outcome-refused}
+use Rattle.headers.specs.{Header, headerOf, offsetIn}
+use Rattle.headers.specs.declared.Header.the-variants.{Read, Bad}
+use Rattle.p6.specs.Refusals.{badSize, badDepth, badRaster, widthIn, heightIn, startIn, pictureRows}
+use Rattle.p6.specs.Outcomes.{refusedPicture, madePicture, readPicture}
+use Rattle.p6.specs.declared.Picture.{Picture}
+
+-- the rows after BAD HEADER, of a header's numbers and the count of raster bytes
+abbrev numberRows : ℕ → ℕ → ℕ → ℕ → List Row
+numberRows w h d bytes =
+    row (badSize w h) BAD-SIZE ∷ row (badDepth d) BAD-DEPTH ∷ row (badRaster w h bytes) BAD-RASTER ∷ []
+
+module _ (s : List ℕ) where
+  -- a picture that is refused
+  refused-by : (n : Refusal) → firstOf (pictureRows s) ≡ numberOf n
+      → readPicture s ≡ refusedPicture (numberOf n) (offsetIn (headerOf s))
+  unfolding readPicture
+  refused-by n e =
+      outcome-refused {A = Picture} (pictureRows s) (madePicture s) (λ n. refusedPicture n (offsetIn (headerOf s))) n e
+
+  -- a header that fails is refused, with the place
+  pub picture-bad-header : (at : ℕ) → headerOf s ≡ Bad at → readPicture s ≡ refusedPicture (numberOf BAD-HEADER) at
+  picture-bad-header at e = refused-by BAD-HEADER (rw e) ∙ ap (λ h. refusedPicture (numberOf BAD-HEADER) (offsetIn h)) e
+
+  module _ (w h d n : ℕ) (e : headerOf s ≡ Read w h d n) where
+    -- past the header, the rows after it decide
+    past-header : firstOf (pictureRows s) ≡ firstOf (numberRows w h d (length s - n))
+    past-header = rw e
+
+    -- a picture with a header that is refused
+    read-refused : (r : Refusal) → firstOf (numberRows w h d (length s - n)) ≡ numberOf r
+        → readPicture s ≡ refusedPicture (numberOf r) 0
+    read-refused r f = refused-by r (past-header ∙ f) ∙ ap (λ x. refusedPicture (numberOf r) (offsetIn x)) e
+
+    -- a size out of range is refused
+    pub picture-bad-size : badSize w h ≡ true → readPicture s ≡ refusedPicture (numberOf BAD-SIZE) 0
+    picture-bad-size size = read-refused BAD-SIZE (rw size)
+
+    -- another depth than 255 is refused
+    pub picture-bad-depth : badSize w h ≡ false → badDepth d ≡ true
+        → readPicture s ≡ refusedPicture (numberOf BAD-DEPTH) 0
+    picture-bad-depth size depth = read-refused BAD-DEPTH (rw (size, depth))
+
+    -- a raster of another length is refused
+    pub picture-bad-raster : badSize w h ≡ false → badDepth d ≡ false → badRaster w h (length s - n) ≡ true
+        → readPicture s ≡ refusedPicture (numberOf BAD-RASTER) 0
+    picture-bad-raster size depth raster = read-refused BAD-RASTER (rw (size, depth, raster))
+
+    -- a picture that passes all tests is made
+    pub picture-made : badSize w h ≡ false → badDepth d ≡ false → badRaster w h (length s - n) ≡ false
+        → readPicture s ≡ record { refusal = done; offset = 0; width = w; height = h; start = n }
+    unfolding readPicture
+    picture-made size depth raster =
+        outcome-made {A = Picture} (pictureRows s) (madePicture s) (λ n. refusedPicture n (offsetIn (headerOf s)))
+        (past-header ∙ rw (size, depth, raster))
+        ∙ ap
+        (λ (x : Header). record {
+          refusal = done;
+          offset = 0;
+          width = widthIn x;
+          height = heightIn x;
+          start = startIn x;
+        }) e
