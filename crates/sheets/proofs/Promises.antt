@@ -4,23 +4,32 @@ use mathlib.Core.Bool.{true, false}
 use mathlib.Core.Path.{_≡_, refl}
 use mathlib.Core.List.{[], _∷_, _++_}
 use lib.ListN.{replicate}
-use Rattle.number.specs.{firstBest, howMany, sum, fill, firstThat, sq}
+use lib.Ieee.{div, ofInt}
+use Rattle.number.specs.{firstBest, howMany, sum, fill, fillFrom, firstThat, sq}
 use Rattle.refusal.specs.{done}
 use Rattle.colour.specs.{distance}
 use Rattle.table.specs.{addStrip}
-use Rattle.rounds.specs.{stateOf, coloursOf, leastOf, startsFrom, starts, over, after}
+use Rattle.rounds.specs.{stateOf, coloursOf, leastOf, meanOf, startsFrom, starts, over, after}
 use Rattle.lloyd.specs.{plainRound, shortRound, runOf}
+use Rattle.palette.specs.{paletteFromShades}
+use Rattle.figures.specs.{figure}
+use Rattle.figures.specs.declared.Mean.the-variants.{Value}
+use Rattle.mapping.specs.{mapStrip}
 use Rattle.sheets.specs.Drawing.{
   drawing,
   empty,
   keysA,
   weightsA,
+  paletteC,
+  whole,
   recordA,
   weightsF,
   recordF,
   keysG,
   weightsG,
   recordG,
+  keysH,
+  weightsH,
   members,
   totals,
 }
@@ -56,6 +65,26 @@ sheet-B = refl
 pub sheet-B-least : leastOf (coloursOf 2 keysA weightsA) ≡ 4 * 19200
 unfolding sum
 sheet-B-least = refl
+
+-- Sheet C: its palette is (3,0,0). A byte past it keeps its value.
+pub sheet-C-palette : paletteFromShades (40 ∷ 0 ∷ 0 ∷ []) (replicate 4 9)
+    ≡ record { answer = done; palette = 3 ∷ 0 ∷ 0 ∷ 9 ∷ [] }
+unfolding paletteFromShades howMany fill
+sheet-C-palette = refl
+
+-- The mapping error is 76, all of it red, and the figure 19. The index bytes before and behind the stretch keep theirs.
+pub sheet-C : mapStrip drawing paletteC (replicate 6 8) 1 ≡ record {
+  answer = record {
+    refusal = done;
+    error = 76;
+    errors = record { red = 76; green = 0; blue = 0 };
+    mean = Value (whole 19);
+    means = record { red = whole 19; green = whole 0; blue = whole 0 };
+  };
+  index = 8 ∷ 0 ∷ 0 ∷ 0 ∷ 0 ∷ 8 ∷ [];
+}
+unfolding mapStrip fillFrom fill firstBest sum distance sq figure div ofInt
+sheet-C = refl
 
 -- Sheet D: two shades start at (40,0,0) and (160,0,0).
 pub sheet-D-starts : starts (coloursOf 2 keysA weightsA) 2 ≡ 40 ∷ 0 ∷ 0 ∷ 160 ∷ 0 ∷ 0 ∷ []
@@ -124,6 +153,17 @@ pub sheet-G : shortRound recordG keysG weightsG
     }
 unfolding shortRound firstBest howMany sum fill distance sq
 sheet-G = refl
+
+-- Sheet H: the red mean of 17 pixels (10,0,0) and 15 of (11,0,0) is 168, in sixteenths.
+pub sheet-H : meanOf (coloursOf 2 keysH weightsH) ≡ record { r = 168; g = 0; b = 0 }
+unfolding sum
+sheet-H = refl
+
+-- And its palette byte is 11.
+pub sheet-H-palette : paletteFromShades (168 ∷ 0 ∷ 0 ∷ []) (replicate 3 9)
+    ≡ record { answer = done; palette = 11 ∷ 0 ∷ 0 ∷ [] }
+unfolding paletteFromShades howMany fill
+sheet-H-palette = refl
 
 -- Sheet I: with the shade (0,0,0) twice both colours of A's table join 0, and shade 1 stays.
 pub sheet-I : plainRound recordA keysA weightsA

@@ -1,6 +1,9 @@
 -- The drawing of sheets A to E: two by two pixels, (0,0,0) three times and (10,0,0); and the tables of the sheets.
 use Prim.Native.Nat.{ℕ}
 use mathlib.Core.List.{List, [], _∷_}
+use mathlib.Core.Bool.{false}
+use lib.IntN.{pos}
+use lib.Ieee.{Float, fin}
 use lib.ListN.{replicate}
 use Rattle.table.specs.{Record}
 
@@ -24,6 +27,14 @@ weightsA = 3 ∷ 1 ∷ []
 abbrev pub recordA : Record
 recordA = record { used = 2; pixels = 4 }
 
+-- sheet C's palette, that of sheet B's shade
+abbrev pub paletteC : List ℕ
+paletteC = 3 ∷ 0 ∷ 0 ∷ []
+
+-- a whole number as a binary64 number: n for an odd n, or 0
+abbrev pub whole : ℕ → Float
+whole n = fin false n (pos 0)
+
 -- sheet F's weights on the same colours
 abbrev pub weightsF : List ℕ
 weightsF = 1 ∷ 1 ∷ []
@@ -43,6 +54,14 @@ weightsG = 1 ∷ []
 -- its record
 abbrev pub recordG : Record
 recordG = record { used = 1; pixels = 1 }
+
+-- sheet H's table, 17 pixels (10,0,0) and 15 of (11,0,0): its keys
+abbrev pub keysH : List ℕ
+keysH = 655360 ∷ 720896 ∷ []
+
+-- its weights
+abbrev pub weightsH : List ℕ
+weightsH = 17 ∷ 15 ∷ []
 
 -- members as they are lent: places past those that a call writes keep these values
 abbrev pub members : List ℕ
