@@ -105,7 +105,8 @@ pub fn map_strip(strip: &[u8], palette: &[u8], index: &mut [u8], first: usize) -
     if room < pixels {
         return refused(SHORT_ROOM);
     }
-    if room - pixels < first {
+    let last = room - pixels;
+    if last < first {
         return refused(SHORT_ROOM);
     }
     let errors = map_stretch(strip, palette, index, first, pixels);

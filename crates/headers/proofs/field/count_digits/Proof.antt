@@ -1,5 +1,5 @@
 -- `count_digits` meets its contract: the loop counts digits only.
-use Prim.Native.Nat.{_-_}
+use Prim.Native.Nat.{_+_, _-_}
 use mathlib.Core.Path.{sym, _∙_}
 use native.Mathlib.Omega.{arith}
 use denote.Ref.{now}
@@ -14,7 +14,7 @@ abbrev Inv-loop : tie.InvT-loop
 Inv-loop s at n left i₀ i = Counted s at i
 
 abbrev μ-loop : tie.MeasureT-loop
-μ-loop s at n left i₀ i = mostDigits - i
+μ-loop s at n left i₀ i = mostDigits + 1 - i
 
 returns : tie.Need-returns Inv-loop μ-loop
 returns c =

@@ -45,7 +45,7 @@ colours c = sym (c .before .bad-palette .ensures) ∙ c .if2 .left
 
 -- past the third
 few : (c : tie.Else3) → pixelCount (s (c .before .before .before .before)) ≤ mostPixels
-few c = c .if3 .left
+few c = omega arith
 
 refused-requires : tie.Need-refused-requires
 refused-requires c κs = search needs

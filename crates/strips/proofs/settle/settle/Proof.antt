@@ -38,7 +38,7 @@ first c = c .before .before .before
 -- the shade with the number found is in s
 inside : (c : tie.In-loop Inv-loop μ-loop)
     → 3 * numberIn (now (st (c .before) .args .best)) (c .before .loop .i) + 2 < length (now (st (c .before) .args .s))
-inside c = st (c .before) .pre .inside (c .before .loop .i) (c .loop-test .taken)
+inside c = st (c .before) .pre .inside (c .before .loop .i) (omega arith)
 
 loop-holds : tie.Need-loop-holds Inv-loop μ-loop
 loop-holds c =
@@ -152,14 +152,14 @@ loop-again : tie.Need-loop-again Inv-loop μ-loop
 loop-again c =
     let second = c .before .before .before in
     let t = turn (first second) in
-    settled-step (t .before .loop .inv) (t .loop-test .taken) (first second .miss .ensures .0)
+    settled-step (t .before .loop .inv) (omega arith) (first second .miss .ensures .0)
     (second .miss2 .ensures .0) (c .miss3 .ensures .0)
 
 same-length : tie.Need-same-length Inv-loop μ-loop
 same-length c = settled-long (c .before .loop .inv)
 
 returns : tie.Need-returns Inv-loop μ-loop
-returns c = settled-done (c .before .loop .inv) (c .loop-test .left)
+returns c = settled-done (c .before .loop .inv) (omega arith)
 
 pub settle-spec : {M : Type 1} → statement M
 settle-spec =
