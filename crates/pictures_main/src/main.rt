@@ -1,0 +1,98 @@
+// Pictures that are run: the raster goes uncopied from the reader to the table and to the mapper.
+// Held to the file stdout beside src/. A line of a picture is refusal, offset, width, height, the
+// raster's first place and its length; then come the lines of the table and of the mapping.
+use libc::STDOUT_FILENO;
+use mapping::Mapped;
+use p6::Picture;
+use table::Added;
+use table::Record;
+
+// One number and a blank.
+fn field(n: u64) {
+    io::print_decimal(STDOUT_FILENO, n);
+    io::write_all(STDOUT_FILENO, b" ");
+}
+
+// A key or a weight.
+fn place(n: u32) {
+    field(n as u64);
+}
+
+// An index byte.
+fn byte(n: u8) {
+    field(n as u64);
+}
+
+// The end of a line.
+fn end_line() {
+    io::write_all(STDOUT_FILENO, b"\n");
+}
+
+// The line of a picture.
+fn show_picture(input: &[u8]) {
+    let p = p6::read_picture(input);
+    field(p.refusal as u64);
+    field(p.offset as u64);
+    field(p.width as u64);
+    field(p.height as u64);
+    field(p.start as u64);
+    field(p6::raster_of(input).len() as u64);
+    end_line();
+}
+
+// The line of a table: refusal, pixels taken, used entries, and its keys and weights.
+fn show_table(input: &[u8]) {
+    let mut keys = [0u32; 2];
+    let mut weights = [0u32; 2];
+    let empty = Record { used: 0, pixels: 0 };
+    let a = table::add_strip(empty, &mut keys, &mut weights, p6::raster_of(input));
+    let rec = a.rec;
+    field(a.refusal as u64);
+    field(a.taken as u64);
+    field(rec.used as u64);
+    place(keys[0]);
+    place(keys[1]);
+    place(weights[0]);
+    place(weights[1]);
+    end_line();
+}
+
+// The line of a mapping to the palette (3,0,0), (9,0,0): refusal, error, and the index bytes, of
+// which the first and the last are not in the stretch.
+fn show_mapping(input: &[u8]) {
+    let palette = [3u8, 0, 0, 9, 0, 0];
+    let mut index = [7u8; 6];
+    let m = mapping::map_strip(p6::raster_of(input), &palette, &mut index, 1);
+    field(m.refusal as u64);
+    field(m.error);
+    byte(index[0]);
+    byte(index[1]);
+    byte(index[2]);
+    byte(index[3]);
+    byte(index[4]);
+    byte(index[5]);
+    end_line();
+}
+
+// Inputs that end early, go wrong, or have a size, a depth or a raster that does not pass; the last
+// one passes.
+fn small_pictures() {
+    show_picture(b"");
+    show_picture(b"P6 0 1 255");
+    show_picture(b"P6 0 1 255 ");
+    show_picture(b"P6 000002 1 255 123456");
+    show_picture(b"P6 16384 1025 255 ");
+    show_picture(b"P6 2 1 254 123456");
+    show_picture(b"P6 2 1 255 12345");
+    show_picture(b"P6 2 1 255 1234567");
+    show_picture(b"P6 2 1 255  123456");
+    show_picture(b"P6 2 1 255 123456");
+}
+
+fn main() {
+    small_pictures();
+    let drawing = b"P6\n2 2\n255\n\x00\x00\x00\x00\x00\x00\x00\x00\x00\x0a\x00\x00";
+    show_picture(drawing);
+    show_table(drawing);
+    show_mapping(drawing);
+}
