@@ -1,18 +1,21 @@
 -- Readings and headers by their cases: which facts give which case, and that number and values tell the case.
 use Prim.Native.Nat.{ℕ}
-use mathlib.Core.List.{List}
+use mathlib.Core.List.{List, [], _∷_}
 use mathlib.Core.Logic.{_↔_}
 use mathlib.Core.Path.{_≡_, refl, ap, subst}
 use native.Mathlib.Omega.{arith}
 use lib.ListN.{getD}
-use Rattle.headers.specs.Numbers.{fieldAt, readingNumber, readingValues}
-use Rattle.headers.specs.Headers.{headerNumber, headerValues}
+use Rattle.refusal.specs.{numberOf, done, BAD-HEADER}
+use Rattle.headers.specs.Numbers.{fieldAt, readingNumber, readingValues, ReadingSays}
+use Rattle.headers.specs.Headers.{headerOf, headerNumber, headerValues, HeaderSays}
 use Rattle.headers.specs.declared.Reading.{Reading}
 use Rattle.headers.specs.declared.Reading.the-variants.{Number, Failed}
 use Rattle.headers.specs.declared.Header.{Header}
 use Rattle.headers.specs.declared.Header.the-variants.{Read, Bad}
-use Rattle.headers.specs.Standing.{FieldFailed, FieldRead}
+use Rattle.headers.specs.Standing.{FieldFailed, FieldRead, HeaderIn, FirstWrong}
 use Rattle.headers.proofs.Fields.{Told, read, failed, field-told, read-agree, failed-agree}
+use Rattle.headers.proofs.Wholes.{header-reads-exactly}
+use Rattle.headers.proofs.Wrongs.{header-fails-exactly}
 
 -- ---- what a reading says of its input
 
@@ -61,3 +64,37 @@ header-only (Read w h d n) (Read w′ h′ d′ n′) e f =
 header-only (Read w h d n) (Bad b) e f = absurd (omega arith)
 header-only (Bad a) (Read w h d n) e f = absurd (omega arith)
 header-only (Bad a) (Bad b) e f = ap Bad (at-place _ _ 0 f)
+
+-- ---- so what is read and what fails is told by what is said
+
+-- a reading says a number and values exactly where it is the reading of these
+says-reading : (q r : Reading) → ReadingSays q (readingNumber r) (readingValues r) ↔ (q ≡ r)
+says-reading q r = (λ s. reading-only q r (s .0) (s .1), λ e. (ap readingNumber e, ap readingValues e))
+
+-- and so a header
+says-header : (g h : Header) → HeaderSays g (headerNumber h) (headerValues h) ↔ (g ≡ h)
+says-header g h = (λ s. header-only g h (s .0) (s .1), λ e. (ap headerNumber e, ap headerValues e))
+
+-- two steps are one
+through : {A B C : Type 0} → A ↔ B → B ↔ C → A ↔ C
+through f g = (λ a. g .0 (f .0 a), λ c. f .1 (g .1 c))
+
+module _ (s : List ℕ) (a : ℕ) where
+  -- a field says "read" exactly where it stands
+  pub field-says-read : (b value : ℕ)
+      → ReadingSays (fieldAt s a) done (value ∷ b ∷ []) ↔ FieldRead s a b value
+  field-says-read b value = through (says-reading (fieldAt s a) (Number value b)) (field-reads-exactly s a b value)
+
+  -- and "failed" exactly where it fails
+  pub field-says-failed : (at : ℕ) → ReadingSays (fieldAt s a) (numberOf BAD-HEADER) (at ∷ []) ↔ FieldFailed s a at
+  field-says-failed at = through (says-reading (fieldAt s a) (Failed at)) (field-fails-exactly s a at)
+
+module _ (s : List ℕ) where
+  -- a header says "read" exactly where it stands
+  pub header-says-read : (w h d n : ℕ)
+      → HeaderSays (headerOf s) done (w ∷ h ∷ d ∷ n ∷ []) ↔ HeaderIn s w h d n
+  header-says-read w h d n = through (says-header (headerOf s) (Read w h d n)) (header-reads-exactly s w h d n)
+
+  -- and "failed" exactly at the first wrong byte
+  pub header-says-failed : (at : ℕ) → HeaderSays (headerOf s) (numberOf BAD-HEADER) (at ∷ []) ↔ FirstWrong s at
+  header-says-failed at = through (says-header (headerOf s) (Bad at)) (header-fails-exactly s at)

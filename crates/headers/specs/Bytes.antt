@@ -9,13 +9,37 @@ use lib.ListN.{getD}
 abbrev pub byteAt : List ℕ → ℕ → ℕ
 byteAt s i = getD s i 0
 
+-- the blank
+abbrev pub blank : ℕ
+blank = 32
+
+-- TAB
+abbrev pub tab : ℕ
+tab = 9
+
+-- CR
+abbrev pub carriageReturn : ℕ
+carriageReturn = 13
+
+-- LF
+abbrev pub lineFeed : ℕ
+lineFeed = 10
+
+-- the digit 0
+abbrev pub digitZero : ℕ
+digitZero = 48
+
+-- the digit 9
+abbrev pub digitNine : ℕ
+digitNine = 57
+
 -- white bytes: blank, TAB, CR, LF
 unfoldable pub isWhite : ℕ → Bool
-isWhite b = eqb b 32 || (eqb b 9 || (eqb b 13 || eqb b 10))
+isWhite b = eqb b blank || (eqb b tab || (eqb b carriageReturn || eqb b lineFeed))
 
--- decimal digits
+-- decimal digits: 0 to 9, whose bytes follow one another
 unfoldable pub isDigit : ℕ → Bool
-isDigit b = leb 48 b && leb b 57
+isDigit b = leb digitZero b && leb b digitNine
 
 -- the first byte of "P6"
 abbrev pub letterP : ℕ

@@ -2,6 +2,7 @@
 use Prim.Native.Nat.{ℕ, _+_}
 use mathlib.Core.Bool.{cond}
 use mathlib.Core.List.{List, [], _∷_}
+use mathlib.Core.Path.{_≡_}
 use lib.Dec.{eqb}
 use Rattle.refusal.specs.{numberOf, done, BAD-HEADER}
 use Rattle.headers.specs.Bytes.{byteAt, isWhite, letterP, figureSix}
@@ -43,6 +44,10 @@ headerNumber (Bad at) = numberOf BAD-HEADER
 abbrev pub headerValues : Header → List ℕ
 headerValues (Read width height depth start) = width ∷ height ∷ depth ∷ start ∷ []
 headerValues (Bad at) = at ∷ []
+
+-- it says this number and these values
+abbrev pub HeaderSays : Header → ℕ → List ℕ → Type 0
+HeaderSays h number values = (headerNumber h ≡ number) × (headerValues h ≡ values)
 
 -- the place it failed; 0 where it did not
 abbrev pub offsetIn : Header → ℕ

@@ -1,5 +1,6 @@
 -- Glossary.
 --   byteAt s i           the byte at a place, 0 past the end
+--   blank, tab, carriageReturn, lineFeed, digitZero, digitNine   bytes by name
 --   isWhite, isDigit     the kinds of bytes
 --   letterP, figureSix   the bytes of "P6"
 --   mostDigits           5
@@ -10,12 +11,12 @@
 --   Reading              Number value next, or Failed at
 --   numberAt s at        the reading of the number from `at` on
 --   fieldAt s at         that of the white bytes and the number after them
---   readingNumber, readingValues   what a reading says in document 01's terms
+--   readingNumber, readingValues, ReadingSays   what a reading says in document 01's terms
 --   placeIn r            where a reading ended or failed
 --   Header               Read width height depth start, or Bad at
 --   andThen, lastWhite, fieldsOf   how a header goes on after a number, and ends
 --   headerOf s           the header at the front of an input
---   headerNumber, headerValues     what it says in document 01's terms
+--   headerNumber, headerValues, HeaderSays      what it says in document 01's terms
 --   offsetIn h           the place it failed, 0 where it did not
 --   Field                white bytes and a number, from one place to another
 --   DigitsEnd            a field's digits end, by their count or by a byte that is none
@@ -31,7 +32,19 @@ pub mod Headers
 pub mod Standing
 pub use declared.Reading.{Reading}
 pub use declared.Header.{Header}
-unfoldable pub use Bytes.{byteAt, isWhite, isDigit, letterP, figureSix}
+unfoldable pub use Bytes.{
+  byteAt,
+  blank,
+  tab,
+  carriageReturn,
+  lineFeed,
+  digitZero,
+  digitNine,
+  isWhite,
+  isDigit,
+  letterP,
+  figureSix,
+}
 unfoldable pub use Numbers.{
   mostDigits,
   spanAt,
@@ -44,6 +57,7 @@ unfoldable pub use Numbers.{
   fieldAt,
   readingNumber,
   readingValues,
+  ReadingSays,
   placeIn,
 }
 unfoldable pub use Headers.{
@@ -53,6 +67,7 @@ unfoldable pub use Headers.{
   headerOf,
   headerNumber,
   headerValues,
+  HeaderSays,
   offsetIn,
 }
 unfoldable pub use Standing.{DigitsEnd}

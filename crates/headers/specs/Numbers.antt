@@ -7,7 +7,7 @@ use lib.Dec.{eqb}
 use lib.ListN.{length}
 use Rattle.number.specs.{firstThat}
 use Rattle.refusal.specs.{numberOf, done, BAD-HEADER}
-use Rattle.headers.specs.Bytes.{byteAt, isWhite, isDigit}
+use Rattle.headers.specs.Bytes.{byteAt, digitZero, isWhite, isDigit}
 use Rattle.headers.specs.declared.Reading.{Reading}
 use Rattle.headers.specs.declared.Reading.the-variants.{Number, Failed}
 
@@ -38,7 +38,7 @@ Digits s at n = AllOf isDigit s at n
 -- the value of n digits, of which f gives the bytes
 unfoldable pub decimal : ℕ → (ℕ → ℕ) → ℕ
 decimal zero f = 0
-decimal (suc n) f = 10 * decimal n f + (f n - 48)
+decimal (suc n) f = 10 * decimal n f + (f n - digitZero)
 
 -- the number from `at` on, and where it ended; with no digit there it fails at `at`
 unfoldable pub numberAt : List ℕ → ℕ → Reading
@@ -61,6 +61,10 @@ readingNumber (Failed at) = numberOf BAD-HEADER
 abbrev pub readingValues : Reading → List ℕ
 readingValues (Number value next) = value ∷ next ∷ []
 readingValues (Failed at) = at ∷ []
+
+-- it says this number and these values
+abbrev pub ReadingSays : Reading → ℕ → List ℕ → Type 0
+ReadingSays r number values = (readingNumber r ≡ number) × (readingValues r ≡ values)
 
 -- where it ended or failed
 abbrev pub placeIn : Reading → ℕ

@@ -16,24 +16,24 @@ pub fn byte_at(s: &[u8], at: usize) -> u8
 pub fn is_white(b: u8) -> bool
     ensures { λ r. ⌜ r ≡ isWhite b ⌝ }
 {
-    if b == 32 {
+    if b == b' ' {
         return true;
     }
-    if b == 9 {
+    if b == b'\t' {
         return true;
     }
-    if b == 13 {
+    if b == b'\r' {
         return true;
     }
-    b == 10
+    b == b'\n'
 }
 
 // Whether a byte is a decimal digit.
 pub fn is_digit(b: u8) -> bool
     ensures { λ r. ⌜ r ≡ isDigit b ⌝ }
 {
-    if b < 48 {
+    if b < b'0' {
         return false;
     }
-    b <= 57
+    b <= b'9'
 }

@@ -61,7 +61,7 @@ fn decimal_of(s: &[u8], at: usize, n: usize) -> u32
     let mut value: u32 = 0;
     let mut i = 0;
     while i < n {
-        value = 10 * value + (s[at + i] - 48) as u32;
+        value = 10 * value + (s[at + i] - b'0') as u32;
         i += 1;
     }
     value

@@ -13,10 +13,10 @@ use super::field::place_in;
 pub fn read_header(s: &[u8]) -> Header
     ensures { λ r. ⌜ r ≡ headerOf (now (s .entry)) ⌝ }
 {
-    if byte_at(s, 0) != 80 {
+    if byte_at(s, 0) != b'P' {
         return Header::Bad { at: 0 };
     }
-    if byte_at(s, 1) != 54 {
+    if byte_at(s, 1) != b'6' {
         return Header::Bad { at: 1 };
     }
     let w = field(s, 2);

@@ -1,15 +1,25 @@
 -- BAD HEADER and its offset, from what is shown of headers.
 use Prim.Native.Nat.{ℕ}
 use mathlib.Core.Bool.{true}
-use mathlib.Core.List.{List}
+use mathlib.Core.List.{List, [], _∷_}
 use mathlib.Core.Logic.{inl, inr}
 use mathlib.Core.Path.{_≡_, refl, sym, ap}
 use native.Mathlib.Omega.{arith}
 use Rattle.number.proofs.Cases.{never}
 use Rattle.refusal.specs.{numberOf, done, Given, BAD-HEADER}
-use Rattle.headers.specs.{Header, headerOf, offsetIn, HeaderIn, FirstWrong}
+use Rattle.headers.specs.{
+  Header,
+  headerOf,
+  headerNumber,
+  headerValues,
+  HeaderSays,
+  offsetIn,
+  HeaderIn,
+  FirstWrong,
+}
 use Rattle.headers.specs.declared.Header.the-variants.{Read, Bad}
-use Rattle.headers.proofs.Promises.{header-reads-exactly, header-fails-exactly}
+use Rattle.headers.proofs.Wholes.{header-reads-exactly}
+use Rattle.headers.proofs.Wrongs.{header-fails-exactly}
 use Rattle.p6.specs.Refusals.{theDepth, isBad, pictureRows}
 use Rattle.p6.specs.Outcomes.{readPicture}
 use Rattle.p6.proofs.Meaning.{picture-refused-exactly, picture-refused-answers, accepted-header}
@@ -30,7 +40,8 @@ bad-header-first s (inr (f, inr (g, inr (h, inl (t, e))))) = absurd (let z = ap 
 bad-header-first s (inr (f, inr (g, inr (h, inr (i, none))))) = absurd none
 
 -- BAD HEADER carries the offset of the first byte that cannot stand there, or of the end
-pub bad-header-offset : (s : List ℕ) → readPicture s .refusal ≡ numberOf BAD-HEADER → FirstWrong s (readPicture s .offset)
+pub bad-header-offset : (s : List ℕ) → readPicture s .refusal ≡ numberOf BAD-HEADER
+    → FirstWrong s (readPicture s .offset)
 bad-header-offset s e =
     let bad : isBad (headerOf s) ≡ true = bad-header-first s (picture-refused-exactly s BAD-HEADER .0 e) in
     let at : headerOf s ≡ Bad (offsetIn (headerOf s)) = failed-at (headerOf s) bad in
@@ -47,3 +58,9 @@ bad-header-given s at f =
 pub accepted-begins : (s : List ℕ) → readPicture s .refusal ≡ done
     → HeaderIn s (readPicture s .width) (readPicture s .height) theDepth (readPicture s .start)
 accepted-begins s ok = header-reads-exactly s _ _ _ _ .0 (accepted-header s ok)
+
+-- and the header says these numbers
+pub accepted-says : (s : List ℕ) → readPicture s .refusal ≡ done → HeaderSays (headerOf s) done
+    (readPicture s .width ∷ readPicture s .height ∷ theDepth ∷ readPicture s .start ∷ [])
+accepted-says s ok =
+    (ap headerNumber (accepted-header s ok), ap headerValues (accepted-header s ok))

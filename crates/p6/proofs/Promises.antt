@@ -2,13 +2,13 @@
 -- `readPicture s` and `rasterOf s` are what the contracts of `read_picture` and `raster_of` say of every input.
 use Prim.Native.Nat.{ℕ, _*_, _≤_}
 use mathlib.Core.Bool.{false}
-use mathlib.Core.List.{List, []}
+use mathlib.Core.List.{List, [], _∷_}
 use mathlib.Core.Logic.{_↔_}
 use mathlib.Core.Path.{_≡_, sym, _∙_}
 use lib.ListN.{length, drop}
 use Rattle.refusal.specs.{Refusal, numberOf, done, Given, NoneHolds, BAD-HEADER}
 use Rattle.colour.specs.{mostPixels}
-use Rattle.headers.specs.{headerOf, offsetIn, HeaderIn, FirstWrong}
+use Rattle.headers.specs.{headerOf, HeaderSays, offsetIn, HeaderIn, FirstWrong}
 use Rattle.p6.specs.Refusals.{mostSide, theDepth, badHeader, badSize, badDepth, badRaster, pictureRows}
 use Rattle.p6.specs.Outcomes.{refusedPicture, readPicture, rasterOf}
 use Rattle.p6.specs.declared.Picture.{Picture}
@@ -75,6 +75,11 @@ offset-zero = meaning.offset-zero
 pub accepted-begins : (s : List ℕ) → readPicture s .refusal ≡ done
     → HeaderIn s (readPicture s .width) (readPicture s .height) theDepth (readPicture s .start)
 accepted-begins = headers.accepted-begins
+
+-- Its header says 0, these sides, 255 and the raster's first place.
+pub accepted-says : (s : List ℕ) → readPicture s .refusal ≡ done → HeaderSays (headerOf s) done
+    (readPicture s .width ∷ readPicture s .height ∷ theDepth ∷ readPicture s .start ∷ [])
+accepted-says = headers.accepted-says
 
 -- Its raster is that stretch of the input, up to its end.
 pub raster-is-stretch : (s : List ℕ) → readPicture s .refusal ≡ done → rasterOf s ≡ drop (readPicture s .start) s

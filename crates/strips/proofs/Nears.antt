@@ -1,5 +1,5 @@
 -- The entry that a pixel gets: it is one of the palette, no entry is nearer, and every lower number is farther.
-use Prim.Native.Nat.{ℕ, _≤_, _<_}
+use Prim.Native.Nat.{ℕ, _<_}
 use mathlib.Core.List.{List}
 use mathlib.Core.Path.{_≡_, refl}
 use native.Mathlib.Omega.{arith}

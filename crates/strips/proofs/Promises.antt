@@ -3,7 +3,7 @@ use Prim.Native.Nat.{ℕ, _+_, _*_, _≤_, _<_}
 use mathlib.Core.List.{List, _++_}
 use mathlib.Core.Path.{_≡_}
 use lib.ListN.{length}
-use Rattle.colour.specs.{Bytes}
+use Rattle.colour.specs.{Bytes, mostLevel}
 use Rattle.strips.specs.Meaning.{entryCount, entryFor, NearestEntry, errorsOf, errorOf, plusErrors}
 use Rattle.strips.proofs.Nears as nears
 use Rattle.strips.proofs.Totals as totals
@@ -25,8 +25,8 @@ pub channels-add : (p s : List ℕ) (n : ℕ)
     → errorsOf p s n .red + errorsOf p s n .green + errorsOf p s n .blue ≡ errorOf p s n
 channels-add = totals.channels-add
 
--- The error of n pixels is at most 195,075 for each.
-pub error-most : (p s : List ℕ) (n : ℕ) → Bytes p → Bytes s → errorOf p s n ≤ 195075 * n
+-- The error of n pixels is at most three squares of 255 for each.
+pub error-most : (p s : List ℕ) (n : ℕ) → Bytes p → Bytes s → errorOf p s n ≤ 3 * (mostLevel * mostLevel) * n
 error-most = totals.error-most
 
 -- ---- two strips joined, the first of n pixels

@@ -76,7 +76,7 @@ module _ (palette s t : List ℕ) (n : ℕ) (long : length s ≡ 3 * n) where
 
 module _ (palette strip : List ℕ) (n : ℕ) (colours : Bytes palette) (bytes : Bytes strip) where
   -- the error of n pixels is at most n times three squares of 255
-  pub error-most : errorOf palette strip n ≤ 195075 * n
+  pub error-most : errorOf palette strip n ≤ 3 * (mostLevel * mostLevel) * n
   error-most =
       omega (
         arith,
@@ -85,7 +85,7 @@ module _ (palette strip : List ℕ) (n : ℕ) (colours : Bytes palette) (bytes :
       )
 
   -- on one channel it is at most n such squares
-  channel-most : (e : ℕ) → missOn e (pixelAt strip) palette (entryFor palette strip) n ≤ 65025 * n
+  channel-most : (e : ℕ) → missOn e (pixelAt strip) palette (entryFor palette strip) n ≤ mostLevel * mostLevel * n
   channel-most e =
       omega (
         arith,
@@ -94,6 +94,6 @@ module _ (palette strip : List ℕ) (n : ℕ) (colours : Bytes palette) (bytes :
       )
 
   -- and so on each
-  pub errors-most : (errorsOf palette strip n .red ≤ 65025 * n) × (errorsOf palette strip n .green ≤ 65025 * n)
-      × (errorsOf palette strip n .blue ≤ 65025 * n)
+  pub errors-most : (errorsOf palette strip n .red ≤ mostLevel * mostLevel * n) × (errorsOf palette strip n .green ≤ mostLevel * mostLevel * n)
+      × (errorsOf palette strip n .blue ≤ mostLevel * mostLevel * n)
   errors-most = (channel-most 0, channel-most 1, channel-most 2)
