@@ -68,7 +68,7 @@ fn decimal_of(s: &[u8], at: usize, n: usize) -> u32
 }
 
 // The number from `at` on: 1 to 5 digits.
-fn number(s: &[u8], at: usize) -> Reading
+pub fn number(s: &[u8], at: usize) -> Reading
     ensures { λ r. ⌜ r ≡ numberAt (now (s .entry)) at ⌝ }
 {
     let n = count_digits(s, at);

@@ -4,6 +4,8 @@
 // Calls; none requires anything of its caller
 //   read_header   the header at the front of an input, or where it fails   whole.rt
 //   bad_at        where a header failed
+//   number        1 to 5 digits at a place                                 field.rt
+//   byte_at       the byte at a place, 0 past the end                      byte.rt
 // Its parts: a byte and its kinds in byte.rt, white bytes and numbers in field.rt.
 //
 // Read next: specs/Lib.antt (what the words mean), proofs/Promises.antt (what is shown).
@@ -12,6 +14,8 @@ mod byte;
 mod field;
 mod whole;
 
+pub use byte::byte_at;
+pub use field::number;
 pub use whole::bad_at;
 pub use whole::read_header;
 

@@ -4,7 +4,7 @@ use mathlib.Core.Bool.{true, false}
 use mathlib.Core.List.{List}
 use mathlib.Core.Path.{_≡_, sym, ap, _∙_}
 use native.Mathlib.Omega.{arith}
-use lib.ListN.{getD}
+use lib.ListN.{getD, length}
 use lib.Dec.{eqb}
 use Rattle.number.specs.{sum, sumOf}
 use Rattle.number.proofs.Fills.{fill-kept}
@@ -201,6 +201,10 @@ module _ {rec : Record} {ks ws : List ℕ} {k limit : ℕ} {ms ts : List ℕ} {r
   -- the shades are on the grid
   pub shades-low : OnGrid (r .shades)
   shades-low = rw answer-made (m.shades-low C k (limitOf limit) a ts fair fit (able .limit-some) (able .totals-room))
+
+  -- there are so many of them
+  pub shades-room : 3 * k ≤ length (r .shades)
+  shades-room = rw answer-made (m.shades-room C k (limitOf limit) a ts fair fit (able .limit-some) (able .totals-room))
 
   -- and past the count stand zeros
   pub shades-past : (i : ℕ) → 3 * k ≤ i → getD (r .shades) i 0 ≡ 0

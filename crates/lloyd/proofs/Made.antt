@@ -136,6 +136,10 @@ module _ (C : Colours) (k limit : ℕ) (a : State) (ts : List ℕ) (fair : Fair 
   pub shades-low : OnGrid (madeRun C k limit a ts .answer .shades)
   shades-low = fit-at rounds .shades .low
 
+  -- and there are so many of them
+  pub shades-room : 3 * k ≤ length (madeRun C k limit a ts .answer .shades)
+  shades-room = fit-at rounds .shades .room
+
   -- settled is said exactly when the last round moved no shade
   pub settled-is : madeRun C k limit a ts .answer .settled
       ≡ eqb (movedOf toMean C k (after toMean C k a (roundsMade limit (quiet toMean C k a) - 1))) 0

@@ -315,6 +315,10 @@ module _ {rec : Record} {ks ws : List ℕ} {k limit : ℕ} {ms ts : List ℕ} {r
   pub shades-low : OnGrid (r .shades)
   shades-low = accepted.shades-low h
 
+  -- There are three for each shade asked for.
+  pub shades-room : 3 * k ≤ length (r .shades)
+  shades-room = accepted.shades-room h
+
   -- Answered shades past the count are zeros.
   pub shades-past : (i : ℕ) → 3 * k ≤ i → getD (r .shades) i 0 ≡ 0
   shades-past = accepted.shades-past h

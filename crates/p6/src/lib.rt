@@ -6,6 +6,9 @@
 //                  15 BAD RASTER, in this order.
 //   raster_of      the raster as that stretch of the input, uncopied; an empty one for a picture
 //                  that read_picture refuses.
+// For the crates above, with what is required above each
+//   bad_size       the test of 13 BAD SIZE                      test.rt
+//   area           the pixels of two sides
 // The header is read by the crate headers; the tests stand in test.rt.
 //
 // Read next: specs/Lib.antt (what the words mean), proofs/Promises.antt (what is shown).
@@ -15,6 +18,8 @@ mod test;
 
 pub use call::raster_of;
 pub use call::read_picture;
+pub use test::area;
+pub use test::bad_size;
 
 // The longest side of a picture.
 pub const MOST_SIDE: u32 = 16384;

@@ -15,7 +15,7 @@ fn bad_side(side: u32) -> bool
 }
 
 // The pixels of two sides, which are required to be in range.
-fn area(width: u32, height: u32) -> u64
+pub fn area(width: u32, height: u32) -> u64
     requires { ⌜ (width ≤ mostSide) × (height ≤ mostSide) ⌝ }
     ensures { λ r. ⌜ r ≡ width * height ⌝ }
 {

@@ -1,2 +1,3 @@
--- The sheets, each theorem in full.
+-- The table of sheets: the theorems as promised, and their proofs.
+pub mod Table
 pub mod Promises

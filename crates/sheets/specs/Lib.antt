@@ -8,7 +8,19 @@
 --   keysG, weightsG, recordG   sheet G's table
 --   keysH, weightsH            sheet H's table
 --   members, totals   what is lent to rounds and runs
+--   bit b             a test as 1 or 0
+--   addNumbers, roundNumbers, runNumbers, paletteNumbers, mapNumbers   the numbers of an outcome, in rows
+--   figureNumbers, meanNumbers   those of a figure and of a mean square error
+--   Example           computed, written: what the definitions give, and what document 01 writes down
+--   sameNumbers, sameRows   two rows, and two lists of rows, are the same
+--   allHold table     every example comes out as written
+--   entryAt table i   entry i of a table, counted from 0
+--   sheetA to sheetI  the sheets, each as an example
+--   sheets            the table of all nine
 pub mod Drawing
+pub mod Numbers
+pub mod Examples
+pub mod Table
 unfoldable pub use Drawing.{
   drawing,
   empty,
@@ -27,3 +39,16 @@ unfoldable pub use Drawing.{
   members,
   totals,
 }
+unfoldable pub use Numbers.{
+  bit,
+  addNumbers,
+  roundNumbers,
+  runNumbers,
+  paletteNumbers,
+  figureNumbers,
+  meanNumbers,
+  mapNumbers,
+}
+pub use Examples.{Example}
+unfoldable pub use Examples.{sameNumbers, sameRows, allHold, entryAt}
+unfoldable pub use Table.{sheetA, sheetB, sheetC, sheetD, sheetE, sheetF, sheetG, sheetH, sheetI, sheets}

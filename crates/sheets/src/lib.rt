@@ -1,4 +1,4 @@
-// The sheets worked by hand in document 01, each proved to come out as written there.
+// The sheets worked by hand in document 01, as one table of examples that is proved to come out.
 // Definitions and theorems alone; there is no function here.
 //
-// Read next: specs/Lib.antt (the sheets), proofs/Promises.antt (that they come out).
+// Read next: specs/Lib.antt (the words and the table), proofs/Promises.antt (that it comes out).

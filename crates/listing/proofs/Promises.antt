@@ -1,0 +1,60 @@
+-- What is shown of listings, each theorem in full; its body names the proof.
+-- `listingText s` is the text of the input s (specs/Listings.antt): the contract of `list_shades` says that its answer
+-- is this text in front of zeros, and its length, on every input.
+use Prim.Native.Nat.{ℕ, _≤_}
+use mathlib.Core.List.{List}
+use mathlib.Core.Logic.{_⊎_}
+use mathlib.Core.Path.{_≡_, sym, _∙_}
+use lib.ListN.{length}
+use Rattle.refusal.specs.{Refusal, numberOf, done, firstOf, Given, NoneHolds, BAD-COUNT, FEW-COLOURS}
+use Rattle.colour.specs.{Bytes}
+use Rattle.p6.specs.{rasterOf}
+use Rattle.texts.specs.{linesOf}
+use Rattle.listing.specs.Refusals.{countIn, pictureIn, smallRows, inputRows}
+use Rattle.listing.specs.Texts.{mostText, refusedText}
+use Rattle.listing.specs.Listings.{tableOf, listingLines, pictureText, listingText, listingOf}
+use Rattle.listing.specs.declared.Listing.{Listing}
+use Rattle.listing.proofs.Ways as ways
+use Rattle.listing.proofs.Accepted as accepted
+use Rattle.listing.proofs.Lengths as lengths
+
+-- ---- the contract leaves one answer
+
+-- Whatever meets the contract of `list_shades` on an input is one answer.
+pub listing-only : (s : List ℕ) {r r′ : Listing} → r ≡ listingOf s → r′ ≡ listingOf s → r ≡ r′
+listing-only s a b = a ∙ sym b
+
+-- The text is never longer than the answer has room.
+pub text-most : (s : List ℕ) → length (listingText s) ≤ mostText
+text-most = lengths.text-most
+
+-- ---- which text it is
+
+-- An input whose count line, length or picture is refused gives that line, by the first test that holds.
+pub input-refused : (s : List ℕ) (n : Refusal) → Given (inputRows s) n → listingText s ≡ refusedText (numberOf n)
+input-refused = ways.input-refused
+
+-- Else it gives the text of the picture behind the count line, with the count that this line names.
+pub input-accepted : (s : List ℕ) → NoneHolds (inputRows s) → listingText s ≡ pictureText (pictureIn s) (countIn s)
+input-accepted = ways.input-accepted
+
+-- A picture whose run is refused gives that line.
+pub run-refused : (p : List ℕ) (count : ℕ) (n : Refusal) → Given (ways.rows p count) n
+    → pictureText p count ≡ refusedText (numberOf n)
+run-refused = ways.run-refused
+
+-- Else it gives its lines.
+pub run-accepted : (p : List ℕ) (count : ℕ) → NoneHolds (ways.rows p count)
+    → pictureText p count ≡ linesOf (listingLines p count)
+run-accepted = ways.run-accepted
+
+-- ---- what is never refused there
+
+-- Adding a picture that passes its tests is accepted: there is room for as many colours as it has pixels.
+pub adding-accepted : (p : List ℕ) → firstOf (smallRows p) ≡ done → tableOf p .answer .refusal ≡ done
+adding-accepted = accepted.adding-accepted
+
+-- And a run on it is refused by the count or for want of colours alone.
+pub run-refusals : (p : List ℕ) → firstOf (smallRows p) ≡ done → Bytes (rasterOf p) → (count : ℕ) (n : Refusal)
+    → Given (ways.rows p count) n → (n ≡ BAD-COUNT) ⊎ (n ≡ FEW-COLOURS)
+run-refusals = accepted.run-refusals

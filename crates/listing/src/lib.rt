@@ -1,0 +1,29 @@
+// The listing: from the count line and a P6 picture to the lines that tell its shades.
+//
+// Calls; none requires anything of its caller
+//   list_shades   the listing of an input, as bytes.   call.rt
+//                 A refusal is the one line `refused N`; the tests, in this order: 4 BAD COUNT for
+//                 a malformed count line, 13 BAD SIZE for an input over 65,536 bytes, the
+//                 picture's own, 12, 13 (also for more than 8,192 pixels), 14, 15, and the run's,
+//                 4 and 5.
+// The lines are written in lines.rt, the tests of a picture stand in test.rt.
+//
+// Read next: specs/Lib.antt (what the words mean), proofs/Promises.antt (what is shown).
+
+mod call;
+mod lines;
+mod test;
+
+pub use call::list_shades;
+
+// The most bytes of an input.
+pub const MOST_INPUT: usize = 65536;
+
+// The most pixels of a picture that is listed.
+pub const MOST_LISTED: u64 = 8192;
+
+// The bytes of a listing, zeros behind them, and how many they are.
+pub struct Listing {
+    pub length: usize,
+    pub text: [u8; 8448],
+}

@@ -1,0 +1,69 @@
+// Inputs listed one after the other, held to the file stdout beside src/: every refusal that a listing
+// can print, one shade, 64 shades, 8,192 pixels and 8,193, 65,536 bytes and 65,537.
+use libc::STDOUT_FILENO;
+use listing::Listing;
+
+// Prints the listing of an input.
+fn show(input: &[u8]) {
+    let l = listing::list_shades(input);
+    let text = l.text;
+    let length = l.length;
+    io::write_all(STDOUT_FILENO, &text[..length]);
+}
+
+// Count lines that are malformed, and counts that a run refuses: 4.
+fn bad_counts() {
+    show(b"");
+    show(b"1");
+    show(b"\nP6 1 1 255 abc");
+    show(b"100\nP6 1 1 255 abc");
+    show(b"1\r\nP6 1 1 255 abc");
+    show(b"0\nP6 1 1 255 abc");
+    show(b"65\nP6 1 1 255 abc");
+}
+
+// More shades than colours, 5; then a header, sizes, a depth and a raster that do not pass: 12, 13
+// twice, 13 before 14, 14, 15.
+fn bad_pictures() {
+    show(b"2\nP6 1 1 255 abc");
+    show(b"1\nP5 1 1 255 abc");
+    show(b"1\nP6 0 1 255 ");
+    show(b"1\nP6 8193 1 255 ");
+    show(b"1\nP6 91 91 254 ");
+    show(b"1\nP6 1 1 254 abc");
+    show(b"1\nP6 1 1 255 abcd");
+}
+
+// One shade, also with a leading zero in its count, and 64 shades of 64 colours.
+fn accepted() {
+    show(b"1\nP6 2 1 255 abcdef");
+    show(b"01\nP6\n1 2\n255\nabcdef");
+    show(
+        b"64\nP6 64 1 255 000001002003004005006007008009010011012013014015016017018019020021022023024025026027028029030031032033034035036037038039040041042043044045046047048049050051052053054055056057058059060061062063",
+    );
+}
+
+// 8,192 pixels of one colour: 24,592 bytes.
+fn most_pixels() {
+    let mut input = [7u8; 24592];
+    texts::put_word(&mut input, 0, b"1\nP6 8192 1 255 ");
+    show(&input);
+}
+
+// 65,536 bytes are not too long, so that the blanks after the count line are told: 12. One more is: 13.
+fn most_bytes() {
+    let mut fits = [32u8; 65536];
+    texts::put_word(&mut fits, 0, b"1\n");
+    show(&fits);
+    let mut long = [32u8; 65537];
+    texts::put_word(&mut long, 0, b"1\n");
+    show(&long);
+}
+
+fn main() {
+    bad_counts();
+    bad_pictures();
+    accepted();
+    most_pixels();
+    most_bytes();
+}

@@ -1,0 +1,68 @@
+-- What a definition gives, in rows of numbers: all that the answer says, and every lent slice at exit.
+use Prim.Native.Nat.{ℕ}
+use mathlib.Core.Bool.{Bool, cond}
+use mathlib.Core.List.{List, [], _∷_, _++_, map}
+use lib.IntN.{pos, negsuc}
+use lib.Ieee.{Float, nan, inf, fin}
+use Rattle.table.specs.{Outcome}
+use Rattle.lloyd.specs.{RoundOutcome, RunOutcome}
+use Rattle.palette.specs.{PaletteOutcome}
+use Rattle.figures.specs.{Mean, meanNumber, meanValues}
+use Rattle.mapping.specs.{MapOutcome}
+
+-- a test as document 01 writes it: 1 or 0
+abbrev pub bit : Bool → ℕ
+bit b = cond b 1 0
+
+-- of an add: refusal, taken, used, pixels; the keys; the weights
+abbrev pub addNumbers : Outcome → List (List ℕ)
+addNumbers o =
+    (o .answer .refusal ∷ o .answer .taken ∷ o .answer .rec .used ∷ o .answer .rec .pixels ∷ [])
+    ∷ o .keys
+    ∷ o .weights
+    ∷ []
+
+-- of a single round: refusal, total, shades moved, distances; the coordinates; the members
+abbrev pub roundNumbers : RoundOutcome → List (List ℕ)
+roundNumbers o =
+    (o .answer .refusal ∷ o .answer .total ∷ o .answer .moved ∷ o .answer .distances ∷ [])
+    ∷ o .state .coordinates
+    ∷ o .state .members
+    ∷ []
+
+-- of a run: refusal, rounds, settled, distances, final total; the shades; the members; the totals
+abbrev pub runNumbers : RunOutcome → List (List ℕ)
+runNumbers o =
+    let a = o .answer in
+    (a .refusal ∷ a .rounds ∷ bit (a .settled) ∷ a .distances ∷ a .total ∷ [])
+    ∷ a .shades
+    ∷ o .members
+    ∷ o .totals
+    ∷ []
+
+-- of a palette: refusal; the bytes
+abbrev pub paletteNumbers : PaletteOutcome → List (List ℕ)
+paletteNumbers o = (o .answer ∷ []) ∷ o .palette ∷ []
+
+-- of a figure: sign, significand, exponent of 2. No two figures have one row: that of a negative exponent is longer,
+-- and what is not finite has fewer than three numbers.
+abbrev pub figureNumbers : Float → List ℕ
+figureNumbers nan = []
+figureNumbers (inf s) = bit s ∷ []
+figureNumbers (fin s m (pos e)) = bit s ∷ m ∷ e ∷ []
+figureNumbers (fin s m (negsuc e)) = bit s ∷ m ∷ 0 ∷ e ∷ []
+
+-- of a mean square error: how many figures it holds; these figures
+abbrev pub meanNumbers : Mean → List (List ℕ)
+meanNumbers m = (meanNumber m ∷ []) ∷ map figureNumbers (meanValues m)
+
+-- of a mapping: refusal, error, and the error of each channel; the mean; the mean of each channel; the index bytes
+abbrev pub mapNumbers : MapOutcome → List (List ℕ)
+mapNumbers o =
+    let a = o .answer in
+    ((a .refusal ∷ a .error ∷ a .errors .red ∷ a .errors .green ∷ a .errors .blue ∷ []) ∷ meanNumbers (a .mean))
+    ++ figureNumbers (a .means .red)
+    ∷ figureNumbers (a .means .green)
+    ∷ figureNumbers (a .means .blue)
+    ∷ o .index
+    ∷ []
