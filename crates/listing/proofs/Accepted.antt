@@ -20,11 +20,10 @@ use Rattle.table.specs.{Record, GoodTable, roomOf, full}
 use Rattle.table.proofs.Promises.{accepted-exactly, bad-table-exactly, stays-good, after-taken}
 use Rattle.p6.specs.{rasterOf}
 use Rattle.listing.specs.Refusals.{mostListed, listedZeros, smallRows}
-use Rattle.listing.specs.Listings.{nothing, tableOf}
+use Rattle.listing.specs.Listings.{nothing, tableOf, runTests}
 use Rattle.lloyd.specs.{shortMembers, shortTotals}
 use Rattle.lloyd.proofs.Promises.{short-members-exactly}
 use Rattle.number.proofs.Cases.{never}
-use Rattle.listing.proofs.Ways.{rows}
 use Rattle.listing.proofs.Smalls.{small-raster, small-whole}
 
 -- a test joined by "and" with one that fails fails
@@ -111,7 +110,7 @@ module _ (p : List ℕ) (ok : firstOf (smallRows p) ≡ done) where
         rw (short-members-exactly (tableOf p .answer .rec) listedZeros .1 (omega (arith, few-entries, zeros-length)))
 
     -- so a run on it is refused by the count or for want of colours alone
-    pub run-refusals : (n : Refusal) → Given (rows p count) n → (n ≡ BAD-COUNT) ⊎ (n ≡ FEW-COLOURS)
+    pub run-refusals : (n : Refusal) → Given (runTests p count) n → (n ≡ BAD-COUNT) ⊎ (n ≡ FEW-COLOURS)
     run-refusals n (inl (t, e)) = never (sym t ∙ bad-table-exactly _ _ _ .1 table-good)
     run-refusals n (inr (f, inl (t, e))) = inl (sym e)
     run-refusals n (inr (f, inr (g, inl (t, e)))) = inr (sym e)

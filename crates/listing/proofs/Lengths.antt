@@ -21,8 +21,16 @@ use Rattle.listing.specs.Texts.{
   mappedRaster,
   shadeLines,
 }
-use Rattle.listing.specs.Listings.{tableOf, runOn, headFields, listingLines, pictureText, listingText, textRoom}
-use Rattle.listing.proofs.Ways.{rows}
+use Rattle.listing.specs.Listings.{
+  tableOf,
+  runOn,
+  headFields,
+  listingLines,
+  pictureText,
+  listingText,
+  textRoom,
+  runTests,
+}
 use Rattle.listing.proofs.lines.Lines.{line-length, lines-joined, rows-length}
 
 -- ---- the palette
@@ -89,7 +97,7 @@ lines-most l ls a b = omega (arith, length-append (lineOf l) (linesOf ls))
 picture-most : (p : List ℕ) (count : ℕ) → length (pictureText p count) ≤ mostText
 unfolding pictureText
 picture-most p count =
-    outcome-all (rows p count) (linesOf (listingLines p count)) refusedText (λ t. length t ≤ mostText)
+    outcome-all (runTests p count) (linesOf (listingLines p count)) refusedText (λ t. length t ≤ mostText)
     (lines-most (headFields p count) (shadeLines (rasterOf p) (take (3 * count) (runOn p count .answer .shades)))
     (head-most p count) (shades-most (rasterOf p) (take (3 * count) (runOn p count .answer .shades)))) refused-most
 

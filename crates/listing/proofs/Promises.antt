@@ -12,7 +12,7 @@ use Rattle.p6.specs.{rasterOf}
 use Rattle.texts.specs.{linesOf}
 use Rattle.listing.specs.Refusals.{countIn, pictureIn, smallRows, inputRows}
 use Rattle.listing.specs.Texts.{mostText, refusedText}
-use Rattle.listing.specs.Listings.{tableOf, listingLines, pictureText, listingText, listingOf}
+use Rattle.listing.specs.Listings.{tableOf, listingLines, pictureText, listingText, listingOf, runTests}
 use Rattle.listing.specs.declared.Listing.{Listing}
 use Rattle.listing.proofs.Ways as ways
 use Rattle.listing.proofs.Accepted as accepted
@@ -39,12 +39,12 @@ pub input-accepted : (s : List ℕ) → NoneHolds (inputRows s) → listingText 
 input-accepted = ways.input-accepted
 
 -- A picture whose run is refused gives that line.
-pub run-refused : (p : List ℕ) (count : ℕ) (n : Refusal) → Given (ways.rows p count) n
+pub run-refused : (p : List ℕ) (count : ℕ) (n : Refusal) → Given (runTests p count) n
     → pictureText p count ≡ refusedText (numberOf n)
 run-refused = ways.run-refused
 
 -- Else it gives its lines.
-pub run-accepted : (p : List ℕ) (count : ℕ) → NoneHolds (ways.rows p count)
+pub run-accepted : (p : List ℕ) (count : ℕ) → NoneHolds (runTests p count)
     → pictureText p count ≡ linesOf (listingLines p count)
 run-accepted = ways.run-accepted
 
@@ -56,5 +56,5 @@ adding-accepted = accepted.adding-accepted
 
 -- And a run on it is refused by the count or for want of colours alone.
 pub run-refusals : (p : List ℕ) → firstOf (smallRows p) ≡ done → Bytes (rasterOf p) → (count : ℕ) (n : Refusal)
-    → Given (ways.rows p count) n → (n ≡ BAD-COUNT) ⊎ (n ≡ FEW-COLOURS)
+    → Given (runTests p count) n → (n ≡ BAD-COUNT) ⊎ (n ≡ FEW-COLOURS)
 run-refusals = accepted.run-refusals

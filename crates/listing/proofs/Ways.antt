@@ -35,7 +35,7 @@ use Rattle.lloyd.specs.{RunOutcome, limitOf, keptRun, madeRun, runOf, runRows}
 use Rattle.texts.specs.{linesOf}
 use Rattle.listing.specs.Refusals.{mostInput, listedZeros, badLine, countIn, pictureIn, smallRows, inputRows}
 use Rattle.listing.specs.Texts.{refusedText}
-use Rattle.listing.specs.Listings.{tableOf, runOn, listingLines, pictureText, listingText}
+use Rattle.listing.specs.Listings.{tableOf, runOn, listingLines, pictureText, listingText, runTests}
 
 -- ---- an outcome by its number
 
@@ -62,13 +62,8 @@ run-number rec ks ws k limit ms ts =
 -- ---- the picture's text
 
 module _ (p : List ℕ) (count : ℕ) where
-  -- the rows of its run
-  abbrev pub rows : List Row
-  rows =
-      runRows (tableOf p .answer .rec) (tableOf p .keys) (tableOf p .weights) count 0 listedZeros (replicate 20 0)
-
-  -- the run's number is theirs
-  number-is : runOn p count .answer .refusal ≡ firstOf rows
+  -- the run's number is that of its tests
+  number-is : runOn p count .answer .refusal ≡ firstOf (runTests p count)
   number-is =
       run-number (tableOf p .answer .rec) (tableOf p .keys) (tableOf p .weights) count 0 listedZeros (replicate 20 0)
 
@@ -77,17 +72,17 @@ module _ (p : List ℕ) (count : ℕ) where
       → pictureText p count ≡ refusedText n
   unfolding pictureText
   picture-refused n e some =
-      outcome-of-number rows (linesOf (listingLines p count)) refusedText n (sym number-is ∙ e) some
+      outcome-of-number (runTests p count) (linesOf (listingLines p count)) refusedText n (sym number-is ∙ e) some
 
   -- a run that is accepted
   pub picture-listed : runOn p count .answer .refusal ≡ done → pictureText p count ≡ linesOf (listingLines p count)
   unfolding pictureText
-  picture-listed e = outcome-of-none rows (linesOf (listingLines p count)) refusedText (sym number-is ∙ e)
+  picture-listed e = outcome-of-none (runTests p count) (linesOf (listingLines p count)) refusedText (sym number-is ∙ e)
 
   -- of an accepted run the shades are at most 64
   pub run-count : runOn p count .answer .refusal ≡ done → count ≤ mostShades
   run-count e =
-      let none = none-of-first rows (sym number-is ∙ e) in
+      let none = none-of-first (runTests p count) (sym number-is ∙ e) in
       bad-count-exactly count .0 (none .1 .0) .1
 
 -- ---- the count line
@@ -207,15 +202,16 @@ input-accepted s g =
     outcome-made (inputRows s) (pictureText (pictureIn s) (countIn s)) refusedText (done-exactly (inputRows s) .1 g)
 
 -- and so with the run's rows
-pub run-refused : (p : List ℕ) (count : ℕ) (n : Refusal) → Given (rows p count) n
+pub run-refused : (p : List ℕ) (count : ℕ) (n : Refusal) → Given (runTests p count) n
     → pictureText p count ≡ refusedText (numberOf n)
 unfolding pictureText
 run-refused p count n g =
-    outcome-refused (rows p count) (linesOf (listingLines p count)) refusedText n (first-exactly (rows p count) n .1 g)
+    outcome-refused (runTests p count) (linesOf (listingLines p count)) refusedText n
+    (first-exactly (runTests p count) n .1 g)
 
 -- where none of these holds it is the lines
-pub run-accepted : (p : List ℕ) (count : ℕ) → NoneHolds (rows p count)
+pub run-accepted : (p : List ℕ) (count : ℕ) → NoneHolds (runTests p count)
     → pictureText p count ≡ linesOf (listingLines p count)
 unfolding pictureText
 run-accepted p count g =
-    outcome-made (rows p count) (linesOf (listingLines p count)) refusedText (done-exactly (rows p count) .1 g)
+    outcome-made (runTests p count) (linesOf (listingLines p count)) refusedText (done-exactly (runTests p count) .1 g)

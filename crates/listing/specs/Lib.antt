@@ -16,6 +16,7 @@
 --   shadeLines           the lines of the shades, and the last line
 --   tableOf, runOn       the table of a picture, and the run on it
 --   headFields, listingLines   line 1, and all lines
+--   runTests             the run's tests, in their order
 --   pictureText          the text of an accepted picture: its lines, or the run's refusal
 --   listingText          the text of an input
 --   textRoom             the room of a listing, zeros
@@ -52,6 +53,7 @@ unfoldable pub use Listings.{
   runOn,
   headFields,
   listingLines,
+  runTests,
   pictureText,
   listingText,
   textRoom,

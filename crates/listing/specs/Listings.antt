@@ -2,7 +2,7 @@
 use Prim.Native.Nat.{ℕ, _*_}
 use mathlib.Core.List.{List, [], _∷_}
 use lib.ListN.{length, take, replicate}
-use Rattle.refusal.specs.{outcomeOf}
+use Rattle.refusal.specs.{Row, outcomeOf}
 use Rattle.table.specs.{Record, Outcome, addStrip}
 use Rattle.lloyd.specs.{RunOutcome, runOf, runRows}
 use Rattle.p6.specs.{rasterOf}
@@ -36,12 +36,14 @@ headFields p count =
 abbrev pub listingLines : List ℕ → ℕ → List (List ℕ)
 listingLines p count = headFields p count ∷ shadeLines (rasterOf p) (take (3 * count) (runOn p count .answer .shades))
 
+-- the run's tests, in their order
+abbrev pub runTests : List ℕ → ℕ → List Row
+runTests p count =
+    runRows (tableOf p .answer .rec) (tableOf p .keys) (tableOf p .weights) count 0 listedZeros (replicate 20 0)
+
 -- the text of a picture that is accepted: its lines, or the run's refusal
 unfoldable pub pictureText : List ℕ → ℕ → List ℕ
-pictureText p count =
-    outcomeOf
-    (runRows (tableOf p .answer .rec) (tableOf p .keys) (tableOf p .weights) count 0 listedZeros (replicate 20 0))
-    (linesOf (listingLines p count)) refusedText
+pictureText p count = outcomeOf (runTests p count) (linesOf (listingLines p count)) refusedText
 
 -- the text of an input
 unfoldable pub listingText : List ℕ → List ℕ

@@ -1,5 +1,5 @@
-// Inputs listed one after the other, held to the file stdout beside src/: every refusal that a listing
-// can print, one shade, 64 shades, 8,192 pixels and 8,193, 65,536 bytes and 65,537.
+// Inputs listed one after the other, held to the file stdout beside src/: every refusal that a
+// listing can print, one shade, 64 shades, 8,192 pixels and 8,193, 65,536 bytes and 65,537.
 use libc::STDOUT_FILENO;
 use listing::Listing;
 
@@ -50,7 +50,8 @@ fn most_pixels() {
     show(&input);
 }
 
-// 65,536 bytes are not too long, so that the blanks after the count line are told: 12. One more is: 13.
+// 65,536 bytes are not too long, so that the blanks after the count line are told: 12. One more is:
+// 13.
 fn most_bytes() {
     let mut fits = [32u8; 65536];
     texts::put_word(&mut fits, 0, b"1\n");
