@@ -16,11 +16,11 @@ use Rattle.entries.specs.{Entry, pixelsOf, weightOf, stops, takenOf, stripKeys,
 use Rattle.entries.proofs.Gives.{give-length, give-pixels}
 use Rattle.entries.proofs.Strips.{strip-length, byte-keys}
 use Rattle.entries.proofs.Promises.{taken-within-limits}
-use Rattle.table.specs.{Record, GoodTable, roomOf, full}
+use Rattle.table.specs.{Record, GoodTable, emptyRecord, roomOf, full}
 use Rattle.table.proofs.Promises.{accepted-exactly, bad-table-exactly, stays-good, after-taken}
 use Rattle.p6.specs.{rasterOf}
 use Rattle.listing.specs.Refusals.{mostListed, listedZeros, smallRows}
-use Rattle.listing.specs.Listings.{nothing, tableOf, runTests}
+use Rattle.listing.specs.Listings.{tableOf, runTests}
 use Rattle.lloyd.specs.{shortMembers, shortTotals}
 use Rattle.lloyd.proofs.Promises.{short-members-exactly}
 use Rattle.number.proofs.Cases.{never}
@@ -52,7 +52,7 @@ room-is : roomOf listedZeros listedZeros ≡ mostListed
 room-is = rw zeros-length
 
 -- an empty table is good in any slices
-empty-good : (ks ws : List ℕ) → GoodTable nothing ks ws
+empty-good : (ks ws : List ℕ) → GoodTable emptyRecord ks ws
 unfolding sum
 empty-good ks ws = record {
   in-room = omega arith;
@@ -81,23 +81,23 @@ module _ (p : List ℕ) (ok : firstOf (smallRows p) ≡ done) where
       (omega (arith, long)) in
       let same : length (stripKeys s) ≤ takenOf (roomOf listedZeros listedZeros) [] (stripKeys s) =
       omega (arith, all) in
-      let fits : full nothing listedZeros listedZeros s ≡ false = le-ltb _ _ same in
-      let good = bad-table-exactly nothing listedZeros listedZeros .1 (empty-good listedZeros listedZeros) in
-      accepted-exactly nothing listedZeros listedZeros s .1 (raster-whole, (good, (fits, tt)))
+      let fits : full emptyRecord listedZeros listedZeros s ≡ false = le-ltb _ _ same in
+      let good = bad-table-exactly emptyRecord listedZeros listedZeros .1 (empty-good listedZeros listedZeros) in
+      accepted-exactly emptyRecord listedZeros listedZeros s .1 (raster-whole, (good, (fits, tt)))
 
   -- ---- the run
 
   module _ (bytes : Bytes (rasterOf p)) (count : ℕ) where
     -- the table is good
     table-good : GoodTable (tableOf p .answer .rec) (tableOf p .keys) (tableOf p .weights)
-    table-good = stays-good nothing listedZeros listedZeros (rasterOf p) bytes (empty-good listedZeros listedZeros)
+    table-good = stays-good emptyRecord listedZeros listedZeros (rasterOf p) bytes (empty-good listedZeros listedZeros)
 
     -- it has at most 8,192 entries
     few-entries : tableOf p .answer .rec .used ≤ mostListed
     few-entries =
         let s = rasterOf p in
-        let good = bad-table-exactly nothing listedZeros listedZeros .1 (empty-good listedZeros listedZeros) in
-        let after = after-taken nothing listedZeros listedZeros s raster-whole good in
+        let good = bad-table-exactly emptyRecord listedZeros listedZeros .1 (empty-good listedZeros listedZeros) in
+        let after = after-taken emptyRecord listedZeros listedZeros s raster-whole good in
         let used : tableOf p .answer .rec .used ≡ length (withTaken (roomOf listedZeros listedZeros) [] (stripKeys s)) =
         ap (λ (r : Record). r .used) (after .1) ∙ ap (λ (es : List Entry). length es) (after .0) in
         let room = taken-within-limits (roomOf listedZeros listedZeros) [] (byte-keys s bytes) refl (omega arith)

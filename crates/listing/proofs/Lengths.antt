@@ -7,6 +7,7 @@ use lib.ListN.{length, take, drop, replicate, length-append, length-replicate, t
 use Rattle.number.proofs.Fills.{fill-length}
 use Rattle.refusal.proofs.Outcomes.{outcome-all}
 use Rattle.shades.specs.{mostCoordinates}
+use Rattle.lloyd.specs.{flagOf}
 use Rattle.palette.specs.{PaletteOutcome, paletteRows, madePalette, keptPalette, paletteFromShades}
 use Rattle.p6.specs.{rasterOf}
 use Rattle.texts.specs.{lineOf, linesOf, withText}
@@ -15,7 +16,6 @@ use Rattle.listing.specs.Refusals.{countIn, pictureIn, inputRows}
 use Rattle.listing.specs.Texts.{
   mostText,
   refusedText,
-  flagOf,
   shadeRows,
   paletteBytes,
   mappedRaster,

@@ -4,15 +4,15 @@ use mathlib.Core.List.{List, [], _∷_}
 use mathlib.Core.Path.{_≡_, refl, sym, ap, _∙_, subst}
 use lib.ListN.{length, take, replicate}
 use Rattle.refusal.specs.{done}
-use Rattle.table.specs.{Record, Added, AddMeets, addStrip}
-use Rattle.lloyd.specs.{Ran, RunMeets, runOf}
+use Rattle.table.specs.{Record, Added, AddMeets, emptyRecord, addStrip}
+use Rattle.lloyd.specs.{Ran, RunMeets, flagOf, runOf}
 use Rattle.lloyd.proofs.Promises.{shades-room}
 use Rattle.p6.specs.{rasterOf}
 use Rattle.texts.specs.{PutMeets, lineOf, linesOf}
 use Rattle.texts.proofs.Texts.{put-then}
 use Rattle.listing.specs.Refusals.{listedZeros}
-use Rattle.listing.specs.Texts.{refusedText, flagOf, shadeLines}
-use Rattle.listing.specs.Listings.{nothing, tableOf, runOn, headFields, pictureText}
+use Rattle.listing.specs.Texts.{refusedText, shadeLines}
+use Rattle.listing.specs.Listings.{tableOf, runOn, headFields, pictureText}
 use Rattle.shades.specs.{mostShades}
 use Rattle.listing.proofs.lines.Lines.{line-length}
 use Rattle.listing.proofs.Ways.{picture-refused, picture-listed, run-count}
@@ -34,16 +34,16 @@ pub record Ready (p : List ℕ) (count : ℕ) (rec : Record) (ran : Ran) : Type 
 
 -- it is, once the raster was added and the run made
 pub ready : (p : List ℕ) (count : ℕ) {raster : List ℕ} {added : Added} {ks ws ms ts : List ℕ} {ran : Ran}
-    → raster ≡ rasterOf p → AddMeets nothing (replicate 8192 0) (replicate 8192 0) raster added ks ws
+    → raster ≡ rasterOf p → AddMeets emptyRecord (replicate 8192 0) (replicate 8192 0) raster added ks ws
     → RunMeets (runOf (added .rec) ks ws count 0 (replicate 8192 0) (replicate 20 0)) ran ms ts
     → Ready p count (added .rec) ran
 unfolding listedZeros
 ready p count {raster} {added} {ks} {ws} {ran = ran} r a m =
     let answer : added ≡ tableOf p .answer =
-    a .answer ∙ ap (λ s. addStrip nothing listedZeros listedZeros s .answer) r in
-    let keys : ks ≡ tableOf p .keys = a .keys ∙ ap (λ s. addStrip nothing listedZeros listedZeros s .keys) r in
+    a .answer ∙ ap (λ s. addStrip emptyRecord listedZeros listedZeros s .answer) r in
+    let keys : ks ≡ tableOf p .keys = a .keys ∙ ap (λ s. addStrip emptyRecord listedZeros listedZeros s .keys) r in
     let weights : ws ≡ tableOf p .weights =
-    a .weights ∙ ap (λ s. addStrip nothing listedZeros listedZeros s .weights) r in
+    a .weights ∙ ap (λ s. addStrip emptyRecord listedZeros listedZeros s .weights) r in
     record {
       rec-is = ap (λ (x : Added). x .rec) answer;
       ran-is = m .answer

@@ -9,7 +9,6 @@
 --   mostLine             room that a line never goes past
 --   mostText             8448, the room of a listing
 --   refusedText n        the line of a refusal
---   flagOf               settled as 1 or 0
 --   mappedTo index q     the pixels mapped to shade q
 --   shadeFields, shadeRows   a shade's line, and those of the first k shades
 --   paletteBytes, mappedRaster   the palette of the shades, and the raster mapped to it
@@ -40,7 +39,6 @@ unfoldable pub use Texts.{
   mostLine,
   mostText,
   refusedText,
-  flagOf,
   mappedTo,
   shadeFields,
   shadeRows,

@@ -3,21 +3,17 @@ use Prim.Native.Nat.{ℕ, _*_}
 use mathlib.Core.List.{List, [], _∷_}
 use lib.ListN.{length, take, replicate}
 use Rattle.refusal.specs.{Row, outcomeOf}
-use Rattle.table.specs.{Record, Outcome, addStrip}
-use Rattle.lloyd.specs.{RunOutcome, runOf, runRows}
+use Rattle.table.specs.{Outcome, emptyRecord, addStrip}
+use Rattle.lloyd.specs.{RunOutcome, flagOf, runOf, runRows}
 use Rattle.p6.specs.{rasterOf}
 use Rattle.texts.specs.{linesOf, withText}
 use Rattle.listing.specs.Refusals.{listedZeros, countIn, pictureIn, inputRows}
-use Rattle.listing.specs.Texts.{mostText, refusedText, flagOf, shadeLines}
+use Rattle.listing.specs.Texts.{mostText, refusedText, shadeLines}
 use Rattle.listing.specs.declared.Listing.{Listing}
-
--- the record of an empty table
-abbrev pub nothing : Record
-nothing = record { used = 0; pixels = 0 }
 
 -- the table of a picture, in slices of 8,192 places
 abbrev pub tableOf : List ℕ → Outcome
-tableOf p = addStrip nothing listedZeros listedZeros (rasterOf p)
+tableOf p = addStrip emptyRecord listedZeros listedZeros (rasterOf p)
 
 -- the run on it, with limit 0
 abbrev pub runOn : List ℕ → ℕ → RunOutcome

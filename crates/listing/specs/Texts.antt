@@ -1,6 +1,5 @@
 -- The lines of a listing, as numbers, and the line of a refusal.
 use Prim.Native.Nat.{ℕ, zero, suc, _+_, _*_, _/_}
-use mathlib.Core.Bool.{Bool, cond}
 use mathlib.Core.List.{List, [], _∷_, _++_}
 use lib.Dec.{eqb}
 use lib.ListN.{getD, length, take, replicate}
@@ -22,10 +21,6 @@ mostText = 8448
 -- a refusal prints the one line `refused N`
 abbrev pub refusedText : ℕ → List ℕ
 refusedText n = 114 ∷ 101 ∷ 102 ∷ 117 ∷ 115 ∷ 101 ∷ 100 ∷ 32 ∷ lineOf (n ∷ [])
-
--- settled as 1 or 0
-abbrev pub flagOf : Bool → ℕ
-flagOf settled = cond settled 1 0
 
 -- the pixels mapped to shade q, from the index picture
 abbrev pub mappedTo : List ℕ → ℕ → ℕ

@@ -5,11 +5,11 @@ ghost use Prim.Native.Nat.{_+_, _*_, _/_, _<_, _≤_};
 ghost use lib.ListN.{length};
 ghost use Rattle.texts.specs.{PutMeets, linesOf, lineOf};
 ghost use Rattle.shades.specs.{mostCoordinates};
+ghost use Rattle.lloyd.specs.{flagOf};
 ghost use Rattle.listing.specs.Refusals.{mostListed};
 ghost use Rattle.listing.specs.Texts.{
   refusedText,
   mostLine,
-  flagOf,
   mappedTo,
   shadeFields,
   shadeRows,
@@ -23,13 +23,6 @@ pub fn put_refusal(out: &mut [u8], number: u8) -> usize
 {
     let a = texts::put_word(out, 0, b"refused ");
     texts::put_last(out, a, number as u64)
-}
-
-// 1 where a run is settled, else 0.
-fn flag(settled: bool) -> u64
-    ensures { λ r. ⌜ r ≡ flagOf settled ⌝ }
-{
-    if settled { 1 } else { 0 }
 }
 
 // Puts line 1: table colours, pixels, rounds, settled, final total, distances. Requires room.
@@ -50,7 +43,7 @@ pub fn put_head(
     let a = texts::put_field(out, 0, used);
     let b = texts::put_field(out, a, pixels);
     let c = texts::put_field(out, b, rounds);
-    let d = texts::put_field(out, c, flag(settled));
+    let d = texts::put_field(out, c, lloyd::flag_of(settled));
     let e = texts::put_field(out, d, total);
     texts::put_last(out, e, distances)
 }

@@ -9,6 +9,7 @@
 --   badMember              the test of 9 BAD MEMBER
 --   plainRows, shortRows, runRows   the tests of each call in its order, with their refusals
 --   RoundOutcome, RunOutcome   the answer and both lent slices at exit
+--   flagOf                 settled as 1 or 0
 --   refusedRound, refusedRun   the answer of a refusal: its number and zeros
 --   keptRound, keptRun     that answer, and no slice changes
 --   madeRound, madeRun     the outcome where nothing is refused
@@ -41,6 +42,7 @@ unfoldable pub use Outcomes.{
   refusedRound,
   keptRound,
   madeRound,
+  flagOf,
   refusedRun,
   keptRun,
   madeRun,

@@ -1,6 +1,6 @@
 -- What a round and a run leave: the answer, and both lent slices, on every input.
 use Prim.Native.Nat.{ℕ, _/_}
-use mathlib.Core.Bool.{false}
+use mathlib.Core.Bool.{Bool, false, cond}
 use mathlib.Core.List.{List}
 use mathlib.Core.Path.{_≡_}
 use lib.Dec.{ltb}
@@ -75,6 +75,10 @@ pub record RoundMeets (o : RoundOutcome) (r : Rounded) (coordinates members : Li
   pub members-are : members ≡ o .state .members
 
 -- ---- a run
+
+-- settled as 1 or 0
+abbrev pub flagOf : Bool → ℕ
+flagOf settled = cond settled 1 0
 
 -- the answer, and the lent members and totals at exit
 pub record RunOutcome : Type 0 where

@@ -7,6 +7,8 @@
 //                 Refuses 2, 4, 8, 7, 9 BAD MEMBER, in this order.
 //   run           starting shades and shortened rounds.       call.rt
 //                 Refuses 2, 4, 5 FEW COLOURS, 6 BAD LIMIT, 7, in this order.
+// For the crates above
+//   flag_of       settled as 1 or 0
 // A refusal answers its number and zeros and writes nothing. The tests stand in test.rt and in the
 // crates table and shades; the work is done by the crate steps.
 //
@@ -16,6 +18,7 @@ mod call;
 mod round;
 mod test;
 
+pub use call::flag_of;
 pub use call::run;
 pub use round::plain_round;
 pub use round::short_round;

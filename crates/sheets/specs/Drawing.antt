@@ -11,10 +11,6 @@ use Rattle.table.specs.{Record}
 abbrev pub drawing : List ℕ
 drawing = 0 ∷ 0 ∷ 0 ∷ 0 ∷ 0 ∷ 0 ∷ 0 ∷ 0 ∷ 0 ∷ 10 ∷ 0 ∷ 0 ∷ []
 
--- the record of an empty table
-abbrev pub empty : Record
-empty = record { used = 0; pixels = 0 }
-
 -- sheet A's table: its keys
 abbrev pub keysA : List ℕ
 keysA = 0 ∷ 655360 ∷ []

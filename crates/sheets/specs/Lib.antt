@@ -1,6 +1,5 @@
 -- Glossary.
 --   drawing           the two by two pixels of sheets A to E, as bytes
---   empty             the record of an empty table
 --   keysA, weightsA, recordA   sheet A's table
 --   paletteC          sheet C's palette
 --   whole n           an odd whole number, or 0, as a binary64 number
@@ -23,7 +22,6 @@ pub mod Examples
 pub mod Table
 unfoldable pub use Drawing.{
   drawing,
-  empty,
   keysA,
   weightsA,
   paletteC,

@@ -3,14 +3,13 @@ use Prim.Native.Nat.{_+_, _*_}
 use mathlib.Core.List.{List, [], _∷_, _++_}
 use lib.ListN.{replicate}
 use Rattle.refusal.specs.{done}
-use Rattle.table.specs.{addStrip}
+use Rattle.table.specs.{emptyRecord, addStrip}
 use Rattle.rounds.specs.{stateOf, coloursOf, leastOf, meanOf, starts, flat}
 use Rattle.lloyd.specs.{plainRound, shortRound, runOf}
 use Rattle.palette.specs.{paletteFromShades}
 use Rattle.mapping.specs.{mapStrip}
 use Rattle.sheets.specs.Drawing.{
   drawing,
-  empty,
   keysA,
   weightsA,
   paletteC,
@@ -40,7 +39,7 @@ use Rattle.sheets.specs.Examples.{Example}
 -- Nothing is refused, 4 pixels are taken, and a place more of each slice keeps its value.
 abbrev pub sheetA : Example
 sheetA = record {
-  computed = addNumbers (addStrip empty (replicate 3 7) (replicate 3 9) drawing);
+  computed = addNumbers (addStrip emptyRecord (replicate 3 7) (replicate 3 9) drawing);
   written = (done ∷ 4 ∷ 2 ∷ 4 ∷ []) ∷ (keysA ++ 7 ∷ []) ∷ (weightsA ++ 9 ∷ []) ∷ [];
 }
 

@@ -3,6 +3,7 @@
 --   Added         refusal, taken, rec: the answer of an add
 --   roomOf        the shorter of the two lent slices, capped at 1,048,576
 --   recordOf      the record of a table
+--   emptyRecord   the record of an empty table
 --   sameRecord    two records say the same
 --   badTable      the test of 2 BAD TABLE; badEntries its part on the used entries
 --   full          the test of 3 FULL
@@ -24,6 +25,7 @@ pub use declared.Added.{Added}
 unfoldable pub use Refusals.{
   roomOf,
   recordOf,
+  emptyRecord,
   sameRecord,
   badEntries,
   badTable,

@@ -17,6 +17,10 @@ roomOf ks ws = min (min (length ks) (length ws)) mostEntries
 abbrev pub recordOf : List Entry → Record
 recordOf es = record { used = length es; pixels = pixelsOf es }
 
+-- the record of an empty table
+abbrev pub emptyRecord : Record
+emptyRecord = record { used = 0; pixels = 0 }
+
 -- two records say the same
 abbrev pub sameRecord : Record → Record → Bool
 sameRecord a b = eqb (a .used) (b .used) && eqb (a .pixels) (b .pixels)

@@ -3,7 +3,7 @@ use mathlib.Core.List.{[], _∷_}
 use native.Mathlib.Omega.{arith}
 use borrow.Author.Needs.{needs}
 use Rattle.headers.specs.{blank}
-use Rattle.listing.specs.Texts.{flagOf}
+use Rattle.lloyd.specs.{flagOf}
 use Rattle.listing.proofs.lines.Lines.{Room, field-room, field-is, field-then}
 use Rattle.listing.proofs.lines.put_head.Statement.{statement}
 use Rattle.listing.proofs.lines.put_head.Tie as tie
@@ -46,7 +46,7 @@ after-rounds c =
 
 -- behind the fourth for two
 after-flag : (c : tie.After-put-field4) → Room 2 (c .put-field4 .result) (c .put-field4 .last .0)
-after-flag c = field-room 2 (c .before .flag .result) blank (after-rounds (third c)) (c .put-field4 .ensures)
+after-flag c = field-room 2 (c .before .flag-of .result) blank (after-rounds (third c)) (c .put-field4 .ensures)
 
 -- behind the fifth for the last
 after-total : (c : tie.After-put-field5) → Room 1 (c .put-field5 .result) (c .put-field5 .last .0)
@@ -65,8 +65,8 @@ put-field-requires-2 c κs = omega (arith, after-used (c .before .before .before
 put-field-requires-3 : tie.Need-put-field-requires-3
 put-field-requires-3 c κs = omega (arith, after-pixels (c .before .before .before))
 
-flag-requires : tie.Need-flag-requires
-flag-requires c κs = search needs
+flag-of-requires : tie.Need-flag-of-requires
+flag-of-requires c κs = search needs
 
 put-field-requires-4 : tie.Need-put-field-requires-4
 put-field-requires-4 c κs = omega (arith, after-rounds (c .before .before .before .before))
@@ -89,7 +89,7 @@ returns c =
     let a = st (first p2) .args in
     let last = c .before .before .put-last .ensures in
     let tail = field-then (a .total) (a .distances) [] (p5 .put-field5 .ensures) last in
-    let flagged = field-is blank (p4 .before .flag .ensures) (p4 .put-field4 .ensures) in
+    let flagged = field-is blank (p4 .before .flag-of .ensures) (p4 .put-field4 .ensures) in
     field-then (a .used) (a .pixels) (a .rounds ∷ flagOf (a .settled) ∷ a .total ∷ a .distances ∷ [])
     (first p2 .put-field .ensures)
     (field-then (a .pixels) (a .rounds) (flagOf (a .settled) ∷ a .total ∷ a .distances ∷ []) (p2 .put-field2 .ensures)
@@ -103,7 +103,7 @@ put-head-spec =
     put-field-requires
     put-field-requires-2
     put-field-requires-3
-    flag-requires
+    flag-of-requires
     put-field-requires-4
     put-field-requires-5
     put-last-requires

@@ -1,0 +1,6 @@
+-- how outcomes cross in arrays
+pub mod Arrays
+-- what a refusal leaves in slices and arrays
+pub mod Refusing
+-- what is shown of the boundary
+pub mod Promises

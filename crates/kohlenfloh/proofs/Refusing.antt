@@ -1,0 +1,97 @@
+-- What a refusal leaves in the slices and arrays of the boundary: that of the call beneath, laid into arrays.
+use Prim.Native.Nat.{ℕ}
+use mathlib.Core.List.{List, [], _∷_}
+use mathlib.Core.Bool.{true}
+use mathlib.Core.Path.{_≡_, refl, ap, sym, _∙_}
+use lib.Ieee.{Float}
+use lib.ListN.{replicate}
+use Rattle.refusal.specs.{Refusal, numberOf}
+use Rattle.shades.specs.{mostCoordinates}
+use Rattle.figures.specs.{zeroFigure}
+use Rattle.table.specs.{Record, handsBack, addStrip}
+use Rattle.table.proofs.Promises as table
+use Rattle.rounds.specs.{State}
+use Rattle.lloyd.specs.{RoundOutcome, keptRound, plainRound, shortRound, runOf}
+use Rattle.lloyd.proofs.Promises as lloyd
+use Rattle.mapping.specs.{mapStrip}
+use Rattle.mapping.proofs.Promises as mapping
+use Rattle.headers.specs.{headerOf, offsetIn}
+use Rattle.p6.specs.{readPicture}
+use Rattle.p6.proofs.Promises as p6
+use Rattle.kohlenfloh.specs.Arrays.{
+  recordIn,
+  recordNumbers,
+  roundNumbers,
+  runNumbers,
+  mapNumbers,
+  mapFigures,
+  pictureNumbers,
+}
+use Rattle.kohlenfloh.specs.Crossing.{AddCrosses, RoundCrosses, RunCrosses, MapCrosses, PictureCrosses}
+
+-- a record laid into an array is read from it again
+pub record-kept : (rec : Record) → recordIn (recordNumbers rec) ≡ rec
+record-kept rec = refl
+
+-- an add that hands everything back
+pub add-refused : (s ks ws strip : List ℕ) (n : Refusal) → handsBack (numberOf n) ≡ true
+    → {rec ks′ ws′ t : List ℕ} → AddCrosses (addStrip (recordIn s) ks ws strip) (numberOf n) rec ks′ ws′ t
+    → (rec ≡ recordNumbers (recordIn s)) × (ks′ ≡ ks) × (ws′ ≡ ws) × (t ≡ 0 ∷ [])
+add-refused s ks ws strip n back c =
+    let e = table.refused-as-it-came (recordIn s) ks ws strip n back (sym (c .number)) in (
+      c .rec-is ∙ ap (λ o. recordNumbers (o .answer .rec)) e,
+      c .keys-are ∙ ap (λ o. o .keys) e,
+      c .weights-are ∙ ap (λ o. o .weights) e,
+      c .taken-is ∙ ap (λ o. o .answer .taken ∷ []) e,
+    )
+
+-- a round whose outcome is that of a refusal
+round-refused : {o : RoundOutcome} (a : State) (n : ℕ) → o ≡ keptRound a n → {cs ms s : List ℕ} → RoundCrosses o n cs ms s
+    → (cs ≡ a .coordinates) × (ms ≡ a .members) × (s ≡ 0 ∷ 0 ∷ 0 ∷ [])
+round-refused a n e c = (
+  c .coordinates-are ∙ ap (λ o. o .state .coordinates) e,
+  c .members-are ∙ ap (λ o. o .state .members) e,
+  c .answer-is ∙ ap (λ o. roundNumbers (o .answer)) e,
+)
+
+-- a plain round
+pub plain-refused : (rec : Record) (ks ws : List ℕ) (a : State) (n : Refusal) {cs ms s : List ℕ}
+    → RoundCrosses (plainRound rec ks ws a) (numberOf n) cs ms s
+    → (cs ≡ a .coordinates) × (ms ≡ a .members) × (s ≡ 0 ∷ 0 ∷ 0 ∷ [])
+plain-refused rec ks ws a n c =
+    round-refused a (numberOf n) (lloyd.plain-refused rec ks ws a n (sym (c .number))) c
+
+-- a shortened round
+pub short-refused : (rec : Record) (ks ws : List ℕ) (a : State) (n : Refusal) {cs ms s : List ℕ}
+    → RoundCrosses (shortRound rec ks ws a) (numberOf n) cs ms s
+    → (cs ≡ a .coordinates) × (ms ≡ a .members) × (s ≡ 0 ∷ 0 ∷ 0 ∷ [])
+short-refused rec ks ws a n c =
+    round-refused a (numberOf n) (lloyd.short-refused rec ks ws a n (sym (c .number))) c
+
+-- a run
+pub run-refused : (rec : Record) (ks ws : List ℕ) (k limit : ℕ) (ms ts : List ℕ) (n : Refusal)
+    {ms′ ts′ shades s : List ℕ} → RunCrosses (runOf rec ks ws k limit ms ts) (numberOf n) ms′ ts′ shades s
+    → (ms′ ≡ ms) × (ts′ ≡ ts) × (shades ≡ replicate mostCoordinates 0) × (s ≡ 0 ∷ 0 ∷ 0 ∷ 0 ∷ [])
+run-refused rec ks ws k limit ms ts n c =
+    let e = lloyd.run-refused rec ks ws k limit ms ts n (sym (c .number)) in (
+      c .members-are ∙ ap (λ o. o .members) e,
+      c .totals-are ∙ ap (λ o. o .totals) e,
+      c .shades-are ∙ ap (λ o. o .answer .shades) e,
+      c .answer-is ∙ ap (λ o. runNumbers (o .answer)) e,
+    )
+
+-- a mapping
+pub map-refused : (strip p d : List ℕ) (first : ℕ) (n : Refusal) {x s : List ℕ} {m : List Float}
+    → MapCrosses (mapStrip strip p d first) (numberOf n) x s m
+    → (x ≡ d) × (s ≡ 0 ∷ 0 ∷ 0 ∷ 0 ∷ 0 ∷ []) × (m ≡ zeroFigure ∷ zeroFigure ∷ zeroFigure ∷ zeroFigure ∷ [])
+map-refused strip p d first n c =
+    let e = mapping.map-refused-kept strip p d first n (sym (c .number)) in (
+      c .index-is ∙ ap (λ o. o .index) e,
+      c .answer-is ∙ ap (λ o. mapNumbers (o .answer)) e,
+      c .means-are ∙ ap (λ o. mapFigures (o .answer)) e,
+    )
+
+-- a picture
+pub picture-refused : (input : List ℕ) (n : Refusal) {s : List ℕ}
+    → PictureCrosses (readPicture input) (numberOf n) s → s ≡ offsetIn (headerOf input) ∷ 0 ∷ 0 ∷ 0 ∷ []
+picture-refused input n c = c .answer-is ∙ ap pictureNumbers (p6.picture-refused-answers input n (sym (c .number)))

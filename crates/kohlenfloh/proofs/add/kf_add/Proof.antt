@@ -1,0 +1,29 @@
+use borrow.Author.Needs.{needs}
+use Rattle.kohlenfloh.proofs.Arrays.{add-crosses}
+use Rattle.kohlenfloh.proofs.add.kf_add.Statement.{statement}
+use Rattle.kohlenfloh.proofs.add.kf_add.Tie as tie
+
+record-in-requires : tie.Need-record-in-requires
+record-in-requires c κs = search needs
+
+add-strip-requires : tie.Need-add-strip-requires
+add-strip-requires c κs = search needs
+
+cast-result : tie.Need-cast-result
+cast-result c = search needs
+
+same-length : tie.Need-same-length
+same-length c = search needs
+
+same-length-2 : tie.Need-same-length-2
+same-length-2 c = search needs
+
+returns : tie.Need-returns
+returns c =
+    let p = c .before .before .before .before .before .before .before in
+    add-crosses (p .before .before .before .record-in .ensures) (p .add-strip .ensures)
+
+pub kf-add-spec : {M : Type 1} → statement M
+kf-add-spec =
+    tie.close
+    (tie.spec record-in-requires add-strip-requires cast-result same-length same-length-2 returns)

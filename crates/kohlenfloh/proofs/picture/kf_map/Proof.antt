@@ -1,0 +1,35 @@
+use borrow.Author.Needs.{needs}
+use Rattle.kohlenfloh.proofs.Arrays.{map-crosses}
+use Rattle.kohlenfloh.proofs.picture.kf_map.Statement.{statement}
+use Rattle.kohlenfloh.proofs.picture.kf_map.Tie as tie
+
+map-strip-requires : tie.Need-map-strip-requires
+map-strip-requires c κs = search needs
+
+has-mean-requires : tie.Need-has-mean-requires
+has-mean-requires c κs = search needs
+
+figure-in-requires : tie.Need-figure-in-requires
+figure-in-requires c κs = search needs
+
+cast-result : tie.Need-cast-result
+cast-result c = search needs
+
+same-length : tie.Need-same-length
+same-length c = search needs
+
+returns : tie.Need-returns
+returns c =
+    let p = c .before .before .before .before .before .before .before .before .before in
+    map-crosses (p .map-strip .ensures) (c .before .before .before .before .has-mean .ensures) (c .before .before .figure-in .ensures)
+
+pub kf-map-spec : {M : Type 1} → statement M
+kf-map-spec =
+    tie.close
+    (tie.spec
+    map-strip-requires
+    has-mean-requires
+    figure-in-requires
+    cast-result
+    same-length
+    returns)

@@ -1,0 +1,46 @@
+use borrow.Author.Needs.{needs}
+use Rattle.kohlenfloh.proofs.Arrays.{run-crosses}
+use mathlib.Core.Path.{ap}
+use Rattle.lloyd.specs.{runOf}
+use Rattle.kohlenfloh.proofs.round.kf_run.Statement.{statement}
+use Rattle.kohlenfloh.proofs.round.kf_run.Tie as tie
+
+record-in-requires : tie.Need-record-in-requires
+record-in-requires c κs = search needs
+
+run-requires : tie.Need-run-requires
+run-requires c κs = search needs
+
+flag-of-requires : tie.Need-flag-of-requires
+flag-of-requires c κs = search needs
+
+cast-result : tie.Need-cast-result
+cast-result c = search needs
+
+same-length : tie.Need-same-length
+same-length c = search needs
+
+same-length-2 : tie.Need-same-length-2
+same-length-2 c = search needs
+
+returns : tie.Need-returns
+returns c =
+    let p = c .before .before .before .before .before .before .before .before in
+    let q = p .before .before .before in
+    let s = q .before .before .before .before .before .args in
+    run-crosses
+    (ap (λ rec. runOf rec (s .keys .now) (s .weights .now) (s .count) (s .limit) (s .members .now) (s .totals .now))
+    (q .record-in .ensures))
+    (p .run .ensures) (c .before .before .flag-of .ensures)
+
+pub kf-run-spec : {M : Type 1} → statement M
+kf-run-spec =
+    tie.close
+    (tie.spec
+    record-in-requires
+    run-requires
+    flag-of-requires
+    cast-result
+    same-length
+    same-length-2
+    returns)

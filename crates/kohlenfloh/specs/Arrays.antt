@@ -1,0 +1,45 @@
+-- How records and answers lie in arrays.
+use Prim.Native.Nat.{ℕ}
+use mathlib.Core.List.{List, [], _∷_}
+use lib.Ieee.{Float}
+use lib.ListN.{getD}
+use Rattle.table.specs.{Record}
+use Rattle.lloyd.specs.{Rounded, Ran, flagOf}
+use Rattle.figures.specs.declared.Mean.{Mean}
+use Rattle.figures.specs.declared.Mean.the-variants.{NoPixels, Value}
+use Rattle.figures.specs.{zeroFigure, meanNumber}
+use Rattle.mapping.specs.{Mapped}
+use Rattle.p6.specs.{Picture}
+
+-- the record in an array: used entries, pixels
+abbrev pub recordIn : List ℕ → Record
+recordIn s = record { used = getD s 0 0; pixels = getD s 1 0 }
+
+-- a record as an array
+abbrev pub recordNumbers : Record → List ℕ
+recordNumbers rec = rec .used ∷ rec .pixels ∷ []
+
+-- the answer of a round: total, shades moved, distances
+abbrev pub roundNumbers : Rounded → List ℕ
+roundNumbers r = r .total ∷ r .moved ∷ r .distances ∷ []
+
+-- the answer of a run, its shades apart: rounds made, settled as 1 or 0, distances, final total
+abbrev pub runNumbers : Ran → List ℕ
+runNumbers r = r .rounds ∷ flagOf (r .settled) ∷ r .distances ∷ r .total ∷ []
+
+-- the errors of a mapping: the whole, R, G, B; then 1 where there is a mean, 0 for "no pixels"
+abbrev pub mapNumbers : Mapped → List ℕ
+mapNumbers r = r .error ∷ r .errors .red ∷ r .errors .green ∷ r .errors .blue ∷ meanNumber (r .mean) ∷ []
+
+-- a mean's figure, zero for "no pixels"
+abbrev pub figureIn : Mean → Float
+figureIn NoPixels = zeroFigure
+figureIn (Value x) = x
+
+-- the figures of a mapping: the mean, then those of R, G, B
+abbrev pub mapFigures : Mapped → List Float
+mapFigures r = figureIn (r .mean) ∷ r .means .red ∷ r .means .green ∷ r .means .blue ∷ []
+
+-- the answer of a reading: offset, width, height, the raster's first place
+abbrev pub pictureNumbers : Picture → List ℕ
+pictureNumbers p = p .offset ∷ p .width ∷ p .height ∷ p .start ∷ []

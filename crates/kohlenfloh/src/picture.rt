@@ -1,0 +1,91 @@
+// Palettes, index pictures and P6 pictures across the boundary.
+ghost use mathlib.Core.Path.{_≡_};
+ghost use Rattle.palette.specs.{PaletteMeets, paletteFromShades};
+ghost use Rattle.figures.specs.{meanNumber};
+ghost use Rattle.mapping.specs.{mapStrip};
+ghost use Rattle.p6.specs.{readPicture};
+ghost use Rattle.kohlenfloh.specs.Arrays.{figureIn};
+ghost use Rattle.kohlenfloh.specs.Crossing.{MapCrosses, PictureCrosses};
+use figures::Mean;
+
+// The palette of some shades: palette::palette_from_shades.
+// Refuses, in this order: 4 BAD COUNT, 8 BAD CENTRE, 7 SHORT ROOM, with the palette as it came.
+#[no_mangle]
+pub extern "C" fn kf_palette(coordinates: &[u32], palette: &mut [u8]) -> u32
+    ensures { λ r. ⌜ PaletteMeets
+        (paletteFromShades (now (coordinates .entry)) (now (palette .entry)))
+        r (now (palette .exit)) ⌝ }
+{
+    palette::palette_from_shades(coordinates, palette) as u32
+}
+
+// 1 where there is a mean, 0 for "no pixels".
+fn has_mean(mean: Mean) -> u64
+    ensures { λ r. ⌜ r ≡ meanNumber mean ⌝ }
+{
+    match mean {
+        Mean::NoPixels => 0,
+        Mean::Value(_) => 1,
+    }
+}
+
+// The mean, zero for "no pixels".
+fn figure_in(mean: Mean) -> f64
+    ensures { λ r. ⌜ r ≡ figureIn mean ⌝ }
+{
+    match mean {
+        Mean::NoPixels => 0.0,
+        Mean::Value(x) => x,
+    }
+}
+
+// Maps a strip into its stretch of the index picture: mapping::map_strip. `answer` receives the
+// error, that of R, of G and of B, and 1 where there is a mean; `means` the mean and those of R, G
+// and B.
+// Refuses, in this order: 1 BAD STRIP, 10 BAD PALETTE, 11 MANY PIXELS, 7 SHORT ROOM, with zeros in
+// answer and means and the index picture as it came.
+#[no_mangle]
+pub extern "C" fn kf_map(
+    strip: &[u8],
+    palette: &[u8],
+    index: &mut [u8],
+    first: usize,
+    answer: &mut [u64; 5],
+    means: &mut [f64; 4],
+) -> u32
+    ensures { λ r. ⌜ MapCrosses
+        (mapStrip (now (strip .entry)) (now (palette .entry)) (now (index .entry)) first)
+        r (now (index .exit)) (now (answer .exit)) (now (means .exit)) ⌝ }
+{
+    let a = mapping::map_strip(strip, palette, index, first);
+    let mean = a.mean;
+    let errors = a.errors;
+    let channels = a.means;
+    *answer = [
+        a.error,
+        errors.red,
+        errors.green,
+        errors.blue,
+        has_mean(mean),
+    ];
+    *means = [figure_in(mean), channels.red, channels.green, channels.blue];
+    a.refusal as u32
+}
+
+// Reads a P6 picture: p6::read_picture. `answer` receives the offset, width, height and the first
+// place of the raster.
+// Refuses, in this order: 12 BAD HEADER, 13 BAD SIZE, 14 BAD DEPTH, 15 BAD RASTER, with zeros in
+// the answer, but for the offset of 12.
+#[no_mangle]
+pub extern "C" fn kf_picture(input: &[u8], answer: &mut [u64; 4]) -> u32
+    ensures { λ r. ⌜ PictureCrosses (readPicture (now (input .entry))) r (now (answer .exit)) ⌝ }
+{
+    let a = p6::read_picture(input);
+    *answer = [
+        a.offset as u64,
+        a.width as u64,
+        a.height as u64,
+        a.start as u64,
+    ];
+    a.refusal as u32
+}

@@ -1,0 +1,119 @@
+/* order COUNT < PICTURE.ppm: the shades of a P6 picture, from C.
+ *
+ * The whole way through the library: read the picture, fill the table, make the run, make the palette, map the picture,
+ * count the pixels of each shade. Prints what the listing program prints, for pictures of any size that the library
+ * takes. A refusal is one line on standard error, and its number the exit status.
+ *
+ *   cc -O2 -Iinclude examples/order.c -Ltarget/staticlib -lkohlenfloh -o order
+ */
+#include "kohlenfloh.h"
+
+#include <inttypes.h>
+#include <stdio.h>
+#include <stdlib.h>
+
+/* Memory, or an end of the program. */
+static void *room(size_t bytes)
+{
+    void *p = calloc(bytes + 1, 1);
+    if (p == NULL) {
+        fprintf(stderr, "order: no memory\n");
+        exit(71);
+    }
+    return p;
+}
+
+/* Ends the program by a refusal, if there is one. */
+static void check(const char *job, uint32_t number)
+{
+    if (number != KF_DONE) {
+        fprintf(stderr, "order: %s refused %" PRIu32 "\n", job, number);
+        exit((int)number);
+    }
+}
+
+/* All of standard input. */
+static uint8_t *all_input(size_t *length)
+{
+    size_t space = 1 << 16, used = 0;
+    uint8_t *bytes = room(space);
+    for (;;) {
+        size_t n = fread(bytes + used, 1, space - used, stdin);
+        used += n;
+        if (n == 0) {
+            break;
+        }
+        if (used == space) {
+            uint8_t *wider = realloc(bytes, space * 2);
+            if (wider == NULL) {
+                fprintf(stderr, "order: no memory\n");
+                exit(71);
+            }
+            bytes = wider;
+            space *= 2;
+        }
+    }
+    *length = used;
+    return bytes;
+}
+
+int main(int argc, char **argv)
+{
+    if (argc != 2) {
+        fprintf(stderr, "usage: order COUNT < PICTURE.ppm\n");
+        return 64;
+    }
+    size_t count = (size_t)strtoul(argv[1], NULL, 10);
+
+    /* the picture: its raster is that stretch of the input, uncopied */
+    size_t length;
+    uint8_t *input = all_input(&length);
+    uint64_t picture[4];
+    check("the picture", kf_picture(input, length, picture));
+    const uint8_t *raster = input + picture[3];
+    size_t raster_length = length - (size_t)picture[3];
+    size_t pixels = raster_length / 3;
+
+    /* the table: no more entries than pixels */
+    size_t entries = pixels < KF_MOST_ENTRIES ? pixels : KF_MOST_ENTRIES;
+    uint32_t *keys = room(entries * sizeof *keys);
+    uint32_t *weights = room(entries * sizeof *weights);
+    uint64_t record[2] = {0, 0};
+    uint64_t taken[1];
+    check("the table", kf_add(record, keys, entries, weights, entries, raster, raster_length, taken));
+
+    /* the run, with the usual limit */
+    uint32_t *members = room(entries * sizeof *members);
+    uint64_t totals[KF_USUAL_LIMIT];
+    uint32_t shades[192];
+    uint64_t run[4];
+    check("the run", kf_run(record, keys, entries, weights, entries, count, 0, members, entries, totals, KF_USUAL_LIMIT,
+                            shades, run));
+
+    /* the palette, and the index picture */
+    uint8_t palette[KF_MOST_COORDINATES];
+    check("the palette", kf_palette(shades, 3 * count, palette, sizeof palette));
+    uint8_t *index = room(pixels);
+    uint64_t error[5];
+    double means[4];
+    check("the mapping", kf_map(raster, raster_length, palette, 3 * count, index, pixels, 0, error, means));
+
+    /* the order: the pixels of each shade */
+    uint64_t mapped[KF_MOST_SHADES] = {0};
+    for (size_t i = 0; i < pixels; i++) {
+        mapped[index[i]]++;
+    }
+    printf("%" PRIu64 " %" PRIu64 " %" PRIu64 " %" PRIu64 " %" PRIu64 " %" PRIu64 "\n", record[0], record[1], run[0],
+           run[1], run[3], run[2]);
+    for (size_t q = 0; q < count; q++) {
+        printf("%zu %d %d %d %" PRIu64 "\n", q, palette[3 * q], palette[3 * q + 1], palette[3 * q + 2], mapped[q]);
+    }
+    printf("%" PRIu64 "\n", error[0]);
+
+    free(input);
+    free(keys);
+    free(weights);
+    free(members);
+    free(index);
+    return 0;
+}
