@@ -1,0 +1,68 @@
+//! What the program tells of itself.
+
+/// The lines that a wrong command line is answered with.
+pub const USAGE: &str = "\
+usage: kohlenfloh shades K [PICTURE.ppm] [--limit N]
+                  [--index FILE] [--palette FILE] [--preview FILE] [--sheet FILE]
+`kohlenfloh --help` tells what these are";
+
+/// The answer to --version.
+pub const VERSION: &str = concat!("kohlenfloh ", env!("CARGO_PKG_VERSION"), "\n");
+
+/// The answer to --help.
+pub const HELP: &str = "\
+kohlenfloh - the shades of a drawing, and the pixels of each
+
+usage: kohlenfloh shades K [PICTURE.ppm] [options]
+
+Reduces a picture to K shades and prints the order sheet: for each shade its
+number, its levels R, G and B, the pixels that have it, and its share. The
+pixels are the yarn to be bought, and they sum to the picture's pixels. The
+same picture and the same K give the same sheet every time: what is computed
+comes from a library that is proved.
+
+  K              how many shades, 1 to 64
+  PICTURE.ppm    a P6 picture without comments, depth 255, at most 16,777,216
+                 pixels with at most 1,048,576 colours; `-` or no name means
+                 standard input
+
+Options
+  --limit N        at most N rounds, 1 to 200; 0 means 20, as does no --limit
+  --index FILE     the index picture, P5: each pixel's shade as its number
+  --palette FILE   the shades as a P6 picture, K wide and 1 high
+  --preview FILE   the picture in its shades, P6
+  --sheet FILE     the order sheet as a drawing, SVG
+  --help           this text
+  --version        the program's version
+
+Files are written only after everything was accepted. Each one is written
+beside its place and then renamed, so a failure leaves a former file whole.
+What is no regular file (a pipe, a device) is written as it stands.
+
+On the order sheet, \"settled\" means that the last round moved no shade. The
+error is the sum of squared level differences between the picture and its
+shades, and the mean square error is the error divided by the pixels. Shares
+and means are rounded to two digits by whole-number arithmetic, halves up.
+
+Exit status
+   0  done
+   3  FULL: more than 1,048,576 colours
+   4  BAD COUNT: K is not 1 to 64
+   5  FEW COLOURS: the picture has fewer colours than K
+   6  BAD LIMIT: N is above 200
+  12  BAD HEADER: no P6 header; the message says at which byte
+  13  BAD SIZE: a side is not 1 to 16,384, or too many pixels; or the input
+      is longer than 64 MiB, which is tested first
+  14  BAD DEPTH: the depth is not 255
+  15  BAD RASTER: the raster is shorter or longer than the sides say
+  64  the command line is wrong
+  66  the picture cannot be read
+  73  an output cannot be written
+
+Examples
+  Six shades of a rug, the sheet on the screen and as a drawing:
+    kohlenfloh shades 6 rug.ppm --sheet rug.svg
+
+  A PNG by way of netpbm, with as many rounds as there can be:
+    pngtopnm rug.png | kohlenfloh shades 12 --limit 200 --preview small.ppm
+";

@@ -1,0 +1,57 @@
+//! The way from a picture to its index picture, strip by strip.
+use kohlenfloh::{Palette, Picture, Refusal, Run, Table};
+
+use crate::digits::grouped;
+use crate::failure::{Case, Failure};
+use crate::progress::Progress;
+
+/// The most bytes of a strip. A strip is as many whole rows as fit, and the longest row has 48 KiB. Each add tests the
+/// whole table, so strips are long; they are short enough that progress shows.
+const STRIP_BYTES: usize = 4 * 1024 * 1024;
+
+/// All that was found of a picture.
+pub struct Work<'a> {
+    /// The picture.
+    pub picture: Picture<'a>,
+    /// How many colours it has.
+    pub colours: usize,
+    /// The run that found its shades.
+    pub run: Run,
+    /// The shades in whole levels.
+    pub palette: Palette,
+    /// The number of each pixel's shade.
+    pub index: Vec<u8>,
+    /// The mapping's error.
+    pub error: u64,
+}
+
+/// Finds the shades of a picture and maps it to them. The name is the one that a refusal tells.
+pub fn find_shades<'a>(name: &str, bytes: &'a [u8], count: usize, limit: usize) -> Result<Work<'a>, Failure> {
+    let mut table = Table::with_room(Table::MOST_ENTRIES);
+    make(&mut table, bytes, count, limit).map_err(|refusal| {
+        let case = Case { bytes: bytes.len(), pixels: table.pixels(), colours: table.used(), count, limit };
+        Failure::Refused { name: name.into(), refusal, meaning: case.meaning(refusal) }
+    })
+}
+
+/// Picture, table, run, palette and mapping, as far as the library accepts them.
+fn make<'a>(table: &mut Table, bytes: &'a [u8], count: usize, limit: usize) -> Result<Work<'a>, Refusal> {
+    let progress = Progress::start();
+    let picture = Picture::read(bytes)?;
+    let strip_pixels = picture.width() * (STRIP_BYTES / (3 * picture.width()));
+    let strips = picture.raster().chunks(3 * strip_pixels);
+    for (number, strip) in strips.clone().enumerate() {
+        progress.part("adding pixels", number, strips.len());
+        table.add(strip)?;
+    }
+    progress.say(&format!("looking for {count} shades of {} colours", grouped(table.used() as u64)));
+    let run = table.run(count, limit)?;
+    let palette = run.shades.palette()?;
+    let mut index = vec![0; picture.pixels()];
+    let mut error = 0;
+    for (number, strip) in strips.clone().enumerate() {
+        progress.part("mapping pixels", number, strips.len());
+        error += palette.map_into(strip, &mut index, number * strip_pixels)?.error;
+    }
+    Ok(Work { picture, colours: table.used(), run, palette, index, error })
+}

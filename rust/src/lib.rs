@@ -1,0 +1,98 @@
+//! The shades of a drawing, certain: a safe face over the proved library `libkohlenfloh.a`.
+//!
+//! Artwork is reduced to a few shades, the pixels of each shade are counted, and the count becomes kilos of yarn at
+//! the dyer. The way there has four steps, and every step is a call of a library whose functions are proved against
+//! their definitions. The whole way, on a picture of three pixels (0,0,0) and one pixel (10,0,0):
+//!
+//! ```
+//! use kohlenfloh::{Picture, Refusal, Table};
+//!
+//! # fn main() -> Result<(), Refusal> {
+//! // A P6 picture. Its raster is a stretch of the input, uncopied.
+//! let input = b"P6\n2 2\n255\n\0\0\0\0\0\0\0\0\0\x0a\0\0";
+//! let picture = Picture::read(input)?;
+//! assert_eq!((picture.width(), picture.height()), (2, 2));
+//!
+//! // The table: each colour once, by its key 65536 R + 256 G + B, with its weight in pixels.
+//! let mut table = Table::with_room(16);
+//! assert_eq!(table.add(picture.raster())?, 4);
+//! assert_eq!(table.keys(), [0, 655_360]);
+//! assert_eq!(table.weights(), [3, 1]);
+//!
+//! // A run that looks for two shades, in as many rounds as a limit of 0 allows, which is 20.
+//! let run = table.run(2, 0)?;
+//! assert_eq!(run.shades.coordinates(), [0, 0, 0, 160, 0, 0]);
+//! assert_eq!(run.totals, [4800, 0]);
+//! assert!(run.settled);
+//! assert_eq!((run.rounds, run.distances, run.total), (2, 5, 0));
+//!
+//! // One shade is (40,0,0) in sixteenths of a level. Its palette is (3,0,0), in whole levels.
+//! let palette = table.run(1, 0)?.shades.palette()?;
+//! assert_eq!(palette.bytes(), [3, 0, 0]);
+//!
+//! // Each pixel gets the number of its nearest palette entry; the error is the sum of squared level differences.
+//! let mapped = palette.map(picture.raster())?;
+//! assert_eq!(mapped.index, [0, 0, 0, 0]);
+//! assert_eq!(mapped.figures.error, 76);
+//! assert_eq!(mapped.figures.mean, Some(19.0));
+//! # Ok(())
+//! # }
+//! ```
+//!
+//! # What may be refused
+//!
+//! Every input is accepted or refused by one of fifteen numbers, each a case of [`Refusal`]. The library alone judges:
+//! no rule is written a second time here. A [`Table`], [`Shades`] or [`Palette`] made from a caller's own numbers is
+//! handed to the library before it is given out, so what these types hold is good, and a refusal is met at the place
+//! that this table names. A refused call changes nothing, except that [`Refusal::Full`] leaves the pixels taken so far.
+//!
+//! | Call | Refusals |
+//! |---|---|
+//! | [`Picture::read`] | 12 BAD HEADER, 13 BAD SIZE, 14 BAD DEPTH, 15 BAD RASTER |
+//! | [`Table::add`] | 1 BAD STRIP, 3 FULL |
+//! | [`Table::run`] | 4 BAD COUNT, 5 FEW COLOURS, 6 BAD LIMIT |
+//! | [`Table::plain_round`] | 7 SHORT ROOM |
+//! | [`Table::short_round`] | 7 SHORT ROOM, 9 BAD MEMBER |
+//! | [`Shades::palette`] | none |
+//! | [`Palette::map`] | 1 BAD STRIP, 11 MANY PIXELS |
+//! | [`Palette::map_into`] | 1 BAD STRIP, 11 MANY PIXELS, 7 SHORT ROOM |
+//! | [`Table::from_parts`] | 2 BAD TABLE |
+//! | [`Shades::from_coordinates`] | 4 BAD COUNT, 8 BAD CENTRE |
+//! | [`Palette::from_bytes`] | 10 BAD PALETTE |
+//!
+//! # Threads and stack
+//!
+//! The library keeps nothing between calls, so calls in several threads do not meet. A call uses less than about 1 MiB
+//! of stack, which the main thread and the threads of [`std::thread`] have by default.
+//!
+//! # Building
+//!
+//! The build proves and compiles the library with the Rattle toolchain's `rt`, or takes the `libkohlenfloh.a` in the
+//! folder that the environment variable `KOHLENFLOH_ARCHIVE` names. With the library comes a command of the same name:
+//! `cargo run --release -- shades 6 picture.ppm` prints the order sheet of a picture, and `--help` tells the rest.
+//!
+//! # Where things are
+//!
+//! The crate has one file a subject. Unsafe code stands in `calls.rs` alone, where each of the seven functions of
+//! [`raw`] becomes a safe one.
+#![deny(missing_docs)]
+#![deny(unsafe_code)]
+
+#[allow(unsafe_code)]
+mod calls;
+mod mapping;
+mod palette;
+mod picture;
+pub mod raw;
+mod refusal;
+mod rounds;
+mod shades;
+mod table;
+
+pub use mapping::{Figures, Mapped};
+pub use palette::Palette;
+pub use picture::Picture;
+pub use refusal::Refusal;
+pub use rounds::{Round, Run};
+pub use shades::Shades;
+pub use table::{Record, Table};

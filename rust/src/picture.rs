@@ -1,0 +1,57 @@
+//! P6 pictures, read from memory.
+use crate::calls;
+use crate::refusal::Refusal;
+
+/// A P6 picture in the input it was read from: its sides, and its raster as a stretch of that input.
+///
+/// ```
+/// use kohlenfloh::{Picture, Refusal};
+///
+/// let input = b"P6 2 1 255 abcdef";
+/// let picture = Picture::read(input)?;
+/// assert_eq!((picture.width(), picture.height(), picture.pixels()), (2, 1, 2));
+/// assert_eq!(picture.raster(), b"abcdef");
+///
+/// assert_eq!(Picture::read(b"P6 2,1 255 abcdef"), Err(Refusal::BadHeader { offset: 4 }));
+/// assert_eq!(Picture::read(b"P6 2 1 255 abcde"), Err(Refusal::BadRaster));
+/// # Ok::<(), Refusal>(())
+/// ```
+#[derive(Clone, Copy, Debug, PartialEq, Eq)]
+pub struct Picture<'a> {
+    width: usize,
+    height: usize,
+    raster: &'a [u8],
+}
+
+impl<'a> Picture<'a> {
+    /// Reads a P6 picture: the header, then three bytes for each pixel and nothing after them.
+    ///
+    /// Sides are 1 to 16,384, pixels at most 16,777,216, the depth is 255, and comments are not read.
+    ///
+    /// # Refusals
+    /// BAD HEADER, BAD SIZE, BAD DEPTH, BAD RASTER.
+    pub fn read(input: &'a [u8]) -> Result<Picture<'a>, Refusal> {
+        let [width, height, place] = calls::picture(input)?;
+        Ok(Picture { width: width as usize, height: height as usize, raster: &input[place as usize..] })
+    }
+
+    /// Pixels in a row.
+    pub fn width(&self) -> usize {
+        self.width
+    }
+
+    /// Rows.
+    pub fn height(&self) -> usize {
+        self.height
+    }
+
+    /// Width times height.
+    pub fn pixels(&self) -> usize {
+        self.width * self.height
+    }
+
+    /// The bytes R, G, B of each pixel, row by row: the stretch of the input that follows the header, uncopied.
+    pub fn raster(&self) -> &'a [u8] {
+        self.raster
+    }
+}

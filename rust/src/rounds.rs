@@ -1,0 +1,141 @@
+//! Single rounds and the run: a table's colours join their nearest shades, and the shades move.
+use crate::calls::{self, Search};
+use crate::refusal::Refusal;
+use crate::shades::Shades;
+use crate::table::Table;
+
+/// The most rounds a run can make, and so the most totals it can leave.
+const MOST_ROUNDS: usize = 200;
+
+/// What a single round answers.
+#[derive(Clone, Copy, Debug, PartialEq, Eq)]
+pub struct Round {
+    /// The sum over colours of weight times distance to the shade joined, before the shades moved.
+    pub total: u64,
+    /// How many shades moved.
+    pub moved: u64,
+    /// How many distances were worked out.
+    pub distances: u64,
+}
+
+/// What a run leaves and answers.
+///
+/// ```
+/// use kohlenfloh::Table;
+///
+/// let mut table = Table::with_room(16);
+/// table.add(&[0, 0, 0, 0, 0, 0, 0, 0, 0, 10, 0, 0])?;
+/// let run = table.run(2, 1)?;
+/// assert_eq!(run.members, [0, 1]);
+/// assert_eq!(run.totals, [4800]);
+/// assert!(!run.settled);
+/// assert_eq!(run.total, 0);
+/// # Ok::<(), kohlenfloh::Refusal>(())
+/// ```
+#[derive(Clone, Debug, PartialEq, Eq)]
+pub struct Run {
+    /// The shades as the last round left them.
+    pub shades: Shades,
+    /// The number of the shade that each used entry joined in the last round.
+    pub members: Vec<u32>,
+    /// The total of each round, in the order of the rounds.
+    pub totals: Vec<u64>,
+    /// Rounds made.
+    pub rounds: usize,
+    /// Whether the last round moved no shade.
+    pub settled: bool,
+    /// The distances worked out in all rounds together.
+    pub distances: u64,
+    /// The final total: the last grouping against the final shades.
+    pub total: u64,
+}
+
+impl Table {
+    /// Looks for so many shades: maximin starting shades, then rounds to the first one that moves no shade, or to the
+    /// limit. A limit of 0 means 20.
+    ///
+    /// ```
+    /// use kohlenfloh::{Refusal, Table};
+    ///
+    /// let mut table = Table::with_room(16);
+    /// table.add(&[0, 0, 0, 0, 0, 0, 0, 0, 0, 10, 0, 0])?;
+    /// let run = table.run(1, 0)?;
+    /// assert_eq!(run.shades.coordinates(), [40, 0, 0]);
+    /// assert_eq!((run.rounds, run.settled, run.total), (1, true, 19_200));
+    /// assert_eq!(table.run(3, 0), Err(Refusal::FewColours));
+    /// # Ok::<(), Refusal>(())
+    /// ```
+    ///
+    /// # Refusals
+    /// BAD COUNT, FEW COLOURS, BAD LIMIT.
+    pub fn run(&self, count: usize, limit: usize) -> Result<Run, Refusal> {
+        let mut members = vec![0; self.used()];
+        let mut totals = vec![0; MOST_ROUNDS];
+        let (coordinates, answer) = calls::run(self.lent(), count, limit, &mut members, &mut totals)?;
+        let [rounds, settled, distances, total] = answer;
+        totals.truncate(rounds as usize);
+        Ok(Run {
+            shades: Shades::held(coordinates[..3 * count].to_vec()),
+            members,
+            totals,
+            rounds: rounds as usize,
+            settled: settled == 1,
+            distances,
+            total,
+        })
+    }
+
+    /// Makes one round in which each colour looks at every shade. The grouping is left in the members, one for each
+    /// used entry, and the shades move.
+    ///
+    /// ```
+    /// use kohlenfloh::{Shades, Table};
+    ///
+    /// let mut table = Table::with_room(16);
+    /// table.add(&[0, 0, 0, 0, 0, 0, 0, 0, 0, 10, 0, 0])?;
+    /// let mut shades = Shades::from_coordinates(&[40, 0, 0, 160, 0, 0])?;
+    /// let mut members = vec![0; table.used()];
+    /// let round = table.plain_round(&mut shades, &mut members)?;
+    /// assert_eq!((round.total, round.moved, round.distances), (4800, 1, 4));
+    /// assert_eq!(members, [0, 1]);
+    /// assert_eq!(shades.coordinates(), [0, 0, 0, 160, 0, 0]);
+    /// # Ok::<(), kohlenfloh::Refusal>(())
+    /// ```
+    ///
+    /// # Refusals
+    /// SHORT ROOM, for members fewer than the used entries.
+    pub fn plain_round(&self, shades: &mut Shades, members: &mut [u32]) -> Result<Round, Refusal> {
+        self.round(Search::Plain, shades, members)
+    }
+
+    /// Makes the same round by the shortened search, which reads each colour's former shade from the members and works
+    /// out fewer distances.
+    ///
+    /// ```
+    /// use kohlenfloh::{Refusal, Shades, Table};
+    ///
+    /// let mut table = Table::with_room(16);
+    /// table.add(&[0, 0, 0, 0, 0, 0, 0, 0, 0, 10, 0, 0])?;
+    /// let mut shades = Shades::from_coordinates(&[0, 0, 0, 160, 0, 0])?;
+    /// let mut members = vec![0, 1];
+    /// let round = table.short_round(&mut shades, &mut members)?;
+    /// assert_eq!((round.total, round.moved, round.distances), (0, 0, 2));
+    ///
+    /// members[1] = 2;
+    /// assert_eq!(table.short_round(&mut shades, &mut members), Err(Refusal::BadMember));
+    /// # Ok::<(), Refusal>(())
+    /// ```
+    ///
+    /// # Refusals
+    /// SHORT ROOM, for members fewer than the used entries; BAD MEMBER.
+    pub fn short_round(&self, shades: &mut Shades, members: &mut [u32]) -> Result<Round, Refusal> {
+        self.round(Search::Short, shades, members)
+    }
+
+    /// One round by either search.
+    fn round(&self, search: Search, shades: &mut Shades, members: &mut [u32]) -> Result<Round, Refusal> {
+        let answer = calls::round(search, self.lent(), shades.coordinates_mut(), members)?;
+        let [total, moved, distances] = answer;
+        Ok(Round { total, moved, distances })
+    }
+}

@@ -1,0 +1,128 @@
+//! The command where it fails: exit statuses, words, and files left as they were.
+mod program;
+
+use std::fs::{self, File};
+
+use program::{printed, program, run, said, Folder, OUTPUTS, RUG};
+
+/// A picture of 1024 by 1025 pixels, each of a colour of its own: one colour more than a table has entries.
+fn too_many_colours() -> Vec<u8> {
+    let raster = (0..1024 * 1025_u32).flat_map(|key| key.to_be_bytes()[1..].to_vec());
+    b"P6 1024 1025 255\n".iter().copied().chain(raster).collect()
+}
+
+#[test]
+fn a_refusal_is_told_and_touches_no_file() {
+    let rug = fs::read(RUG).unwrap();
+    let many = too_many_colours();
+    let cases: [(&[&str], &[u8], i32, &str); 13] = [
+        (&["6"], &many, 3, "3 FULL: the picture has more than 1,048,576 colours; 1,048,576 of its pixels"),
+        (&["0"], &rug, 4, "4 BAD COUNT: 0 shades are wanted, and there can be 1 to 64"),
+        (&["65"], &rug, 4, "4 BAD COUNT: 65 shades"),
+        (&["99999999999999999999999"], &rug, 4, "4 BAD COUNT"),
+        (&["43"], &rug, 5, "5 FEW COLOURS: 43 shades are wanted, and the picture's colours are fewer: 42"),
+        (&["6", "--limit", "201"], &rug, 6, "6 BAD LIMIT: a limit of 201 rounds is wanted"),
+        (&["6"], b"", 12, "12 BAD HEADER: the input ends at offset 0"),
+        (&["6"], b"P6\n# drawn\n", 12, "12 BAD HEADER: the byte at offset 3 cannot"),
+        (&["6"], b"P6 64 96 255", 12, "12 BAD HEADER: the input ends at offset 12"),
+        (&["6"], b"P6 16384 1025 255 ", 13, "13 BAD SIZE"),
+        (&["6"], b"P6 1 1 65535 abcdef", 14, "14 BAD DEPTH: the depth is not 255"),
+        (&["6"], b"P6 2 1 255 abcde", 15, "15 BAD RASTER"),
+        (&["0", "--limit", "999"], b"P6 2 1 255 abcdefg", 15, "15 BAD RASTER"),
+    ];
+    for (arguments, input, status, words) in cases {
+        let folder = Folder::new("refused");
+        OUTPUTS.iter().for_each(|(_, name)| drop(folder.write(name, b"former")));
+        let arguments: Vec<String> =
+            ["shades"].iter().chain(arguments).map(|text| text.to_string()).chain(folder.all_outputs()).collect();
+        let output = run(&arguments, input);
+        assert_eq!(output.status.code(), Some(status), "{arguments:?}");
+        let told = said(&output);
+        assert!(told.starts_with(&format!("kohlenfloh: standard input: refused {words}")), "{told}");
+        assert_eq!((printed(&output), told.lines().count()), ("", 1));
+        assert_eq!(folder.names(), OUTPUTS.map(|(_, name)| name));
+        assert!(OUTPUTS.iter().all(|(_, name)| folder.read(name) == b"former"));
+    }
+}
+
+#[test]
+fn an_input_of_64_mib_is_read_and_a_longer_one_is_refused() {
+    let rest = b"1 1 255 abc";
+    let mut input = b"P6".to_vec();
+    input.resize((64 << 20) - rest.len(), b' ');
+    input.extend(rest);
+    let output = run(&["shades", "1"], &input);
+    assert_eq!(output.status.code(), Some(0), "{}", said(&output));
+    input.push(b'd');
+    let output = run(&["shades", "1"], &input);
+    assert_eq!(output.status.code(), Some(13));
+    assert_eq!(said(&output), "kohlenfloh: standard input: refused 13 BAD SIZE: the input is longer than 64 MiB\n");
+}
+
+#[test]
+fn a_wrong_command_line_is_64() {
+    let cases: [(&[&str], &str); 14] = [
+        (&[], "no command is given"),
+        (&["shade", "6"], "there is no command shade"),
+        (&["shades"], "K, the number of shades, is missing"),
+        (&["shades", "six"], "K, the number of shades, is not a whole number: six"),
+        (&["shades", "+6"], "K, the number of shades, is not a whole number: +6"),
+        (&["shades", ""], "K, the number of shades, is not a whole number: "),
+        (&["shades", "-6"], "there is no option -6"),
+        (&["shades", "6", "--dither"], "there is no option --dither"),
+        (&["shades", "6", "--limit", "1.5"], "--limit wants a whole number of rounds"),
+        (&["shades", "6", "--limit"], "nothing follows --limit"),
+        (&["shades", "6", "--limit", "1", "--limit", "1"], "--limit is given twice"),
+        (&["shades", "6", "--index", "-"], "--index wants the name of a file"),
+        (&["shades", "6", "--index", "x", "--sheet", "x"], "two outputs cannot both be x"),
+        (&["shades", "6", "one.ppm", "two.ppm"], "one picture is read, and two.ppm is one too many"),
+    ];
+    for (arguments, words) in cases {
+        let output = run(arguments, b"");
+        assert_eq!((printed(&output), output.status.code()), ("", Some(64)), "{arguments:?}");
+        assert!(
+            said(&output).starts_with(&format!("kohlenfloh: {words}\nusage: kohlenfloh shades K")),
+            "{arguments:?}"
+        );
+    }
+}
+
+#[test]
+fn a_picture_that_cannot_be_read_is_66() {
+    let folder = Folder::new("unreadable");
+    for path in [folder.path("none.ppm"), folder.path(".")] {
+        let output = run(&["shades", "6", &path, "--index", &folder.path("index.pgm")], b"");
+        assert_eq!((printed(&output), output.status.code()), ("", Some(66)));
+        assert!(said(&output).starts_with(&format!("kohlenfloh: cannot read {path}: ")), "{}", said(&output));
+        assert!(folder.names().is_empty());
+    }
+}
+
+#[test]
+fn a_file_that_cannot_be_written_is_73() {
+    let folder = Folder::new("unwritable");
+    let index = folder.write("index.pgm", b"former");
+    for path in [folder.path("none/preview.ppm"), folder.path(".")] {
+        let output = run(&["shades", "6", RUG, "--index", &index, "--preview", &path], b"");
+        assert_eq!((printed(&output), output.status.code()), ("", Some(73)));
+        let told = said(&output);
+        assert!(told.starts_with(&format!("kohlenfloh: cannot write {path}: ")), "{told}");
+        assert!(told.contains("directory"), "{told}");
+        assert_eq!((folder.names(), folder.read("index.pgm")), (vec!["index.pgm".into()], b"former".to_vec()));
+    }
+}
+
+#[cfg(target_os = "linux")]
+#[test]
+fn a_device_that_takes_nothing_is_73() {
+    use std::os::unix::fs::FileTypeExt;
+    let output = run(&["shades", "6", RUG, "--index", "/dev/full"], b"");
+    assert_eq!((printed(&output), output.status.code()), ("", Some(73)));
+    assert!(said(&output).starts_with("kohlenfloh: cannot write /dev/full: No space left"), "{}", said(&output));
+    assert!(fs::metadata("/dev/full").unwrap().file_type().is_char_device());
+
+    let full = File::options().write(true).open("/dev/full").unwrap();
+    let output = program(&["shades", "6", RUG]).stdout(full).output().unwrap();
+    assert_eq!(output.status.code(), Some(73));
+    assert!(said(&output).starts_with("kohlenfloh: cannot write standard output: No space left"), "{}", said(&output));
+}

@@ -1,0 +1,88 @@
+//! Running the built program, in a folder of its own.
+use std::fs;
+use std::io::Write;
+use std::path::{Path, PathBuf};
+use std::process::{Command, Output, Stdio};
+
+/// The picture that comes with the repository.
+pub const RUG: &str = concat!(env!("CARGO_MANIFEST_DIR"), "/../examples/rug.ppm");
+
+/// The options that name an output file, and the file that the tests name.
+pub const OUTPUTS: [(&str, &str); 4] =
+    [("--index", "index.pgm"), ("--palette", "palette.ppm"), ("--preview", "preview.ppm"), ("--sheet", "sheet.svg")];
+
+/// A folder for one test, removed when the test is done.
+pub struct Folder(PathBuf);
+
+impl Folder {
+    /// An empty folder with a name that no other test uses.
+    pub fn new(name: &str) -> Folder {
+        let path = Path::new(env!("CARGO_TARGET_TMPDIR")).join(format!("{name}-{}", std::process::id()));
+        fs::create_dir(&path).unwrap();
+        Folder(path)
+    }
+
+    /// A path in this folder.
+    pub fn path(&self, name: &str) -> String {
+        self.0.join(name).to_str().unwrap().into()
+    }
+
+    /// Writes a file in this folder and answers its path.
+    pub fn write(&self, name: &str, bytes: &[u8]) -> String {
+        fs::write(self.0.join(name), bytes).unwrap();
+        self.path(name)
+    }
+
+    /// Reads a file in this folder.
+    pub fn read(&self, name: &str) -> Vec<u8> {
+        fs::read(self.0.join(name)).unwrap()
+    }
+
+    /// The names of all files in this folder, sorted.
+    pub fn names(&self) -> Vec<String> {
+        let entries = fs::read_dir(&self.0).unwrap();
+        let mut names: Vec<String> = entries.map(|entry| entry.unwrap().file_name().into_string().unwrap()).collect();
+        names.sort();
+        names
+    }
+
+    /// The arguments that ask for every output in this folder.
+    pub fn all_outputs(&self) -> Vec<String> {
+        OUTPUTS.iter().flat_map(|(option, name)| [option.to_string(), self.path(name)]).collect()
+    }
+}
+
+impl Drop for Folder {
+    fn drop(&mut self) {
+        fs::remove_dir_all(&self.0).unwrap();
+    }
+}
+
+/// The program with its arguments, its three streams piped.
+pub fn program<A: AsRef<str>>(arguments: &[A]) -> Command {
+    let mut command = Command::new(env!("CARGO_BIN_EXE_kohlenfloh"));
+    command.args(arguments.iter().map(AsRef::as_ref));
+    command.stdin(Stdio::piped()).stdout(Stdio::piped()).stderr(Stdio::piped());
+    command
+}
+
+/// Runs the program on some input to its end.
+pub fn run<A: AsRef<str>>(arguments: &[A], input: &[u8]) -> Output {
+    let mut child = program(arguments).spawn().unwrap();
+    let mut stdin = child.stdin.take().unwrap();
+    std::thread::scope(|scope| {
+        // A program that reads no input closes it, and that is no failure of the test.
+        scope.spawn(move || stdin.write_all(input).is_ok());
+        child.wait_with_output().unwrap()
+    })
+}
+
+/// What the program printed on standard output.
+pub fn printed(output: &Output) -> &str {
+    std::str::from_utf8(&output.stdout).unwrap()
+}
+
+/// What the program said on standard error.
+pub fn said(output: &Output) -> &str {
+    std::str::from_utf8(&output.stderr).unwrap()
+}

@@ -1,0 +1,175 @@
+//! Each of the fifteen refusals, met through the safe types, and what is left unchanged by it.
+use kohlenfloh::{Palette, Picture, Record, Refusal, Shades, Table};
+
+/// A table of two colours.
+fn two_colours() -> Table {
+    let mut table = Table::with_room(4);
+    table.add(&[0, 0, 0, 10, 0, 0]).unwrap();
+    table
+}
+
+#[test]
+fn numbers_names_and_sentences_go_together() {
+    let names = [
+        "BAD STRIP",
+        "BAD TABLE",
+        "FULL",
+        "BAD COUNT",
+        "FEW COLOURS",
+        "BAD LIMIT",
+        "SHORT ROOM",
+        "BAD CENTRE",
+        "BAD MEMBER",
+        "BAD PALETTE",
+        "MANY PIXELS",
+        "BAD HEADER",
+        "BAD SIZE",
+        "BAD DEPTH",
+        "BAD RASTER",
+    ];
+    for (number, name) in (1..).zip(names) {
+        let refusal = Refusal::from_number(number).unwrap();
+        assert_eq!((refusal.number(), refusal.name()), (number, name));
+        assert!(refusal.to_string().starts_with(&format!("{number} {name}")));
+        assert!(refusal.to_string().ends_with(refusal.sentence()));
+    }
+    assert_eq!(Refusal::from_number(0), None);
+    assert_eq!(Refusal::from_number(16), None);
+    assert!(Refusal::Full { taken: 7 }.to_string().contains("7 pixels taken"));
+    assert!(Refusal::BadHeader { offset: 9 }.to_string().contains("at offset 9"));
+}
+
+#[test]
+fn bad_strip() {
+    let mut table = two_colours();
+    assert_eq!(table.add(&[1, 2, 3, 4]), Err(Refusal::BadStrip));
+    assert_eq!(table.entries().collect::<Vec<_>>(), [(0, 1), (655_360, 1)]);
+    assert_eq!(Palette::from_bytes(&[1, 2, 3]).unwrap().map(&[1, 2]), Err(Refusal::BadStrip));
+}
+
+#[test]
+fn bad_table() {
+    let cases: [(u64, u64, &[u32], &[u32]); 8] = [
+        (3, 3, &[1, 2], &[1, 1]),
+        (2, 3, &[1, 2], &[3]),
+        (u64::MAX, 1, &[1], &[1]),
+        (1, 1, &[16_777_216], &[1]),
+        (2, 2, &[5, 5], &[1, 1]),
+        (2, 1, &[5, 6], &[1, 0]),
+        (1, 2, &[5], &[1]),
+        (1, 16_777_217, &[5], &[16_777_217]),
+    ];
+    for (used, pixels, keys, weights) in cases {
+        let table = Table::from_parts(Record { used, pixels }, keys.to_vec(), weights.to_vec());
+        assert_eq!(table.unwrap_err(), Refusal::BadTable, "{used} {pixels} {keys:?} {weights:?}");
+    }
+}
+
+#[test]
+fn full_by_room_holds_the_pixels_taken() {
+    let mut table = Table::with_room(2);
+    let strip = [9, 9, 9, 1, 1, 1, 9, 9, 9, 5, 5, 5, 9, 9, 9];
+    assert_eq!(table.add(&strip), Err(Refusal::Full { taken: 3 }));
+    let mut taken = Table::with_room(2);
+    assert_eq!(taken.add(&strip[..9]), Ok(3));
+    assert_eq!(table.record(), taken.record());
+    assert!(table.entries().eq(taken.entries()));
+    assert_eq!(table.add(&[1, 1, 1]), Ok(1));
+    assert_eq!(table.weights(), [2, 2]);
+}
+
+#[test]
+fn full_by_pixels() {
+    let most = Table::MOST_PIXELS;
+    let mut table = Table::from_parts(Record { used: 1, pixels: most - 1 }, vec![0, 0], vec![16_777_215, 0]).unwrap();
+    assert_eq!(table.add(&[0; 9]), Err(Refusal::Full { taken: 1 }));
+    assert_eq!((table.pixels(), table.weights()), (most, [16_777_216].as_slice()));
+    assert_eq!(table.add(&[]), Ok(0));
+}
+
+#[test]
+fn full_table_of_most_entries() {
+    let colours = (0..=Table::MOST_ENTRIES as u32).flat_map(|key| key.to_be_bytes()[1..].to_vec());
+    let strip: Vec<u8> = colours.collect();
+    let mut table = Table::with_room(usize::MAX);
+    assert_eq!(table.add(&strip), Err(Refusal::Full { taken: 1_048_576 }));
+    assert_eq!(table.used(), Table::MOST_ENTRIES);
+    assert!(table.keys().iter().copied().eq(0..1_048_576));
+}
+
+#[test]
+fn bad_count_few_colours_bad_limit_in_their_order() {
+    let table = two_colours();
+    assert_eq!(table.run(0, 0), Err(Refusal::BadCount));
+    assert_eq!(table.run(65, 201), Err(Refusal::BadCount));
+    assert_eq!(table.run(usize::MAX, 0), Err(Refusal::BadCount));
+    assert_eq!(table.run(64, 201), Err(Refusal::FewColours));
+    assert_eq!(table.run(3, 0), Err(Refusal::FewColours));
+    assert_eq!(table.run(2, 201), Err(Refusal::BadLimit));
+    assert_eq!(table.run(2, usize::MAX), Err(Refusal::BadLimit));
+    assert!(table.run(2, 200).is_ok());
+}
+
+#[test]
+fn shades_that_are_none() {
+    assert_eq!(Shades::from_coordinates(&[]), Err(Refusal::BadCount));
+    assert_eq!(Shades::from_coordinates(&[0; 4]), Err(Refusal::BadCount));
+    assert_eq!(Shades::from_coordinates(&[5000; 195]), Err(Refusal::BadCount));
+    assert_eq!(Shades::from_coordinates(&[0, 4081, 0]), Err(Refusal::BadCentre));
+    assert_eq!(Shades::from_coordinates(&[4080; 192]).unwrap().count(), Shades::MOST);
+}
+
+#[test]
+fn short_room_and_bad_member_in_a_round() {
+    let table = two_colours();
+    let mut shades = Shades::from_coordinates(&[0, 0, 0, 80, 0, 0]).unwrap();
+    let before = shades.clone();
+    assert_eq!(table.plain_round(&mut shades, &mut [0]), Err(Refusal::ShortRoom));
+    assert_eq!(table.short_round(&mut shades, &mut [9]), Err(Refusal::ShortRoom));
+    let mut members = [0, 2];
+    assert_eq!(table.short_round(&mut shades, &mut members), Err(Refusal::BadMember));
+    assert_eq!((&shades, members), (&before, [0, 2]));
+    assert!(table.plain_round(&mut shades, &mut members).is_ok());
+    assert_eq!(members, [0, 1]);
+}
+
+#[test]
+fn palettes_that_are_none() {
+    for length in [0, 2, 4, 191, 193, 195] {
+        assert_eq!(Palette::from_bytes(&vec![0; length]), Err(Refusal::BadPalette), "{length}");
+    }
+    assert_eq!(Palette::from_bytes(&[7; 192]).unwrap().count(), 64);
+}
+
+#[test]
+fn many_pixels_and_short_room_in_mapping() {
+    let palette = Palette::from_bytes(&[1, 2, 3]).unwrap();
+    assert_eq!(palette.map(&vec![0; 3 * 16_777_217]), Err(Refusal::ManyPixels));
+    let mut index = [8; 3];
+    assert_eq!(palette.map_into(&[0; 6], &mut index, 2), Err(Refusal::ShortRoom));
+    assert_eq!(palette.map_into(&[0; 6], &mut index, usize::MAX), Err(Refusal::ShortRoom));
+    assert_eq!(palette.map_into(&[], &mut index, 4), Err(Refusal::ShortRoom));
+    assert_eq!(index, [8; 3]);
+    assert!(palette.map_into(&[], &mut index, 3).is_ok());
+}
+
+#[test]
+fn pictures_that_are_none() {
+    let cases: [(&[u8], Refusal); 12] = [
+        (b"", Refusal::BadHeader { offset: 0 }),
+        (b"P5 1 1 255 abc", Refusal::BadHeader { offset: 1 }),
+        (b"P62", Refusal::BadHeader { offset: 2 }),
+        (b"P6 000002 1 255 ", Refusal::BadHeader { offset: 8 }),
+        (b"P6 0 1 255", Refusal::BadHeader { offset: 10 }),
+        (b"P6 # comment", Refusal::BadHeader { offset: 3 }),
+        (b"P6 0 1 255 ", Refusal::BadSize),
+        (b"P6 16384 1025 254 ", Refusal::BadSize),
+        (b"P6 1 1 254 abc", Refusal::BadDepth),
+        (b"P6 1 1 65535 abcdef", Refusal::BadDepth),
+        (b"P6 2 1 255 abcde", Refusal::BadRaster),
+        (b"P6 2 1 255 abcdef\n", Refusal::BadRaster),
+    ];
+    for (input, refusal) in cases {
+        assert_eq!(Picture::read(input), Err(refusal), "{}", String::from_utf8_lossy(input));
+    }
+}

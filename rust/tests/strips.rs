@@ -1,0 +1,89 @@
+//! Strips: however a picture is cut, the table, the run and the index picture are the same; in several threads too.
+use std::thread::Builder;
+
+use kohlenfloh::{Palette, Run, Table};
+
+/// A raster of so many pixels with uneven colours, the same at every call.
+fn raster_of(pixels: usize) -> Vec<u8> {
+    (0..3 * pixels).map(|place| ((place * place * 2654 + place * 977) >> 7) as u8 & 0xfc).collect()
+}
+
+/// The table of a raster that is added in strips of so many pixels.
+fn table_in_strips(raster: &[u8], pixels: usize) -> Table {
+    let mut table = Table::with_room(raster.len() / 3);
+    for strip in raster.chunks(3 * pixels) {
+        assert_eq!(table.add(strip), Ok(strip.len() as u64 / 3));
+    }
+    table
+}
+
+/// The index picture and summed error of a raster that is mapped in strips of so many pixels.
+fn mapped_in_strips(palette: &Palette, raster: &[u8], pixels: usize) -> (Vec<u8>, u64) {
+    let mut index = vec![255; raster.len() / 3];
+    let mut error = 0;
+    for (number, strip) in raster.chunks(3 * pixels).enumerate() {
+        error += palette.map_into(strip, &mut index, number * pixels).unwrap().error;
+    }
+    (index, error)
+}
+
+/// The run that the tests below compare.
+fn run_of(raster: &[u8]) -> Run {
+    table_in_strips(raster, raster.len()).run(17, 40).unwrap()
+}
+
+#[test]
+fn a_table_in_strips_equals_the_whole() {
+    let raster = raster_of(20_000);
+    let whole = table_in_strips(&raster, 20_000);
+    assert!(whole.used() > 5000, "the raster has few colours: {}", whole.used());
+    for pixels in [777, 4096, 19_999] {
+        let table = table_in_strips(&raster, pixels);
+        assert_eq!(table.record(), whole.record());
+        assert!(table.entries().eq(whole.entries()));
+        assert_eq!(table.run(17, 40).unwrap(), whole.run(17, 40).unwrap());
+    }
+}
+
+#[test]
+fn a_mapping_in_strips_equals_the_whole() {
+    let raster = raster_of(20_000);
+    let palette = run_of(&raster).shades.palette().unwrap();
+    let whole = palette.map(&raster).unwrap();
+    for pixels in [1, 777, 4096, 19_999] {
+        let (index, error) = mapped_in_strips(&palette, &raster, pixels);
+        assert!(index == whole.index, "strips of {pixels}");
+        assert_eq!(error, whole.figures.error);
+    }
+    assert_eq!(whole.figures.mean, Some(whole.figures.error as f64 / 20_000.0));
+    assert_eq!(whole.figures.channel_errors.iter().sum::<u64>(), whole.figures.error);
+}
+
+#[test]
+fn a_stored_table_is_the_table() {
+    let table = table_in_strips(&raster_of(5000), 5000);
+    let stored = Table::from_parts(table.record(), table.keys().to_vec(), table.weights().to_vec()).unwrap();
+    assert_eq!(stored.room(), table.used());
+    assert_eq!(stored.run(9, 0), table.run(9, 0));
+}
+
+#[test]
+fn a_palette_maps_its_own_bytes_without_error() {
+    let palette = run_of(&raster_of(5000)).shades.palette().unwrap();
+    let mapped = palette.map(palette.bytes()).unwrap();
+    assert_eq!(mapped.figures.error, 0);
+    assert!(mapped.index.into_iter().map(|number| palette.entry(number.into()).unwrap()).eq(palette.entries()));
+}
+
+#[test]
+fn threads_with_little_stack_get_the_same_run() {
+    let raster = raster_of(20_000);
+    let alone = run_of(&raster);
+    std::thread::scope(|scope| {
+        let little = || Builder::new().stack_size(1024 * 1024);
+        let threads = [(); 4].map(|()| little().spawn_scoped(scope, || run_of(&raster)).unwrap());
+        for thread in threads {
+            assert_eq!(thread.join().unwrap(), alone);
+        }
+    });
+}
