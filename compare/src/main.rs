@@ -1,0 +1,106 @@
+//! `compare`: the library held against the model, subject by subject.
+//!
+//! `compare [--seed N] [--from CASE] [--cases M] [--edges] [SUBJECT..]`: without a seed the usual one, and that of
+//! COMPARE_SEED too where it is set; M cases of each subject, from a case on (a subject of one case makes that one);
+//! without a subject, all of them. A failed case is repeated by its seed, `--from` its number, and `--cases 1`. Fewer
+//! cases than usual are not asked to meet every edge case. `--edges` lists how often each edge case was met.
+use std::process::ExitCode;
+use std::time::Instant;
+use std::{env, fmt::Write};
+
+use compare::bench::Bench;
+use compare::subjects::{Failure, Subject, SUBJECTS};
+
+const USUAL_SEED: u64 = 20_240_607;
+
+/// What the command line asks for.
+#[derive(Default)]
+struct Asked {
+    seeds: Vec<u64>,
+    from: u64,
+    cases: Option<u64>,
+    edges: bool,
+    subjects: Vec<String>,
+}
+
+/// The number after a flag.
+fn number(flag: &str, next: Option<String>) -> Result<u64, String> {
+    let next = next.ok_or(format!("{flag} needs a number"))?;
+    next.parse().map_err(|_| format!("{flag}: {next} is no number"))
+}
+
+/// Reads the command line.
+fn asked() -> Result<Asked, String> {
+    let mut asked = Asked::default();
+    let mut words = env::args().skip(1);
+    while let Some(word) = words.next() {
+        match word.as_str() {
+            "--seed" => asked.seeds.push(number(&word, words.next())?),
+            "--from" => asked.from = number(&word, words.next())?,
+            "--cases" => asked.cases = Some(number(&word, words.next())?),
+            "--edges" => asked.edges = true,
+            name if SUBJECTS.iter().any(|subject| subject.name == name) => asked.subjects.push(word),
+            _ => return Err(format!("{word} is neither a flag nor a subject")),
+        }
+    }
+    if asked.seeds.is_empty() {
+        asked.seeds.push(USUAL_SEED);
+        if let Ok(seed) = env::var("COMPARE_SEED") {
+            asked.seeds.push(number("COMPARE_SEED", Some(seed))?);
+        }
+    }
+    Ok(asked)
+}
+
+/// A subject's line: name, seed, calls compared, refusals met with their numbers, seconds.
+fn line(subject: &Subject, seed: u64, bench: &Bench, seconds: f64) -> String {
+    let refused: u64 = bench.refusals.values().sum();
+    let mut line = format!("{} seed {seed} calls {} refused {refused} (", subject.name, bench.calls);
+    for (place, (number, times)) in bench.refusals.iter().enumerate() {
+        let blank = if place == 0 { "" } else { " " };
+        let _ = write!(line, "{blank}{number}:{times}");
+    }
+    let _ = write!(line, ") seconds {seconds:.1}");
+    line
+}
+
+/// What a failed subject says beside its line.
+fn told(failure: &Failure) -> String {
+    let case = failure.case.map_or(String::new(), |case| format!("case {case}: "));
+    let asked = failure.asked.as_ref().map_or(String::new(), |asked| format!("\n  asked: {asked}"));
+    format!("  FAILED {case}{}{asked}", failure.what)
+}
+
+fn main() -> ExitCode {
+    let asked = match asked() {
+        Ok(asked) => asked,
+        Err(why) => {
+            eprintln!("compare: {why}");
+            return ExitCode::from(2);
+        }
+    };
+    let (mut passed, mut failed) = (0, 0);
+    for &seed in &asked.seeds {
+        for subject in &SUBJECTS {
+            if !asked.subjects.is_empty() && !asked.subjects.iter().any(|name| name == subject.name) {
+                continue;
+            }
+            let begun = Instant::now();
+            let cases = if subject.cases == 1 { 1 } else { asked.cases.unwrap_or(subject.cases) };
+            let (bench, result) = subject.compare(None, seed, asked.from, cases);
+            println!("{}", line(subject, seed, &bench, begun.elapsed().as_secs_f64()));
+            if asked.edges {
+                bench.model.met.iter().for_each(|(what, times)| println!("  {what}: {times}"));
+            }
+            match result {
+                Ok(()) => passed += 1,
+                Err(failure) => {
+                    println!("{}", told(&failure));
+                    failed += 1;
+                }
+            }
+        }
+    }
+    println!("{passed} passed, {failed} failed");
+    ExitCode::from(u8::from(failed > 0))
+}

@@ -1,0 +1,5 @@
+//! Inputs made by chance: good ones with many ties, and damaged ones.
+pub mod colours;
+pub mod header;
+pub mod shades;
+pub mod table;

@@ -1,0 +1,85 @@
+//! A plain model of document 01, written from its sentences; they stand in quotes above what does them.
+//!
+//! Nothing here is quick: full searches, wide sums, no packed numbers. The model notes which edge cases it meets, and
+//! can be bent by one slip, to show that the comparison notices it.
+pub mod mapping;
+pub mod palette;
+pub mod picture;
+pub mod round;
+pub mod run;
+pub mod shade;
+pub mod slip;
+pub mod table;
+
+use std::collections::BTreeMap;
+
+use slip::Slip;
+
+/// "At most 1,048,576 entries and 16,777,216 pixels."
+pub const MOST_ENTRIES: u128 = 1_048_576;
+pub const MOST_PIXELS: u128 = 16_777_216;
+/// "a used key above 16,777,215"
+pub const MOST_KEY: u32 = 16_777_215;
+/// "shades not 1 to 64"
+pub const MOST_SHADES: usize = 64;
+/// "three coordinates in sixteenths of a level, 0 to 4080"
+pub const MOST_COORDINATE: u32 = 4080;
+
+/// The refusal numbers, by their names.
+pub const BAD_STRIP: u32 = 1;
+pub const BAD_TABLE: u32 = 2;
+pub const FULL: u32 = 3;
+pub const BAD_COUNT: u32 = 4;
+pub const FEW_COLOURS: u32 = 5;
+pub const BAD_LIMIT: u32 = 6;
+pub const SHORT_ROOM: u32 = 7;
+pub const BAD_CENTRE: u32 = 8;
+pub const BAD_MEMBER: u32 = 9;
+pub const BAD_PALETTE: u32 = 10;
+pub const MANY_PIXELS: u32 = 11;
+pub const BAD_HEADER: u32 = 12;
+pub const BAD_SIZE: u32 = 13;
+pub const BAD_DEPTH: u32 = 14;
+pub const BAD_RASTER: u32 = 15;
+
+/// The model: the slip it makes, if any, and how often it met each edge case.
+#[derive(Default)]
+pub struct Model {
+    pub slip: Option<Slip>,
+    pub met: BTreeMap<&'static str, u64>,
+}
+
+impl Model {
+    /// Whether the model makes this slip.
+    fn slips(&self, slip: Slip) -> bool {
+        self.slip == Some(slip)
+    }
+
+    /// Notes an edge case.
+    pub fn meet(&mut self, what: &'static str) {
+        *self.met.entry(what).or_insert(0) += 1;
+    }
+
+    /// Notes an edge case where it is one.
+    pub fn meet_if(&mut self, met: bool, what: &'static str) {
+        if met {
+            self.meet(what);
+        }
+    }
+
+    /// The number of the first test that holds, and 0 where none does; what held is noted.
+    fn first_of(&mut self, tests: &[(u32, Option<&'static str>)]) -> u32 {
+        for &(number, held) in tests {
+            if let Some(what) = held {
+                self.meet(what);
+                return number;
+            }
+        }
+        0
+    }
+}
+
+/// A reason where a condition holds.
+fn when(held: bool, what: &'static str) -> Option<&'static str> {
+    held.then_some(what)
+}

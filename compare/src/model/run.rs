@@ -1,0 +1,108 @@
+//! Starting shades and the run.
+use super::round::total_of;
+use super::shade::{colours_of, coordinates_of, distance, Colour, Point};
+use super::slip::Slip;
+use super::table::bad_table;
+use super::{when, Model, BAD_COUNT, BAD_LIMIT, BAD_TABLE, FEW_COLOURS, MOST_SHADES, SHORT_ROOM};
+use crate::ask::Run;
+use crate::outcome::{Outcome, Values};
+
+/// What an accepted run makes.
+struct Made {
+    members: Vec<usize>,
+    totals: Vec<u64>,
+    shades: Vec<Point>,
+    settled: bool,
+    distances: u64,
+}
+
+/// "A limit of 0 means 20."
+pub fn limit_meant(limit: usize) -> usize {
+    if limit == 0 {
+        20
+    } else {
+        limit
+    }
+}
+
+impl Model {
+    /// "Shade 0 is the rounded mean of the whole table, weights counted. Each next shade is the table colour whose
+    /// distance to its nearest chosen shade is greatest; at a tie, the lowest key".
+    pub fn starts(&mut self, colours: &[Colour], count: usize) -> Vec<Point> {
+        let mut counted = colours.to_vec();
+        if self.slips(Slip::LeavesWeightsOutOfShadeZero) {
+            counted.iter_mut().for_each(|colour| colour.weight = 1);
+        }
+        let mut chosen = vec![self.mean_of(&counted)];
+        while chosen.len() < count {
+            let to_nearest = |colour: &Colour| chosen.iter().map(|&shade| distance(colour.point, shade)).min();
+            let all: Vec<_> = colours.iter().map(to_nearest).collect();
+            let greatest = all.iter().max().expect("a run has a colour");
+            let mut farthest = all.iter().enumerate().filter(|one| one.1 == greatest).map(|one| one.0);
+            let lowest = farthest.next().expect("some colour is farthest");
+            self.meet_if(farthest.next().is_some(), "a tie among the starts");
+            chosen.push(colours[lowest].point);
+        }
+        chosen
+    }
+
+    /// "A run starts with every colour in shade 0, uses shortened rounds, and ends with the first round that moves no
+    /// shade ("settled") or at the round limit."
+    fn rounds(&mut self, colours: &[Colour], count: usize, limit: usize) -> Made {
+        let mut shades = self.starts(colours, count);
+        let mut made =
+            Made { members: vec![0; colours.len()], totals: vec![], shades: vec![], settled: false, distances: 0 };
+        while made.totals.len() < limit && !made.settled {
+            let round = self.one_round(colours, &shades, Some(&made.members));
+            made.totals.push(round.total as u64);
+            made.distances += round.distances;
+            made.settled = round.moved == 0;
+            made.members = round.members;
+            shades = round.shades;
+        }
+        self.meet_if(made.settled && made.totals.len() == limit, "settled at the limit");
+        self.meet(if made.settled { "settled" } else { "not settled" });
+        self.meet_if(made.totals.len() >= 8, "eight rounds or more");
+        Made { shades, ..made }
+    }
+
+    /// "Run: 2, 4, 5, 6, 7."
+    pub fn run(&mut self, ask: &Run) -> Outcome {
+        let used = u128::from(ask.table.record[0]);
+        // "members fewer than the used entries; totals fewer than the round limit (20 for 0)"
+        let short_members = when((ask.members.len() as u128) < used, "members fewer than used");
+        let short_totals = when(ask.totals.len() < limit_meant(ask.limit), "totals fewer than the limit");
+        let refusal = self.first_of(&[
+            (BAD_TABLE, bad_table(&ask.table)),
+            (BAD_COUNT, when(ask.count < 1, "a count of 0")),
+            (BAD_COUNT, when(ask.count > MOST_SHADES, "a count above 64")),
+            (FEW_COLOURS, when(ask.count as u128 > used, "more shades than used entries")),
+            (BAD_LIMIT, when(ask.limit > 200, "a limit above 200")),
+            (SHORT_ROOM, short_members),
+            (SHORT_ROOM, short_totals),
+        ]);
+        let mut answer = [0; 4];
+        let mut coordinates = [0; 192];
+        let mut members = ask.members.clone();
+        let mut totals = ask.totals.clone();
+        if refusal == 0 {
+            let colours = colours_of(&ask.table);
+            let made = self.rounds(&colours, ask.count, limit_meant(ask.limit));
+            // "the final total: the last grouping against the final shades"
+            let total = total_of(&colours, &made.members, &made.shades);
+            answer = [made.totals.len() as u64, made.settled.into(), made.distances, total as u64];
+            // "answered shades past the count are zeros"
+            coordinates[..3 * ask.count].copy_from_slice(&coordinates_of(&made.shades));
+            // "Lent entries past those filled keep their values"
+            members.iter_mut().zip(&made.members).for_each(|(place, &member)| *place = member as u32);
+            totals[..made.totals.len()].copy_from_slice(&made.totals);
+        }
+        let fields = vec![
+            ("rounds, settled, distances, final total", Values::Longs(answer.to_vec())),
+            ("shades", Values::Words(coordinates.to_vec())),
+            ("members", Values::Words(members)),
+            ("totals", Values::Longs(totals)),
+        ];
+        Outcome { refusal, fields }
+    }
+}

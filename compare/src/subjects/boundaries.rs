@@ -1,0 +1,197 @@
+//! The boundaries that document 01 names, met on purpose: the largest table and picture, and each bound from both
+//! sides. The model computes these too; it only takes longer.
+use super::Subject;
+use crate::ask::{Add, Map, Palette, Picture, Round, Run, Search, Table};
+use crate::bench::Bench;
+use crate::chance::Chance;
+use crate::library;
+use crate::make::shades;
+use crate::model::{Model, BAD_COUNT, BAD_LIMIT, BAD_SIZE, BAD_TABLE, FULL, MANY_PIXELS, MOST_SHADES, SHORT_ROOM};
+use crate::outcome::{Difference, Outcome};
+
+const ENTRIES: usize = 1_048_576;
+const PIXELS: usize = 16_777_216;
+
+pub const SUBJECT: Subject = Subject {
+    name: "boundaries",
+    cases: 1,
+    one_case,
+    meets: &["FULL by room", "FULL by pixels", "FULL with pixels taken", "mapping over 16,777,216 pixels"],
+    refuses: &[3, 4, 6, 7, 8, 11, 13, 15],
+};
+
+/// Every boundary once.
+fn one_case(bench: &mut Bench, chance: &mut Chance) -> Result<(), Difference> {
+    let table = most_entries(bench, chance)?;
+    on_most_entries(bench, chance, table)?;
+    most_pixels(bench)?;
+    numbers_of_shades(bench, chance)?;
+    numbers_of_rounds(bench, chance)?;
+    most_coordinate(bench)?;
+    stretches(bench, chance)?;
+    many_pixels_mapped(bench, chance)?;
+    sizes(bench, chance)
+}
+
+/// An outcome of the refusal number that a boundary is about; the model could be wrong about it with the library.
+fn refused_by(number: u32, seen: Outcome) -> Result<Outcome, Difference> {
+    Difference::unless_equal("refusal at a boundary", seen.refusal, number)?;
+    Ok(seen)
+}
+
+/// An add that answers this number.
+fn add(bench: &mut Bench, number: u32, ask: &Add) -> Result<Table, Difference> {
+    let seen = refused_by(number, bench.compare(ask, library::add, Model::add)?)?;
+    let record = seen.longs("record");
+    let (keys, weights) = (seen.words("keys").to_vec(), seen.words("weights").to_vec());
+    Ok(Table { record: [record[0], record[1]], keys, weights })
+}
+
+/// The three bytes of a key.
+fn pixel(key: usize) -> [u8; 3] {
+    [(key / 65536) as u8, (key / 256) as u8, key as u8]
+}
+
+/// A table of 1,048,576 entries filled in slices that are longer: a known colour is taken, one more is not.
+fn most_entries(bench: &mut Bench, chance: &mut Chance) -> Result<Table, Difference> {
+    // An odd factor steps through all keys in no order; the low four bits of each are those of its number.
+    let keys = (0..ENTRIES).map(|number| (number * 0x9E_3779 * 16 + 5) % (1 << 24));
+    let strip: Vec<u8> = keys.flat_map(pixel).collect();
+    let longer = ENTRIES + 3;
+    let table = Table { record: [0, 0], keys: chance.words(longer), weights: chance.words(longer + 2) };
+    let table = add(bench, 0, &Add { table, strip })?;
+    Difference::unless_equal("entries of a full table", table.used(), ENTRIES)?;
+    let (known, unknown) = (pixel(5), pixel(6));
+    let table = add(bench, FULL, &Add { table, strip: unknown.to_vec() })?;
+    let table = add(bench, 0, &Add { table, strip: known.to_vec() })?;
+    let mut table = add(bench, FULL, &Add { table, strip: [known, unknown, known].concat() })?;
+    table.record[0] += 1;
+    let last = table.record[0] as usize - 1;
+    (table.keys[last], table.weights[last]) = (16_777_215, 1);
+    table.record[1] += 1;
+    let mut table = add(bench, BAD_TABLE, &Add { table, strip: Vec::new() })?;
+    table.record = [table.record[0] - 1, table.record[1] - 1];
+    Ok(table)
+}
+
+/// Rounds and a short run on the table of 1,048,576 entries.
+fn on_most_entries(bench: &mut Bench, chance: &mut Chance, table: Table) -> Result<(), Difference> {
+    let all: Vec<u8> = (0..=255).collect();
+    let coordinates = shades::coordinates(chance, &all, MOST_SHADES);
+    let members: Vec<u32> = (0..table.used()).map(|place| (place % MOST_SHADES) as u32).collect();
+    let mut round = Round { search: Search::Plain, table: table.clone(), coordinates, members };
+    for search in [Search::Plain, Search::Shortened] {
+        round.search = search;
+        refused_by(0, bench.compare(&round, library::round, Model::round)?)?;
+    }
+    let mut run = Run { table, count: 4, limit: 3, members: chance.words(ENTRIES), totals: vec![7; 3] };
+    refused_by(0, bench.compare(&run, library::run, Model::run)?)?;
+    run.members.pop();
+    refused_by(SHORT_ROOM, bench.compare(&run, library::run, Model::run)?).map(drop)
+}
+
+/// 16,777,216 pixels, all but a few of them in one strip: one more is not taken, none more is.
+fn most_pixels(bench: &mut Bench) -> Result<(), Difference> {
+    let table = Table { record: [1, 2], keys: vec![9, 0, 0, 8], weights: vec![2, 0, 0, 8] };
+    let strip = [pixel(9), pixel(70_000)].concat().repeat((PIXELS - 2) / 2);
+    let table = add(bench, 0, &Add { table, strip })?;
+    Difference::unless_equal("pixels of a full table", table.record[1], PIXELS as u64)?;
+    let table = add(bench, FULL, &Add { table, strip: pixel(9).to_vec() })?;
+    let mut table = add(bench, 0, &Add { table, strip: Vec::new() })?;
+    table.weights[0] -= 1;
+    table.record[1] -= 1;
+    add(bench, FULL, &Add { table, strip: [pixel(9), pixel(9)].concat() }).map(drop)
+}
+
+/// A table of so many colours, one pixel each.
+fn colours(count: usize) -> Table {
+    let keys = (0..count).map(|number| (number * 7919 % 256 + 65536 * (number % 200)) as u32);
+    let mut keys: Vec<u32> = keys.collect();
+    keys.sort_unstable();
+    Table { record: [count as u64; 2], keys, weights: vec![1; count] }
+}
+
+/// 64 shades are accepted and 65 are not, by the run, by both rounds and by the palette.
+fn numbers_of_shades(bench: &mut Bench, chance: &mut Chance) -> Result<(), Difference> {
+    for (count, number) in [(64, 0), (65, BAD_COUNT)] {
+        let table = colours(100);
+        let run = Run { table: table.clone(), count, limit: 0, members: chance.words(100), totals: vec![7; 20] };
+        refused_by(number, bench.compare(&run, library::run, Model::run)?)?;
+        let coordinates = shades::coordinates(chance, &[1, 2, 3], count);
+        let palette = Palette { coordinates: coordinates.clone(), palette: chance.bytes(195) };
+        refused_by(number, bench.compare(&palette, library::palette, Model::palette)?)?;
+        for search in [Search::Plain, Search::Shortened] {
+            let coordinates = coordinates.clone();
+            let round = Round { search, table: table.clone(), coordinates, members: vec![count as u32 - 1; 100] };
+            refused_by(number, bench.compare(&round, library::round, Model::round)?)?;
+        }
+    }
+    Ok(())
+}
+
+/// Limits of 200 and 201, and a limit of 0 with 20 totals and with 19.
+fn numbers_of_rounds(bench: &mut Bench, chance: &mut Chance) -> Result<(), Difference> {
+    for (limit, totals, number) in
+        [(200, 200, 0), (201, 201, BAD_LIMIT), (200, 199, SHORT_ROOM), (0, 20, 0), (0, 19, SHORT_ROOM)]
+    {
+        let run = Run { table: colours(60), count: 9, limit, members: chance.words(60), totals: vec![7; totals] };
+        refused_by(number, bench.compare(&run, library::run, Model::run)?)?;
+    }
+    Ok(())
+}
+
+/// Coordinates of 4080 and of 4081, at each place of three shades.
+fn most_coordinate(bench: &mut Bench) -> Result<(), Difference> {
+    for place in 0..9 {
+        for coordinate in [4080, 4081] {
+            let mut coordinates = vec![4080; 9];
+            coordinates[place] = coordinate;
+            let palette = Palette { coordinates: coordinates.clone(), palette: vec![3; 9] };
+            bench.compare(&palette, library::palette, Model::palette)?;
+            let round = Round { search: Search::Plain, table: colours(9), coordinates, members: vec![0; 9] };
+            bench.compare(&round, library::round, Model::round)?;
+        }
+    }
+    Ok(())
+}
+
+/// First places up to the end, one past it, and so far that first and pixels are no number of the machine.
+fn stretches(bench: &mut Bench, chance: &mut Chance) -> Result<(), Difference> {
+    for pixels in [0, 1, 5] {
+        let firsts = [20 - pixels, 21 - pixels, usize::MAX - pixels, usize::MAX - pixels + usize::from(pixels > 0)];
+        for first in firsts.into_iter().chain([usize::MAX]) {
+            let ask = Map { strip: chance.bytes(3 * pixels), palette: chance.bytes(9), index: chance.bytes(20), first };
+            let number = if first == 20 - pixels { 0 } else { SHORT_ROOM };
+            refused_by(number, bench.compare(&ask, library::map, Model::map)?)?;
+        }
+    }
+    Ok(())
+}
+
+/// 16,777,216 pixels mapped by one call, and one more refused.
+fn many_pixels_mapped(bench: &mut Bench, chance: &mut Chance) -> Result<(), Difference> {
+    let mut ask = Map { strip: vec![0; 3 * PIXELS], palette: chance.bytes(9), index: vec![9; PIXELS + 1], first: 1 };
+    ask.strip.iter_mut().enumerate().for_each(|(place, byte)| *byte = (place * 37 / 11) as u8);
+    refused_by(0, bench.compare(&ask, library::map, Model::map)?)?;
+    ask.first = 2;
+    refused_by(SHORT_ROOM, bench.compare(&ask, library::map, Model::map)?)?;
+    ask.strip.extend([1, 2, 3]);
+    refused_by(MANY_PIXELS, bench.compare(&ask, library::map, Model::map)?).map(drop)
+}
+
+/// Pictures of the largest sizes, and those just above.
+fn sizes(bench: &mut Bench, chance: &mut Chance) -> Result<(), Difference> {
+    let mut read = |width: usize, height: usize, number: u32| {
+        let mut input = format!("P6 {width}\n{height} 255\n").into_bytes();
+        input.resize(input.len() + 3 * width * height, chance.long() as u8);
+        refused_by(number, bench.compare(&Picture { input }, library::picture, Model::picture)?).map(drop)
+    };
+    for (width, height) in [(4096, 4096), (16_384, 1024), (1024, 16_384), (16_384, 1), (1, 16_384)] {
+        read(width, height, 0)?;
+    }
+    for (width, height) in [(4096, 4097), (16_384, 1025), (16_385, 1), (1, 16_385)] {
+        read(width, height, BAD_SIZE)?;
+    }
+    let input = [b"P6 4096 4096 255 ".to_vec(), vec![1; 3 * PIXELS - 1]].concat();
+    bench.compare(&Picture { input }, library::picture, Model::picture).map(drop)
+}

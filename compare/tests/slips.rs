@@ -1,0 +1,43 @@
+//! The comparison can fail: bent by any one slip, the model differs from the library, and unbent it does not.
+use compare::model::slip::{Slip, SLIPS};
+use compare::subjects::{Subject, SUBJECTS};
+
+const SEED: u64 = 1;
+const CASES: u64 = 400;
+
+/// The subjects whose cases are short enough to make many of.
+fn short_subjects() -> impl Iterator<Item = &'static Subject> {
+    SUBJECTS.iter().filter(|subject| !["boundaries", "netpbm"].contains(&subject.name))
+}
+
+/// The subjects that differ from a model bent by this slip, or by none.
+fn noticed_by(slip: Option<Slip>) -> Vec<&'static str> {
+    let differs = |subject: &&Subject| subject.compare(slip, SEED, 0, CASES).1.is_err();
+    short_subjects().filter(differs).map(|subject| subject.name).collect()
+}
+
+/// The subjects in which a slip must show.
+fn due_in(slip: Slip) -> &'static [&'static str] {
+    match slip {
+        Slip::SkipsAShadeAtExactlyFourD | Slip::RoundsMeansDown | Slip::RecordsTheTotalAfterTheMove => {
+            &["rounds", "run"]
+        }
+        Slip::ResetsAnEmptyShade | Slip::LeavesWeightsOutOfAGroupsMean => &["rounds", "run"],
+        Slip::LeavesWeightsOutOfShadeZero => &["run"],
+        Slip::TakesTheHighestNumberAtATie => &["rounds", "run", "map", "strips"],
+        Slip::CutsPaletteBytes => &["palette"],
+        Slip::PutsTheOffsetOneTooFar => &["picture"],
+    }
+}
+
+#[test]
+fn every_slip_is_noticed_where_it_must_show() {
+    for slip in SLIPS {
+        assert_eq!(noticed_by(Some(slip)), due_in(slip), "{slip:?}");
+    }
+}
+
+#[test]
+fn an_unbent_model_agrees() {
+    assert_eq!(noticed_by(None), Vec::<&str>::new());
+}
