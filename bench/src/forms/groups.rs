@@ -1,0 +1,69 @@
+//! The sums of the groups, and the move of the shades to their groups' rounded means.
+use super::Point;
+
+/// Some shades, with their count.
+pub struct Shades {
+    pub count: usize,
+    pub at: [Point; 64],
+}
+
+impl Shades {
+    /// The shades of some coordinates, which must be on the grid.
+    pub fn of(coordinates: &[u32]) -> Shades {
+        assert!(coordinates.len().is_multiple_of(3) && (3..=192).contains(&coordinates.len()), "bad count");
+        assert!(coordinates.iter().all(|c| *c <= 4080), "bad centre");
+        let mut shades = Shades { count: coordinates.len() / 3, at: [[0; 3]; 64] };
+        for (shade, three) in shades.at.iter_mut().zip(coordinates.chunks_exact(3)) {
+            *shade = [three[0] as i32, three[1] as i32, three[2] as i32];
+        }
+        shades
+    }
+
+    /// Writes the shades as coordinates.
+    pub fn write(&self, coordinates: &mut [u32]) {
+        for (three, shade) in coordinates.chunks_exact_mut(3).zip(&self.at[..self.count]) {
+            three.copy_from_slice(&shade.map(|c| c as u32));
+        }
+    }
+}
+
+/// The groups of a round: weight times red and green level in one number, weight times blue level and the weight in
+/// another; and the round's total.
+pub struct Groups {
+    sums: [[u64; 2]; 64],
+    pub total: u64,
+}
+
+impl Groups {
+    /// No entry has joined.
+    pub fn new() -> Groups {
+        Groups { sums: [[0; 2]; 64], total: 0 }
+    }
+
+    /// An entry joins the shade whose distance and number stand in `best`: its number.
+    #[inline(always)]
+    pub fn join(&mut self, key: u32, weight: u32, best: u32) -> u32 {
+        let (weight, number) = (weight as u64, best & 63);
+        let sums = &mut self.sums[number as usize];
+        sums[0] += weight * ((key as u64 >> 16) << 32 | (key as u64 >> 8 & 255));
+        sums[1] += weight * ((key as u64 & 255) << 32 | 1);
+        self.total += weight * (best >> 6) as u64;
+        number
+    }
+
+    /// Moves each shade with a group to its rounded mean: how many moved.
+    pub fn move_shades(&self, shades: &mut Shades) -> u64 {
+        let count = shades.count;
+        let mut moved = 0;
+        for (sums, shade) in self.sums.iter().zip(&mut shades.at[..count]) {
+            let pixels = sums[1] & 0xffff_ffff;
+            if pixels > 0 {
+                let levels = [sums[0] >> 32, sums[0] & 0xffff_ffff, sums[1] >> 32];
+                let mean = levels.map(|sum| ((32 * sum + pixels) / (2 * pixels)) as i32);
+                moved += (mean != *shade) as u64;
+                *shade = mean;
+            }
+        }
+        moved
+    }
+}

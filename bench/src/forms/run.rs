@@ -1,0 +1,79 @@
+//! The run: starting shades with a distance kept for each colour in the members, then rounds.
+use super::groups::{Groups, Shades};
+use super::rounds::{group_short, Grouping};
+use super::{colour_of, distance, table, Point};
+
+/// The rounded mean of a table.
+fn mean_of(keys: &[u32], weights: &[u32]) -> Point {
+    let mut groups = Groups::new();
+    for (key, weight) in keys.iter().zip(weights) {
+        groups.join(*key, *weight, 0);
+    }
+    let mut shades = Shades { count: 1, at: [[0; 3]; 64] };
+    groups.move_shades(&mut shades);
+    shades.at[0]
+}
+
+/// Lowers the kept distances to those to `shade`: the first place of the greatest that is left.
+fn farthest(keys: &[u32], shade: Point, kept: &mut [u32]) -> usize {
+    let (mut far, mut at) = (0, 0);
+    for (block, (keys, kept)) in keys.chunks(512).zip(kept.chunks_mut(512)).enumerate() {
+        let mut greatest = 0;
+        for (key, kept) in keys.iter().zip(kept.iter_mut()) {
+            let [r, g, b] = [(key >> 16) as i16 * 16, (key >> 8 & 255) as i16 * 16, (key & 255) as i16 * 16];
+            let [r, g, b] = [r - shade[0] as i16, g - shade[1] as i16, b - shade[2] as i16].map(|c| c as i32);
+            *kept = (*kept).min((r * r + g * g + b * b) as u32);
+            greatest = greatest.max(*kept);
+        }
+        if greatest > far {
+            far = greatest;
+            at = 512 * block + kept.iter().position(|kept| *kept == greatest).expect("the greatest is there");
+        }
+    }
+    at
+}
+
+/// The starting shades; every member is 0 then.
+fn starts(keys: &[u32], weights: &[u32], count: usize, members: &mut [u32]) -> Shades {
+    let mut shades = Shades { count, at: [[0; 3]; 64] };
+    shades.at[0] = mean_of(keys, weights);
+    members.fill(u32::MAX);
+    for number in 1..count {
+        shades.at[number] = colour_of(keys[farthest(keys, shades.at[number - 1], members)]);
+    }
+    members.fill(0);
+    shades
+}
+
+/// A run of `count` shades, its first round by `first` and the others along rows; totals lent are the limit. The
+/// answer is rounds, settled, distances, final total.
+pub fn run(
+    first: Grouping,
+    record: [u64; 2],
+    (keys, weights): (&[u32], &[u32]),
+    count: usize,
+    members: &mut [u32],
+    totals: &mut [u64],
+    coordinates: &mut [u32],
+) -> [u64; 4] {
+    assert!(table::is_table(record, keys, weights), "bad table");
+    let used = record[0] as usize;
+    assert!((1..=64).contains(&count) && count <= used && totals.len() <= 200 && members.len() >= used, "refused");
+    let (keys, weights, members) = (&keys[..used], &weights[..used], &mut members[..used]);
+    let mut shades = starts(keys, weights, count, members);
+    let (mut rounds, mut settled, mut distances) = (0, 0, 0);
+    while settled == 0 && rounds < totals.len() {
+        let grouping = if rounds == 0 { first } else { group_short };
+        let (groups, worked) = grouping(keys, weights, &shades, members);
+        totals[rounds] = groups.total;
+        rounds += 1;
+        distances += worked;
+        settled = (groups.move_shades(&mut shades) == 0) as u64;
+    }
+    shades.write(&mut coordinates[..3 * count]);
+    let entries = keys.iter().zip(weights).zip(members.iter());
+    let total = entries.map(|((key, weight), member)| {
+        *weight as u64 * distance(colour_of(*key), shades.at[(*member & 63) as usize]) as u64
+    });
+    [rounds as u64, settled, distances, total.sum()]
+}

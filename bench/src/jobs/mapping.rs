@@ -1,0 +1,41 @@
+//! Jobs of mapping, and the reading of a header.
+use crate::forms::{blocks, cells, header};
+use crate::pictures::Picture;
+use crate::proved;
+use crate::race::{race, row, timed, Pace};
+use std::hint::black_box;
+
+/// A mapper: strip, palette, index picture; the errors of R, G and B.
+type Mapper = fn(&[u8], &[u8], &mut [u8]) -> [u64; 3];
+
+/// Mapping a picture as one strip.
+pub fn whole(pace: Pace, picture: &Picture, palette: &[u8]) {
+    let pixels = picture.raster.len() / 3;
+    let mut lent = [vec![1u8; pixels], vec![1u8; pixels], vec![1u8; pixels]];
+    let [first, second, third] = &mut lent;
+    let mapped = |map: Mapper, index: &mut Vec<u8>| {
+        let (seconds, errors) = timed(|| map(&picture.raster, palette, index));
+        (seconds, (errors, index.clone()))
+    };
+    let times = race(
+        pace,
+        "mapping",
+        &mut [&mut || mapped(proved::map, first), &mut || mapped(blocks::map, second), &mut || {
+            mapped(cells::map, third)
+        }],
+    );
+    row(&format!("mapping, k = {}", palette.len() / 3), picture.name, ("pixel", pixels as f64), &times, "cells");
+}
+
+/// Reading a picture's header, ten thousand times a turn.
+pub fn read(pace: Pace, picture: &Picture) {
+    let file = picture.file();
+    let many =
+        |read: &dyn Fn(&[u8]) -> [u64; 3]| timed(|| (0..10_000).fold([0; 3], |_, _| black_box(read(black_box(&file)))));
+    let times = race(
+        pace,
+        "header",
+        &mut [&mut || many(&proved::picture), &mut || many(&|input| header::picture(input).expect("a good picture"))],
+    );
+    row("P6 header", picture.name, ("picture", 10_000.0), &times, "");
+}

@@ -1,0 +1,107 @@
+//! Jobs of the table: a whole picture as one strip, a picture row by row, and the test of a table.
+use crate::floors;
+use crate::forms::{self, merge};
+use crate::pictures::Picture;
+use crate::proved::{self, Table};
+use crate::race::{race, row, timed, Pace};
+
+/// The room of every table.
+const ROOM: usize = 1 << 20;
+
+/// A table's record and used entries, to be compared.
+type Contents = (u64, Vec<u32>, Vec<u32>);
+
+/// A table's contents of its own.
+fn contents(table: &Table) -> Contents {
+    let (pixels, keys, weights) = table.contents();
+    (pixels, keys.to_vec(), weights.to_vec())
+}
+
+/// Fills a table strip by strip, from nothing, by `add`: the seconds, and the contents.
+fn filled(table: &mut Table, picture: &Picture, strip: usize, add: fn(&mut Table, &[u8])) -> (f64, Contents) {
+    table.record = [0; 2];
+    let (seconds, ()) = timed(|| picture.raster.chunks(strip).for_each(|strip| add(table, strip)));
+    (seconds, contents(table))
+}
+
+/// Adds a strip by the same method in Rust.
+fn walked(table: &mut Table, strip: &[u8]) {
+    forms::table::add(merge::walk, &mut table.record, &mut table.keys, &mut table.weights, strip);
+}
+
+/// Adds a strip by the other method in Rust.
+fn leapt(table: &mut Table, strip: &[u8]) {
+    forms::table::add(merge::leap, &mut table.record, &mut table.keys, &mut table.weights, strip);
+}
+
+/// Races the proved library and both Rust forms in filling a table in strips of so many bytes.
+fn in_strips(pace: Pace, job: &str, picture: &Picture, strip: usize) {
+    let mut lent = [Table::empty(ROOM), Table::empty(ROOM), Table::empty(ROOM)];
+    let [first, second, third] = &mut lent;
+    let times = race(
+        pace,
+        job,
+        &mut [
+            &mut || filled(first, picture, strip, proved::add),
+            &mut || filled(second, picture, strip, walked),
+            &mut || filled(third, picture, strip, leapt),
+        ],
+    );
+    row(job, picture.name, ("pixel", picture.raster.len() as f64 / 3.0), &times, "leaps");
+}
+
+/// The table of a picture.
+pub fn table_of(picture: &Picture) -> Table {
+    let mut table = Table::empty(ROOM);
+    proved::add(&mut table, &picture.raster);
+    table
+}
+
+/// One strip of the whole picture.
+pub fn whole(pace: Pace, picture: &Picture) {
+    in_strips(pace, "table, one strip", picture, picture.raster.len());
+}
+
+/// The same table row by row.
+pub fn rows(pace: Pace, picture: &Picture) {
+    in_strips(Pace { least: 2, ..pace }, "table, row by row", picture, 3 * picture.side);
+}
+
+/// The floors of the table job: a line of their own table.
+pub fn floor(pace: Pace, picture: &Picture) -> String {
+    let mut lent = [Table::empty(ROOM), Table::empty(ROOM), Table::empty(ROOM)];
+    let [first, second, third] = &mut lent;
+    let (mut counts, mut bits, mut before) = (vec![1; 1 << 24], vec![1; 1 << 18], vec![1; 1 << 18]);
+    let (raster, pixels) = (&picture.raster, picture.raster.len() / 3);
+    let floor = |table: &mut Table, job: &mut dyn FnMut(&mut [u32], &mut [u32]) -> usize| {
+        let (seconds, used) = timed(|| job(&mut table.keys, &mut table.weights));
+        table.record = [used as u64, pixels as u64];
+        (seconds, contents(table))
+    };
+    let times = race(
+        pace,
+        "table's floors",
+        &mut [
+            &mut || filled(first, picture, raster.len(), proved::add),
+            &mut || floor(second, &mut |keys, weights| floors::counts(&mut counts, keys, weights, raster)),
+            &mut || floor(third, &mut |keys, weights| floors::bits(&mut bits, &mut before, keys, weights, raster)),
+        ],
+    );
+    let each: Vec<String> = times.iter().map(|time| format!("{:.2}", time * 1e9 / pixels as f64)).collect();
+    format!("| {} | {} |", picture.name, each.join(" | "))
+}
+
+/// The table's test: an empty strip is added.
+pub fn test(pace: Pace, picture: &Picture, table: &Table) {
+    let (mut first, mut second) = (table.clone(), table.clone());
+    let empty = |table: &mut Table, add: fn(&mut Table, &[u8])| {
+        let (seconds, ()) = timed(|| add(table, &[]));
+        (seconds, table.record)
+    };
+    let times = race(
+        pace,
+        "the table's test",
+        &mut [&mut || empty(&mut first, proved::add), &mut || empty(&mut second, walked)],
+    );
+    row("the table's test", picture.name, ("entry", table.used() as f64), &times, "");
+}
