@@ -1,9 +1,11 @@
 //! Times the proved library beside plain Rust, job by job, and prints a table in Markdown.
 //!
-//! usage: bench [--quick] [--pictures FOLDER]
-//! With a folder it times nothing, but writes each picture there as a P6 file, and its palettes as P6 files of one row.
+//! usage: bench [--quick] [--pictures FOLDER | --growth] [PICTURE.ppm..]
+//! Pictures that are named come behind the three that are made. With a folder it times nothing, but writes each picture there as a P6 file, its palettes as P6 files of one row, its
+//! table, and its starting shades. With --growth it times the proved library alone, each job at three sizes.
 mod floors;
 mod forms;
+mod growth;
 mod jobs;
 mod pictures;
 mod proved;
@@ -12,6 +14,7 @@ mod race;
 use jobs::rounds::Kind;
 use jobs::{mapping, rounds, tables};
 use pictures::Picture;
+use proved::Table;
 use race::Pace;
 
 /// The counts of shades of runs and of mapping.
@@ -27,10 +30,38 @@ const FLOORS: &str =
     "| Table, one strip, ns a pixel | Proved | Floor: a count for each key, 64 MiB | Floor: a bit for each key, 3 MiB |
 |---|---|---|---|";
 
-/// The three pictures, with sides halved for a quick look.
-fn all(quick: bool) -> [Picture; 3] {
-    let part = if quick { 2 } else { 1 };
-    [pictures::drawing(2048 / part), pictures::scan(2048 / part), pictures::photo(1024 / part)]
+/// What the command line asks for.
+#[derive(Default)]
+struct Asked {
+    quick: bool,
+    growth: bool,
+    folder: Option<String>,
+    files: Vec<String>,
+}
+
+/// Reads the command line.
+fn asked() -> Asked {
+    let mut asked = Asked::default();
+    let mut words = std::env::args().skip(1);
+    while let Some(word) = words.next() {
+        match word.as_str() {
+            "--quick" => asked.quick = true,
+            "--growth" => asked.growth = true,
+            "--pictures" => asked.folder = Some(words.next().expect("a folder after --pictures")),
+            _ => asked.files.push(word),
+        }
+    }
+    asked
+}
+
+/// The three pictures that are made, with sides halved for a quick look, and those of files.
+fn all(asked: &Asked) -> std::io::Result<Vec<Picture>> {
+    let part = if asked.quick { 2 } else { 1 };
+    let mut all = vec![pictures::drawing(2048 / part), pictures::scan(2048 / part), pictures::photo(1024 / part)];
+    for file in &asked.files {
+        all.push(Picture::of_file(file)?);
+    }
+    Ok(all)
 }
 
 /// Every job on one picture.
@@ -55,12 +86,22 @@ fn every_job(pace: Pace, picture: &Picture) {
     mapping::read(pace, picture);
 }
 
-/// Writes pictures and their palettes.
+/// A table as lines of key and weight.
+fn lines_of(table: &Table) -> String {
+    let (_, keys, weights) = table.contents();
+    keys.iter().zip(weights).map(|(key, weight)| format!("{key} {weight}\n")).collect()
+}
+
+/// Writes pictures, their palettes and tables, and their starting shades as lines of three coordinates.
 fn write_all(pictures: &[Picture], folder: &str) -> std::io::Result<()> {
     for picture in pictures {
         std::fs::write(format!("{folder}/{}.ppm", picture.name), picture.file())?;
         let table = tables::table_of(picture);
+        std::fs::write(format!("{folder}/{}.table", picture.name), lines_of(&table))?;
         for count in COUNTS {
+            let starts: String =
+                rounds::starts(&table, count).chunks(3).map(|s| format!("{} {} {}\n", s[0], s[1], s[2])).collect();
+            std::fs::write(format!("{folder}/{}-{count}.starts", picture.name), starts)?;
             let mut bytes = format!("P6\n{count} 1\n255\n").into_bytes();
             bytes.extend(rounds::palette(&table, count));
             std::fs::write(format!("{folder}/{}-{count}.ppm", picture.name), bytes)?;
@@ -70,13 +111,16 @@ fn write_all(pictures: &[Picture], folder: &str) -> std::io::Result<()> {
 }
 
 fn main() -> std::io::Result<()> {
-    let words: Vec<String> = std::env::args().skip(1).collect();
-    let quick = words.iter().any(|word| word == "--quick");
-    if let Some(at) = words.iter().position(|word| word == "--pictures") {
-        return write_all(&all(quick), words.get(at + 1).expect("a folder after --pictures"));
+    let asked = asked();
+    let pace = if asked.quick { Pace { seconds: 0.05, least: 2 } } else { Pace { seconds: 1.0, least: 5 } };
+    if asked.growth {
+        growth::all(pace, asked.quick);
+        return Ok(());
     }
-    let pace = if quick { Pace { seconds: 0.05, least: 2 } } else { Pace { seconds: 1.0, least: 5 } };
-    let pictures = all(quick);
+    let pictures = all(&asked)?;
+    if let Some(folder) = &asked.folder {
+        return write_all(&pictures, folder);
+    }
     println!("{HEADING}");
     pictures.iter().for_each(|picture| every_job(pace, picture));
     println!("\n{FLOORS}");

@@ -1,16 +1,31 @@
-//! The pictures: a drawing, a scan and a photo, made from whole numbers alone, so that they are the same everywhere.
+//! The pictures: a drawing, a scan and a photo, made from whole numbers alone, so that they are the same everywhere;
+//! and those of the user's own files.
+use std::path::Path;
 
-/// A picture: its name, its side in pixels, and its raster.
+/// A picture: its name, the pixels of a row, and its raster.
 pub struct Picture {
-    pub name: &'static str,
-    pub side: usize,
+    pub name: String,
+    pub width: usize,
     pub raster: Vec<u8>,
 }
 
 impl Picture {
+    /// The picture of a P6 file, named as the file is.
+    pub fn of_file(path: &str) -> std::io::Result<Picture> {
+        let bytes = std::fs::read(path)?;
+        let read = kohlenfloh::Picture::read(&bytes).map_err(std::io::Error::other)?;
+        let name = Path::new(path).file_stem().unwrap_or_default().to_string_lossy().into();
+        Ok(Picture { name, width: read.width(), raster: read.raster().to_vec() })
+    }
+
+    /// How many pixels it has.
+    pub fn pixels(&self) -> usize {
+        self.raster.len() / 3
+    }
+
     /// The picture as a P6 file's bytes.
     pub fn file(&self) -> Vec<u8> {
-        let mut bytes = format!("P6\n{} {}\n255\n", self.side, self.side).into_bytes();
+        let mut bytes = format!("P6\n{} {}\n255\n", self.width, self.pixels() / self.width).into_bytes();
         bytes.extend_from_slice(&self.raster);
         bytes
     }
@@ -64,14 +79,14 @@ fn level(value: i64) -> u8 {
 }
 
 /// A square picture from the levels of each pixel.
-fn painted(name: &'static str, side: usize, colour: impl Fn(i64, i64) -> [u8; 3]) -> Picture {
+fn painted(name: &str, side: usize, colour: impl Fn(i64, i64) -> [u8; 3]) -> Picture {
     let mut raster = Vec::with_capacity(3 * side * side);
     for y in 0..side as i64 {
         for x in 0..side as i64 {
             raster.extend_from_slice(&colour(x, y));
         }
     }
-    Picture { name, side, raster }
+    Picture { name: name.into(), width: side, raster }
 }
 
 /// The yarn of a knot: borders, a medallion and stars, mirrored in both axes.

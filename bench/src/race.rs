@@ -55,7 +55,7 @@ pub fn row(job: &str, picture: &str, unit: (&str, f64), times: &[f64], other: &s
 }
 
 /// A figure with three digits that count.
-fn figure(value: f64) -> String {
+pub fn figure(value: f64) -> String {
     match value {
         value if value < 10.0 => format!("{value:.2}"),
         value if value < 100.0 => format!("{value:.1}"),

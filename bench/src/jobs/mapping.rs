@@ -10,7 +10,7 @@ type Mapper = fn(&[u8], &[u8], &mut [u8]) -> [u64; 3];
 
 /// Mapping a picture as one strip.
 pub fn whole(pace: Pace, picture: &Picture, palette: &[u8]) {
-    let pixels = picture.raster.len() / 3;
+    let pixels = picture.pixels();
     let mut lent = [vec![1u8; pixels], vec![1u8; pixels], vec![1u8; pixels]];
     let [first, second, third] = &mut lent;
     let mapped = |map: Mapper, index: &mut Vec<u8>| {
@@ -24,7 +24,7 @@ pub fn whole(pace: Pace, picture: &Picture, palette: &[u8]) {
             mapped(cells::map, third)
         }],
     );
-    row(&format!("mapping, k = {}", palette.len() / 3), picture.name, ("pixel", pixels as f64), &times, "cells");
+    row(&format!("mapping, k = {}", palette.len() / 3), &picture.name, ("pixel", pixels as f64), &times, "cells");
 }
 
 /// Reading a picture's header, ten thousand times a turn.
@@ -37,5 +37,5 @@ pub fn read(pace: Pace, picture: &Picture) {
         "header",
         &mut [&mut || many(&proved::picture), &mut || many(&|input| header::picture(input).expect("a good picture"))],
     );
-    row("P6 header", picture.name, ("picture", 10_000.0), &times, "");
+    row("P6 header", &picture.name, ("picture", 10_000.0), &times, "");
 }

@@ -25,11 +25,16 @@ pub fn state(table: &Table, count: usize, rounds_made: usize) -> State {
     State { coordinates: done.shades[..3 * count].to_vec(), members: done.members }
 }
 
+/// The starting shades of a run, as coordinates.
+pub fn starts(table: &Table, count: usize) -> Vec<u32> {
+    state(table, count, 0).coordinates
+}
+
 /// What a round answers and leaves.
-type Outcome = ([u64; 3], Vec<u32>, Vec<u32>);
+pub type Outcome = ([u64; 3], Vec<u32>, Vec<u32>);
 
 /// A round from a state, its copy made before the clock starts.
-fn one(before: &State, round: impl FnOnce(&mut [u32], &mut [u32]) -> [u64; 3]) -> (f64, Outcome) {
+pub fn one(before: &State, round: impl FnOnce(&mut [u32], &mut [u32]) -> [u64; 3]) -> (f64, Outcome) {
     let mut after = before.clone();
     let (seconds, answer) = timed(|| round(&mut after.coordinates, &mut after.members));
     (seconds, (answer, after.coordinates, after.members))
@@ -64,7 +69,7 @@ pub fn single(pace: Pace, kind: Kind, picture: &Picture, table: &Table, before: 
     }
     let times = race(pace, job, &mut forms);
     let job = format!("{job}, k = {}", before.coordinates.len() / 3);
-    row(&job, picture.name, ("colour", table.used() as f64), &times, "blocks, counted");
+    row(&job, &picture.name, ("colour", table.used() as f64), &times, "blocks, counted");
 }
 
 /// A whole run.
@@ -86,7 +91,7 @@ pub fn whole(pace: Pace, picture: &Picture, table: &Table, count: usize, limit: 
     let mut done = Run::room(table.used(), limit);
     proved::run(table, count, &mut done);
     let unit = ("colour and round", table.used() as f64 * done.answer[0] as f64);
-    row(&format!("run, limit {limit}, k = {count}"), picture.name, unit, &times, "first round in blocks");
+    row(&format!("run, limit {limit}, k = {count}"), &picture.name, unit, &times, "first round in blocks");
 }
 
 /// The palette of a run at limit 20.

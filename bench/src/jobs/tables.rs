@@ -47,7 +47,7 @@ fn in_strips(pace: Pace, job: &str, picture: &Picture, strip: usize) {
             &mut || filled(third, picture, strip, leapt),
         ],
     );
-    row(job, picture.name, ("pixel", picture.raster.len() as f64 / 3.0), &times, "leaps");
+    row(job, &picture.name, ("pixel", picture.pixels() as f64), &times, "leaps");
 }
 
 /// The table of a picture.
@@ -64,7 +64,7 @@ pub fn whole(pace: Pace, picture: &Picture) {
 
 /// The same table row by row.
 pub fn rows(pace: Pace, picture: &Picture) {
-    in_strips(Pace { least: 2, ..pace }, "table, row by row", picture, 3 * picture.side);
+    in_strips(Pace { least: 2, ..pace }, "table, row by row", picture, 3 * picture.width);
 }
 
 /// The floors of the table job: a line of their own table.
@@ -72,7 +72,7 @@ pub fn floor(pace: Pace, picture: &Picture) -> String {
     let mut lent = [Table::empty(ROOM), Table::empty(ROOM), Table::empty(ROOM)];
     let [first, second, third] = &mut lent;
     let (mut counts, mut bits, mut before) = (vec![1; 1 << 24], vec![1; 1 << 18], vec![1; 1 << 18]);
-    let (raster, pixels) = (&picture.raster, picture.raster.len() / 3);
+    let (raster, pixels) = (&picture.raster, picture.pixels());
     let floor = |table: &mut Table, job: &mut dyn FnMut(&mut [u32], &mut [u32]) -> usize| {
         let (seconds, used) = timed(|| job(&mut table.keys, &mut table.weights));
         table.record = [used as u64, pixels as u64];
@@ -88,7 +88,7 @@ pub fn floor(pace: Pace, picture: &Picture) -> String {
         ],
     );
     let each: Vec<String> = times.iter().map(|time| format!("{:.2}", time * 1e9 / pixels as f64)).collect();
-    format!("| {} | {} |", picture.name, each.join(" | "))
+    format!("| {} | {} |", &picture.name, each.join(" | "))
 }
 
 /// The table's test: an empty strip is added.
@@ -103,5 +103,5 @@ pub fn test(pace: Pace, picture: &Picture, table: &Table) {
         "the table's test",
         &mut [&mut || empty(&mut first, proved::add), &mut || empty(&mut second, walked)],
     );
-    row("the table's test", picture.name, ("entry", table.used() as f64), &times, "");
+    row("the table's test", &picture.name, ("entry", table.used() as f64), &times, "");
 }

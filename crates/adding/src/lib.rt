@@ -10,6 +10,7 @@
 // the slices are as they were.
 //
 // Read next: specs/Lib.antt (what the words mean), proofs/Lib.antt (which laws stand where).
+mod back;
 pub mod chunk;
 pub mod merge;
 pub mod pixel;

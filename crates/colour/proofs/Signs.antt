@@ -1,5 +1,5 @@
--- A difference of two coordinates as a signed number of 32 bits, and its square, which is `sq` of the two.
-use Prim.Native.Nat.{ℕ, suc, _+_, _-_, _*_, _≤_}
+-- A difference of two coordinates as a signed number of 32 or 16 bits, and its square, which is `sq` of the two.
+use Prim.Native.Nat.{ℕ, suc, _+_, _-_, _*_, _^_, _≤_, _<_}
 use mathlib.Core.Path.{_≡_, sym, ap, _∙_}
 use native.Mathlib.Decide.{decLe}
 use native.Mathlib.Omega.{arith}
@@ -16,8 +16,8 @@ use lib.IntN.{
   negsuc-*ℤ-negsuc,
 }
 use lib.Signed.{mag}
-use mir.Syntax.{w32}
-use mir.Val.{SFits, ofZ, toZ}
+use mir.Syntax.{Width, w16, w32}
+use mir.Val.{SFits, hbits, ofZ, toZ}
 use mir.ValLaws.{toZ-pos, toZ-ofZ}
 use Rattle.number.specs.{gap, sq}
 use Rattle.number.proofs.Squares.{sq-most}
@@ -60,22 +60,32 @@ difference-off a b = go (decLe b a)
         let e : gap a b ≡ suc t = omega arith in
         rw (difference-up a b t z, e) (record { small = omega arith; product = negsuc-*ℤ-negsuc t t })
 
--- ---- in 32 bits, for coordinates
+-- ---- in the bits of the machine, for coordinates
+
+-- a difference of two coordinates in a width that holds coordinates with a sign
+module _ (w : Width) (wide : mostCoordinate < 2 ^ hbits w) (a b : ℕ) (h : a ≤ mostCoordinate) (g : b ≤ mostCoordinate)
+  where
+    -- a coordinate is the same number with a sign and without, and so the difference is too
+    difference-same : toZ w a -ℤ toZ w b ≡ pos a -ℤ pos b
+    difference-same = rw (toZ-pos w a (omega (arith, wide)), toZ-pos w b (omega (arith, wide)))
+
+    -- the difference fits
+    pub difference-fits : SFits w (toZ w a -ℤ toZ w b)
+    difference-fits = rw difference-same (record { sfits = omega (arith, wide, difference-off a b .small) })
+
+    -- what is read from its bits is the difference
+    pub difference-read : toZ w (ofZ w (toZ w a -ℤ toZ w b)) ≡ pos a -ℤ pos b
+    difference-read = toZ-ofZ w (toZ w a -ℤ toZ w b) difference-fits ∙ difference-same
 
 module _ (a b : ℕ) (h : a ≤ mostCoordinate) (g : b ≤ mostCoordinate) where
-  -- a coordinate is the same number with a sign and without, and so the difference is too
-  difference-same : toZ w32 a -ℤ toZ w32 b ≡ pos a -ℤ pos b
-  difference-same = rw (toZ-pos w32 a (omega arith), toZ-pos w32 b (omega arith))
-
-  -- the difference fits
-  pub difference-fits : SFits w32 (toZ w32 a -ℤ toZ w32 b)
-  difference-fits = rw difference-same (record { sfits = omega (arith, difference-off a b .small) })
-
-  -- its square is `sq`
-  pub square-is :
-      toZ w32 (ofZ w32 (toZ w32 a -ℤ toZ w32 b)) *ℤ toZ w32 (ofZ w32 (toZ w32 a -ℤ toZ w32 b)) ≡ pos (sq a b)
+  -- the square of the difference is `sq`
+  pub square-of : (pos a -ℤ pos b) *ℤ (pos a -ℤ pos b) ≡ pos (sq a b)
   unfolding sq
-  square-is = rw (toZ-ofZ w32 (toZ w32 a -ℤ toZ w32 b) difference-fits, difference-same) (difference-off a b .product)
+  square-of = difference-off a b .product
+
+  -- the difference fits in 32 bits, from wherever it is read
+  pub difference-fits-32 : SFits w32 (pos a -ℤ pos b)
+  difference-fits-32 = record { sfits = omega (arith, difference-off a b .small) }
 
   -- `sq` of two coordinates is at most the square of the greatest
   pub square-most : sq a b ≤ mostCoordinate * mostCoordinate
@@ -84,3 +94,15 @@ module _ (a b : ℕ) (h : a ≤ mostCoordinate) (g : b ≤ mostCoordinate) where
   -- `sq` is the same number with a sign and without
   pub square-same : toZ w32 (sq a b) ≡ pos (sq a b)
   square-same = toZ-pos w32 (sq a b) (omega (arith, square-most))
+
+  -- the square of the difference in 32 bits is `sq`
+  pub square-is :
+      toZ w32 (ofZ w32 (toZ w32 a -ℤ toZ w32 b)) *ℤ toZ w32 (ofZ w32 (toZ w32 a -ℤ toZ w32 b)) ≡ pos (sq a b)
+  square-is = rw (difference-read w32 (omega arith) a b h g) square-of
+
+  -- so is that of the difference in 16 bits, widened to 32
+  pub short-square-is :
+      toZ w32 (ofZ w32 (toZ w16 (ofZ w16 (toZ w16 a -ℤ toZ w16 b))))
+      *ℤ toZ w32 (ofZ w32 (toZ w16 (ofZ w16 (toZ w16 a -ℤ toZ w16 b)))) ≡ pos (sq a b)
+  short-square-is =
+      rw (difference-read w16 (omega arith) a b h g, toZ-ofZ w32 (pos a -ℤ pos b) difference-fits-32) square-of

@@ -9,6 +9,8 @@
 //   colour_of      the point at which a key's colour stands  grid.rt
 //   square         the squared difference of two coordinates
 //   distance       the sum of three squared differences
+//   short_of       a coordinate in 16 bits, for lists
+//   distance_from  the distance from a point in such lists
 //   rounded_mean   a group's mean coordinate, halves up      mean.rt
 //
 // Read next: specs/Lib.antt (what the words mean), proofs/Promises.antt (what is shown of them).
@@ -19,6 +21,8 @@ mod mean;
 
 pub use grid::colour_of;
 pub use grid::distance;
+pub use grid::distance_from;
+pub use grid::short_of;
 pub use grid::square;
 pub use key::blue_of;
 pub use key::green_of;

@@ -2,3 +2,5 @@
 pub mod Contents
 -- Points laid out in three lists, a coordinate each.
 pub mod Layouts
+-- A list filled row by row, 64 places a row.
+pub mod Fillings

@@ -1,6 +1,6 @@
 -- Glossary.
---   push j n v d        v put in among the n rising values from place j of d
---   sorted f k d        d with f 0 .. f (k - 1) in front, rising
+--   upTo list limit q   place q of the list is at most the limit
+--   Distinct k f        no two of f 0 .. f (k - 1) are the same
 --   Row f k r           r 0 .. r (k - 1) are f 0 .. f (k - 1), each as often, rising
 --   rowOf g p j         place j of row p, each row having 64 places
 --   Rows s k g          row p holds the packed distances from shade p to the k shades, rising
@@ -11,7 +11,7 @@
 --   lookedAt            the least packed number so far, with one shade more looked at
 pub mod Sorting
 pub mod Asking
-unfoldable pub use Sorting.{push, sorted, rowOf}
+unfoldable pub use Sorting.{upTo, Distinct, rowOf}
 pub use Sorting.{Row, Rows}
 pub use Asking.{Ready, RoomFor}
 unfoldable pub use Asking.{pointAt, PointsOnGrid, lookedAt}

@@ -1,6 +1,6 @@
 // The plain search: a block of colours is laid out coordinate by coordinate, looks at one shade
-// after the other, and keeps the least packed number. There is no branch, so that several colours
-// are looked at in one operation.
+// after the other, and keeps the least packed number. There is no branch, and coordinates have 16
+// bits, so that several colours are looked at in one operation.
 ghost use mathlib.Core.Path.{_≡_};
 ghost use Prim.Native.Nat.{_<_, _≤_};
 ghost use lib.ListN.{length};
@@ -13,7 +13,7 @@ use shades::lesser;
 
 // Lays out the colours of `keys`: their coordinates go to the fronts of three lists, the rest of
 // which stays. Requires room for them there.
-fn lay_out(keys: &[u32], reds: &mut [u32], greens: &mut [u32], blues: &mut [u32])
+fn lay_out(keys: &[u32], reds: &mut [u16], greens: &mut [u16], blues: &mut [u16])
     requires { ⌜ RoomFor (length (now keys)) (now reds) (now greens) (now blues) ⌝ }
     ensures reds { λ _. ⌜ now (reds .exit)
         ≡ fill (length (now (keys .entry))) (λ i. colourAt (now (keys .entry)) i .r)
@@ -29,16 +29,16 @@ fn lay_out(keys: &[u32], reds: &mut [u32], greens: &mut [u32], blues: &mut [u32]
     let mut i = 0;
     while i < n {
         let c = colour::colour_of(keys[i]);
-        reds[i] = c.r;
-        greens[i] = c.g;
-        blues[i] = c.b;
+        reds[i] = colour::short_of(c.r);
+        greens[i] = colour::short_of(c.g);
+        blues[i] = colour::short_of(c.b);
         i += 1;
     }
 }
 
 // The points laid out look at shade `q`, which stands at `p`. Requires a point on the grid for each
 // place of `best`, and a shade on the grid with a number below 64.
-fn look(reds: &[u32], greens: &[u32], blues: &[u32], p: Point, q: usize, best: &mut [u32])
+fn look(reds: &[u16], greens: &[u16], blues: &[u16], p: Point, q: usize, best: &mut [u32])
     requires { ⌜ RoomFor (length (now best)) (now reds) (now greens) (now blues)
         × PointsOnGrid (length (now best)) (pointAt (now reds) (now greens) (now blues))
         × Within mostCoordinate p × (q < mostShades) ⌝ }
@@ -51,12 +51,7 @@ fn look(reds: &[u32], greens: &[u32], blues: &[u32], p: Point, q: usize, best: &
     let number = q as u32;
     let mut i = 0;
     while i < n {
-        let c = Point {
-            r: reds[i],
-            g: greens[i],
-            b: blues[i],
-        };
-        let d = colour::distance(c, p);
+        let d = colour::distance_from(reds[i], greens[i], blues[i], p);
         best[i] = lesser(best[i], 64 * d + number);
         i += 1;
     }
@@ -65,9 +60,9 @@ fn look(reds: &[u32], greens: &[u32], blues: &[u32], p: Point, q: usize, best: &
 // The nearest shade of each point laid out in the three lists, distance and number in one, into
 // `best`. Requires a point on the grid for each place of `best`, and some shades on the grid.
 pub fn search_points(
-    reds: &[u32],
-    greens: &[u32],
-    blues: &[u32],
+    reds: &[u16],
+    greens: &[u16],
+    blues: &[u16],
     s: &[u32],
     k: usize,
     best: &mut [u32],
@@ -97,9 +92,9 @@ fn search_block(
     keys: &[u32],
     s: &[u32],
     k: usize,
-    reds: &mut [u32],
-    greens: &mut [u32],
-    blues: &mut [u32],
+    reds: &mut [u16],
+    greens: &mut [u16],
+    blues: &mut [u16],
     best: &mut [u32],
 )
     requires { ⌜ (length (now best) ≤ length (now keys)) × Shades k (now s) × (0 < k)
@@ -122,9 +117,9 @@ pub fn search_all(keys: &[u32], used: usize, s: &[u32], k: usize, members: &mut 
         ≡ fill used (λ i. packedNearest (now (s .entry)) k (colourAt (now (keys .entry)) i))
         (now (members .entry)) ⌝ }
 {
-    let mut reds = [0u32; 256];
-    let mut greens = [0u32; 256];
-    let mut blues = [0u32; 256];
+    let mut reds = [0u16; 256];
+    let mut greens = [0u16; 256];
+    let mut blues = [0u16; 256];
     let mut i = 0;
     while 256 <= used - i {
         let e = i + 256;

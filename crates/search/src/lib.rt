@@ -9,6 +9,7 @@
 // Read next: specs/Lib.antt (what the words mean), proofs/Lib.antt (what is shown).
 
 mod full;
+mod rank;
 mod rows;
 mod short;
 

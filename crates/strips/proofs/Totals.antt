@@ -94,6 +94,7 @@ module _ (palette strip : List ℕ) (n : ℕ) (colours : Bytes palette) (bytes :
       )
 
   -- and so on each
-  pub errors-most : (errorsOf palette strip n .red ≤ mostLevel * mostLevel * n) × (errorsOf palette strip n .green ≤ mostLevel * mostLevel * n)
+  pub errors-most : (errorsOf palette strip n .red ≤ mostLevel * mostLevel * n)
+      × (errorsOf palette strip n .green ≤ mostLevel * mostLevel * n)
       × (errorsOf palette strip n .blue ≤ mostLevel * mostLevel * n)
   errors-most = (channel-most 0, channel-most 1, channel-most 2)

@@ -5,21 +5,33 @@ use mathlib.Core.Path.{_≡_}
 use lib.ListN.{getD, length}
 use Rattle.colour.specs.{mostCoordinate, mostPixels}
 use Rattle.shades.specs.{mostShades, OnGrid}
-use Rattle.search.specs.{pointAt, PointsOnGrid, RoomFor}
+use Rattle.search.specs.{RoomFor}
 use Rattle.strips.specs.Meaning.{entryCount}
+use Rattle.strips.specs.Gathering.{placeOf}
 use Rattle.strips.specs.declared.Errors.{Errors}
+
+-- the lists that a block of n pixels is mapped in have a place for each pixel
+pub record Room (n : ℕ) (keys which reds greens blues best : List ℕ) : Type 0 where
+  pub key : n ≤ length keys
+  pub place : n ≤ length which
+  pub point : RoomFor n reds greens blues
+  pub number : n ≤ length best
 
 -- the number in the packed number at place i
 abbrev pub numberIn : List ℕ → ℕ → ℕ
 numberIn best i = getD best i 0 % mostShades
 
--- n points on the grid are laid out, and for each a number is found whose shade is in s
-pub record Found (reds greens blues s best : List ℕ) (n : ℕ) : Type 0 where
-  pub room : RoomFor n reds greens blues
-  pub points : PointsOnGrid n (pointAt reds greens blues)
+-- the number found for pixel i: that at its place
+abbrev pub numberOf : List ℕ → List ℕ → ℕ → ℕ
+numberOf which best i = numberIn best (placeOf which i)
+
+-- a strip of n pixels, and for each of them a number is found whose shade is in s
+pub record Found (strip which s best : List ℕ) (n : ℕ) : Type 0 where
+  pub pixels : length strip ≡ 3 * n
+  pub room : n ≤ length which
+  pub placed : (i : ℕ) → i < n → placeOf which i < length best
+  pub inside : (i : ℕ) → i < n → 3 * numberOf which best i + 2 < length s
   pub shades : OnGrid s
-  pub found : n ≤ length best
-  pub inside : (i : ℕ) → i < n → 3 * numberIn best i + 2 < length s
   pub few : n ≤ mostPixels
 
 -- no error is above that of 16,777,216 pixels

@@ -11,9 +11,18 @@
 --   errorsOf palette strip n  the channel errors of the first n pixels
 --   errorOf palette strip n   their error: the sum of squared level differences
 --   plusErrors a b            the errors of two strips together
+--   mostPlaces                1024, the most pixels of a block
+--   BlockEnd i n e            the block that begins at pixel i of n ends at e
+--   differ a b                1 where two numbers differ, 0 where they are equal
+--   pointKey c                the key of a colour in whole levels
+--   placeOf which i           the place of pixel i
+--   levelsAt keys q           the colour with the key at place q, in whole levels
+--   Gathered                  the pixels of a block are at their places
 --   numberIn best i           the number in a packed number
---   Found, SmallErrors, Mappable   what settling a block, adding errors up and mapping a strip ask
+--   numberOf which best i     the number found for pixel i
+--   Room, Found, SmallErrors, Mappable   what mapping a block, settling it, adding errors up and mapping a strip ask
 pub mod Meaning
+pub mod Gathering
 pub mod Asking
 pub use declared.Errors.{Errors}
 unfoldable pub use Meaning.{
@@ -30,5 +39,7 @@ unfoldable pub use Meaning.{
   plusErrors,
 }
 pub use Meaning.{NearestEntry}
-unfoldable pub use Asking.{numberIn}
-pub use Asking.{Found, SmallErrors, Mappable}
+unfoldable pub use Gathering.{mostPlaces, differ, pointKey, placeOf, levelsAt}
+pub use Gathering.{BlockEnd, Gathered}
+unfoldable pub use Asking.{numberIn, numberOf}
+pub use Asking.{Room, Found, SmallErrors, Mappable}

@@ -3,12 +3,14 @@
 //
 // Calls; none refuses, and what one requires stands above it
 //   map_pixels   maps a strip against a palette of bytes     whole.rt
-// A block of pixels is laid out and searched in block.rt, and its numbers and errors are told in
-// settle.rt. The search is that of the plain round, on levels in place of sixteenths.
+// The pixels of a block are gathered in gather.rt, equal ones that follow one another as one, and
+// searched in block.rt; their numbers and errors are told in settle.rt. The search is that of the
+// plain round, on levels in place of sixteenths.
 //
 // Read next: specs/Lib.antt (what the words mean), proofs/Promises.antt (what is shown).
 
 mod block;
+mod gather;
 mod settle;
 mod whole;
 

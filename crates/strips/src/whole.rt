@@ -3,7 +3,7 @@ ghost use mathlib.Core.Path.{_≡_};
 ghost use Prim.Native.Nat.{_*_, _<_, _≤_};
 ghost use lib.ListN.{length, getD};
 ghost use Rattle.number.specs.{fill};
-ghost use Rattle.colour.specs.{mostPixels};
+ghost use Rattle.colour.specs.{mostLevel, mostPixels};
 ghost use Rattle.shades.specs.{Shades};
 ghost use Rattle.strips.specs.Meaning.{
   pixelAt,
@@ -13,9 +13,9 @@ ghost use Rattle.strips.specs.Meaning.{
   errorsOf,
   plusErrors,
 };
+ghost use Rattle.strips.specs.Gathering.{BlockEnd};
 ghost use Rattle.strips.specs.Asking.{Mappable, SmallErrors};
 use super::Errors;
-use super::block::level;
 use super::block::map_block;
 
 // The errors of two blocks together, which are required to be as small as a strip's.
@@ -30,6 +30,15 @@ fn plus(a: Errors, b: Errors) -> Errors
     }
 }
 
+// Where the block ends that begins at pixel `i` of `n`: 1024 pixels on, or at the end. Requires
+// that the pixel is there.
+fn block_end(i: usize, n: usize) -> usize
+    requires { ⌜ i < n ⌝ }
+    ensures { λ r. ⌜ BlockEnd i n r ⌝ }
+{
+    if 1024 < n - i { i + 1024 } else { n }
+}
+
 // Maps a strip to the `k` shades of `s`. Requires some shades on the grid, three bytes for each
 // place of `index`, and at most 16,777,216 pixels.
 fn map_blocks(strip: &[u8], s: &[u32], k: usize, index: &mut [u8]) -> Errors
@@ -42,10 +51,12 @@ fn map_blocks(strip: &[u8], s: &[u32], k: usize, index: &mut [u8]) -> Errors
         ≡ missesOf (pixelAt (now (strip .entry))) (now (s .entry))
         (nearestTo (now (s .entry)) k (now (strip .entry))) (length (now (index .entry))) ⌝ }
 {
-    let mut reds = [0u32; 256];
-    let mut greens = [0u32; 256];
-    let mut blues = [0u32; 256];
-    let mut best = [0u32; 256];
+    let mut keys = [0u32; 1024];
+    let mut which = [0u16; 1024];
+    let mut reds = [0u16; 1024];
+    let mut greens = [0u16; 1024];
+    let mut blues = [0u16; 1024];
+    let mut best = [0u32; 1024];
     let n = index.len();
     let mut errors = Errors {
         red: 0,
@@ -53,12 +64,14 @@ fn map_blocks(strip: &[u8], s: &[u32], k: usize, index: &mut [u8]) -> Errors
         blue: 0,
     };
     let mut i = 0;
-    while 256 <= n - i {
-        let e = i + 256;
+    while i < n {
+        let e = block_end(i, n);
         let block = map_block(
             &strip[3 * i..3 * e],
             s,
             k,
+            &mut keys,
+            &mut which,
             &mut reds,
             &mut greens,
             &mut blues,
@@ -68,18 +81,14 @@ fn map_blocks(strip: &[u8], s: &[u32], k: usize, index: &mut [u8]) -> Errors
         errors = plus(errors, block);
         i = e;
     }
-    let left = n - i;
-    let block = map_block(
-        &strip[3 * i..3 * n],
-        s,
-        k,
-        &mut reds,
-        &mut greens,
-        &mut blues,
-        &mut best[0..left],
-        &mut index[i..n],
-    );
-    plus(errors, block)
+    errors
+}
+
+// A byte as a level.
+fn level(b: u8) -> u32
+    ensures { λ r. ⌜ (r ≡ b) × (r ≤ mostLevel) ⌝ }
+{
+    b as u32
 }
 
 // The bytes of a palette as coordinates, in front of `wide`, the rest of which stays. Requires

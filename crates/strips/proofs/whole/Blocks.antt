@@ -11,11 +11,11 @@ use Rattle.number.proofs.Parts.{part-filled}
 use Rattle.colour.specs.{Point, Bytes, mostCoordinate, mostPixels}
 use Rattle.shades.specs.{shadeAt, nearestShade, OnGrid, Shades}
 use Rattle.shades.proofs.Laying.{shade-within}
-use Rattle.search.specs.{PointsOnGrid, RoomFor}
-use Rattle.search.proofs.Layouts.{BlockLists, block-room}
+use Rattle.search.specs.{PointsOnGrid}
 use Rattle.strips.specs.declared.Errors.{Errors}
 use Rattle.strips.specs.Meaning.{pixelAt, nearestTo, missOn, missesOf, plusErrors}
-use Rattle.strips.specs.Asking.{SmallErrors}
+use Rattle.strips.specs.Gathering.{mostPlaces}
+use Rattle.strips.specs.Asking.{Room, SmallErrors}
 use Rattle.strips.proofs.Misses.{miss-most, misses-same, misses-parts}
 use Rattle.strips.proofs.Pixels.{pixels-on-grid, pixel-part}
 
@@ -43,6 +43,29 @@ misses-small c s f n inside low few =
 abbrev pub Asked : List ℕ → List ℕ → ℕ → List ℕ → Type 0
 Asked strip s k before =
     (length strip ≡ 3 * length before) × Shades k s × (0 < k) × (length before ≤ mostPixels)
+
+-- the lists to work in, with a place for each pixel of a block
+pub record Lists (keys which reds greens blues best : List ℕ) : Type 0 where
+  pub keys-long : length keys ≡ mostPlaces
+  pub which-long : length which ≡ mostPlaces
+  pub red-long : length reds ≡ mostPlaces
+  pub green-long : length greens ≡ mostPlaces
+  pub blue-long : length blues ≡ mostPlaces
+  pub best-long : length best ≡ mostPlaces
+
+-- they have room for as many
+lists-room : {keys which reds greens blues best : List ℕ} → Lists keys which reds greens blues best → (n : ℕ)
+    → n ≤ mostPlaces → Room n keys which reds greens blues best
+lists-room w n few = record {
+  key = omega (arith, w .keys-long);
+  place = omega (arith, w .which-long);
+  point = record {
+    red = omega (arith, w .red-long);
+    green = omega (arith, w .green-long);
+    blue = omega (arith, w .blue-long);
+  };
+  number = omega (arith, w .best-long);
+}
 
 module _ {strip s : List ℕ} {k : ℕ} {before index : List ℕ} {errors : Errors} {a : ℕ}
     (w : Mapped strip s k before index errors a) where
@@ -77,18 +100,17 @@ module _ {strip s : List ℕ} {k : ℕ} {before index : List ℕ} {errors : Erro
         ∙ misses-same (e - a) (pixelAt block) _ s s (nearestTo s k block) _ block-pixel
         (λ i l. ap (λ c. shadeAt s (nearestShade s k c)) (block-pixel i l))
 
-    -- what mapping it asks is there, in lists of 256 places, with a place for each packed number
-    pub block-asked : Asked strip s k before → {reds greens blues : List ℕ} → BlockLists reds greens blues
-        → {best : ℕ} → best ≡ e - a → e - a ≤ 256
-        → (length block ≡ 3 * length part) × Shades k s × (0 < k) × RoomFor (length part) reds greens blues
-        × (best ≡ length part) × (length part ≤ mostPixels)
-    block-asked ask lists long few = (
+    -- what mapping it asks is there
+    pub block-asked : Asked strip s k before → {keys which reds greens blues best : List ℕ}
+        → Lists keys which reds greens blues best → e - a ≤ mostPlaces
+        → (length block ≡ 3 * length part) × Shades k s × (0 < k) × (length part ≤ mostPlaces)
+        × Room (length part) keys which reds greens blues best
+    block-asked ask lists few = (
       omega (arith, part-long, ask .0, mid-len (3 * a) (3 * e) strip (omega (arith, ask .0))),
       ask .1,
       ask .2,
-      block-room lists index a e (omega (arith, mapped-long)) few,
       omega (arith, part-long),
-      omega (arith, part-long, ask .3),
+      lists-room lists (length part) (omega (arith, part-long)),
     )
 
     -- the errors so far and those of the block are small

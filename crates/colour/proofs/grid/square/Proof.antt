@@ -2,6 +2,7 @@
 use borrow.Author.Needs.{needs}
 use native.Mathlib.Omega.{arith}
 use mathlib.Core.Path.{refl}
+use mir.Syntax.{w32}
 use Rattle.colour.proofs.Signs.{difference-fits, square-is, square-most, square-same}
 use Rattle.colour.proofs.grid.square.Statement.{statement}
 use Rattle.colour.proofs.grid.square.Tie as tie
@@ -13,7 +14,7 @@ cast-y : tie.Need-cast-y
 cast-y c = search needs
 
 sub-d : tie.Need-sub-d
-sub-d c = difference-fits _ _ (c .pre .0) (c .pre .1)
+sub-d c = difference-fits w32 (omega arith) _ _ (c .pre .0) (c .pre .1)
 
 mul-result : tie.Need-mul-result
 mul-result c =

@@ -46,23 +46,32 @@ shared-slice-read-colour-of c = omega arith
 colour-of-requires : tie.Need-colour-of-requires Inv-loop μ-loop
 colour-of-requires c κs = search needs
 
+short-of-requires : tie.Need-short-of-requires Inv-loop μ-loop
+short-of-requires c κs = search needs
+
 mul-reds : tie.Need-mul-reds Inv-loop μ-loop
 mul-reds c = omega arith
 
 slice-write-reds : tie.Need-slice-write-reds Inv-loop μ-loop
-slice-write-reds c = omega (arith, room c .red)
+slice-write-reds c = omega (arith, room (c .before) .red)
+
+short-of-requires-2 : tie.Need-short-of-requires-2 Inv-loop μ-loop
+short-of-requires-2 c κs = search needs
 
 mul-greens : tie.Need-mul-greens Inv-loop μ-loop
 mul-greens c = omega arith
 
 slice-write-greens : tie.Need-slice-write-greens Inv-loop μ-loop
-slice-write-greens c = omega (arith, room c .green)
+slice-write-greens c = omega (arith, room (c .before .before) .green)
+
+short-of-requires-3 : tie.Need-short-of-requires-3 Inv-loop μ-loop
+short-of-requires-3 c κs = search needs
 
 mul-blues : tie.Need-mul-blues Inv-loop μ-loop
 mul-blues c = omega arith
 
 slice-write-blues : tie.Need-slice-write-blues Inv-loop μ-loop
-slice-write-blues c = omega (arith, room c .blue)
+slice-write-blues c = omega (arith, room (c .before .before .before) .blue)
 
 add-i : tie.Need-add-i Inv-loop μ-loop
 add-i c = omega arith
@@ -72,7 +81,13 @@ loop-less c = omega arith
 
 loop-again : tie.Need-loop-again Inv-loop μ-loop
 loop-again c =
-    fronts-step (turn c .loop .inv) (omega arith) (st c .pre) (c .colour-of .result) (c .colour-of .ensures .0)
+    let at = c .before .before .before in
+    let red = c .before .before .short-of in
+    let green = c .before .short-of2 in
+    let blue = c .short-of3 in
+    fronts-step (turn at .loop .inv) (omega arith) (st at .pre)
+    (record { r = red .result; g = green .result; b = blue .result })
+    (rw (red .ensures .0, green .ensures .0, blue .ensures .0) (at .colour-of .ensures .0))
 
 same-length : tie.Need-same-length Inv-loop μ-loop
 same-length c = fronts-long (c .before .loop .inv) .0
@@ -100,10 +115,13 @@ lay-out-spec =
     mul-colour-of
     shared-slice-read-colour-of
     colour-of-requires
+    short-of-requires
     mul-reds
     slice-write-reds
+    short-of-requires-2
     mul-greens
     slice-write-greens
+    short-of-requires-3
     mul-blues
     slice-write-blues
     add-i

@@ -30,38 +30,38 @@ loop-holds : tie.Need-loop-holds Inv-loop μ-loop
 unfolding fill
 loop-holds c = (omega arith, refl)
 
-mul-best : tie.Need-mul-best Inv-loop μ-loop
-mul-best c = omega arith
+mul-distance-from : tie.Need-mul-distance-from Inv-loop μ-loop
+mul-distance-from c = omega arith
 
-shared-slice-read-best : tie.Need-shared-slice-read-best Inv-loop μ-loop
-shared-slice-read-best c = omega (arith, st (c .before .before) .pre .0 .red)
+shared-slice-read-distance-from : tie.Need-shared-slice-read-distance-from Inv-loop μ-loop
+shared-slice-read-distance-from c = omega (arith, st (c .before .before) .pre .0 .red)
 
-mul-lesser : tie.Need-mul-lesser Inv-loop μ-loop
-mul-lesser c = omega arith
+mul-distance-from-2 : tie.Need-mul-distance-from-2 Inv-loop μ-loop
+mul-distance-from-2 c = omega arith
 
-shared-slice-read-lesser : tie.Need-shared-slice-read-lesser Inv-loop μ-loop
-shared-slice-read-lesser c = omega (arith, st (c .before .before .before) .pre .0 .green)
+shared-slice-read-distance-from-2 : tie.Need-shared-slice-read-distance-from-2 Inv-loop μ-loop
+shared-slice-read-distance-from-2 c = omega (arith, st (c .before .before .before) .pre .0 .green)
 
-mul-lesser-2 : tie.Need-mul-lesser-2 Inv-loop μ-loop
-mul-lesser-2 c = omega arith
+mul-distance-from-3 : tie.Need-mul-distance-from-3 Inv-loop μ-loop
+mul-distance-from-3 c = omega arith
 
-shared-slice-read-lesser-2 : tie.Need-shared-slice-read-lesser-2 Inv-loop μ-loop
-shared-slice-read-lesser-2 c = omega (arith, st (c .before .before .before .before) .pre .0 .blue)
+shared-slice-read-distance-from-3 : tie.Need-shared-slice-read-distance-from-3 Inv-loop μ-loop
+shared-slice-read-distance-from-3 c = omega (arith, st (c .before .before .before .before) .pre .0 .blue)
 
-distance-requires : tie.Need-distance-requires Inv-loop μ-loop
-distance-requires c κs =
+distance-from-requires : tie.Need-distance-from-requires Inv-loop μ-loop
+distance-from-requires c κs =
     let l = c .before .before .before .before in
     (st l .pre .1 (l .loop .i) (omega arith), st l .pre .2)
 
-mul-lesser-3 : tie.Need-mul-lesser-3 Inv-loop μ-loop
-mul-lesser-3 c = omega arith
+mul-lesser : tie.Need-mul-lesser Inv-loop μ-loop
+mul-lesser c = omega arith
 
 slice-read-lesser : tie.Need-slice-read-lesser Inv-loop μ-loop
 slice-read-lesser c =
     rw (c .before .before .before .before .before .before .loop .inv .1, fill-length) (omega arith)
 
-mul-lesser-4 : tie.Need-mul-lesser-4 Inv-loop μ-loop
-mul-lesser-4 c = omega arith
+mul-lesser-2 : tie.Need-mul-lesser-2 Inv-loop μ-loop
+mul-lesser-2 c = omega arith
 
 add-lesser : tie.Need-add-lesser Inv-loop μ-loop
 add-lesser c = omega arith
@@ -69,8 +69,8 @@ add-lesser c = omega arith
 lesser-requires : tie.Need-lesser-requires Inv-loop μ-loop
 lesser-requires c κs = search needs
 
-mul-best-2 : tie.Need-mul-best-2 Inv-loop μ-loop
-mul-best-2 c = omega arith
+mul-best : tie.Need-mul-best Inv-loop μ-loop
+mul-best c = omega arith
 
 slice-write-best : tie.Need-slice-write-best Inv-loop μ-loop
 slice-write-best c =
@@ -87,7 +87,7 @@ loop-again c =
     let turn = c .before .before .before .before .before .before .before in
     let l = turn .loop in
     let a = st turn .args in
-    let far = c .before .before .distance in (
+    let far = c .before .before .distance-from in (
       omega arith,
       look-more (pointAt (now (a .reds)) (now (a .greens)) (now (a .blues))) (a .p) (a .q) (l .i) (now (a .best))
           (l .inv .1) (omega arith) (far .result) (c .lesser .result) (far .ensures .0) (c .lesser .ensures),
@@ -110,19 +110,19 @@ look-spec =
     μ-loop
     cast-number
     loop-holds
-    mul-best
-    shared-slice-read-best
+    mul-distance-from
+    shared-slice-read-distance-from
+    mul-distance-from-2
+    shared-slice-read-distance-from-2
+    mul-distance-from-3
+    shared-slice-read-distance-from-3
+    distance-from-requires
     mul-lesser
-    shared-slice-read-lesser
-    mul-lesser-2
-    shared-slice-read-lesser-2
-    distance-requires
-    mul-lesser-3
     slice-read-lesser
-    mul-lesser-4
+    mul-lesser-2
     add-lesser
     lesser-requires
-    mul-best-2
+    mul-best
     slice-write-best
     add-i
     loop-less

@@ -1,0 +1,2 @@
+-- The tests of the last keys.
+pub mod Tests

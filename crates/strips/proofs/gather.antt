@@ -1,0 +1,2 @@
+-- Pixel after pixel takes its place.
+pub mod Gathers

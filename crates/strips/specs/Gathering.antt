@@ -1,0 +1,42 @@
+-- A block of pixels, and what gathering them leaves: pixels that follow one another and are equal share a place.
+use Prim.Native.Nat.{ℕ, _-_, _≤_, _<_}
+use mathlib.Core.Bool.{cond}
+use mathlib.Core.List.{List}
+use mathlib.Core.Path.{_≡_}
+use lib.Dec.{eqb}
+use lib.ListN.{getD}
+use Rattle.colour.specs.{Point, keyOf, redOf, greenOf, blueOf}
+use Rattle.strips.specs.Meaning.{pixelAt}
+
+-- the most pixels of a block, and so the most places
+abbrev pub mostPlaces : ℕ
+mostPlaces = 1024
+
+-- the block that begins at pixel i of n ends at e: it has some pixels, and no more than a block may have
+pub record BlockEnd (i n e : ℕ) : Type 0 where
+  pub some : i < e
+  pub within : e ≤ n
+  pub few : e - i ≤ mostPlaces
+
+-- 1 where two numbers differ, 0 where they are equal
+abbrev pub differ : ℕ → ℕ → ℕ
+differ a b = cond (eqb a b) 0 1
+
+-- the key of a colour in whole levels
+abbrev pub pointKey : Point → ℕ
+pointKey c = keyOf (c .r) (c .g) (c .b)
+
+-- the place of pixel i
+abbrev pub placeOf : List ℕ → ℕ → ℕ
+placeOf which i = getD which i 0
+
+-- the colour with the key at place q, in whole levels
+abbrev pub levelsAt : List ℕ → ℕ → Point
+levelsAt keys q = record { r = redOf (getD keys q 0); g = greenOf (getD keys q 0); b = blueOf (getD keys q 0) }
+
+-- the first n pixels of a strip are gathered in m places, at most one for each pixel: the key at the place of a pixel
+-- is the pixel's
+pub record Gathered (strip : List ℕ) (n : ℕ) (keys which : List ℕ) (m : ℕ) : Type 0 where
+  pub few : m ≤ n
+  pub placed : (i : ℕ) → i < n → placeOf which i < m
+  pub is : (i : ℕ) → i < n → getD keys (placeOf which i) 0 ≡ pointKey (pixelAt strip i)
