@@ -3,13 +3,16 @@
 //
 // Calls; none refuses, and what one requires stands above it
 //   group_short   by the shortened search, from the former shades   short.rt
+//   regroup       the same, with the rows it needs                  choose.rt
 //   group_plain   by the plain search                               plain.rt
 //
 // Read next: specs/Lib.antt (what the words mean), proofs/Lib.antt (what is shown).
 
+mod choose;
 mod plain;
 mod short;
 
+pub use choose::regroup;
 pub use plain::group_plain;
 pub use short::group_short;
 

@@ -48,8 +48,7 @@ pub fn short_step(
         (r .total) (r .moved) (r .count) ⌝ }
 {
     let mut g = [0u32; 4096];
-    search::fill_rows(s, k, &mut g);
-    let a = groups::group_short(keys, weights, used, s, &g, k, members);
+    let a = groups::regroup(keys, weights, used, s, k, &mut g, members);
     let t = a.sums;
     let moved = moves::count_movers(&t, k, s);
     moves::move_shades(&t, k, s);

@@ -16,13 +16,13 @@ use Rattle.groups.proofs.Turns.{Fitted, Turned, turned-length, turned-k
 abbrev pub shortWorks : List ℕ → List ℕ → ℕ → List ℕ → ℕ → ℕ
 shortWorks ks s k before j = worked s k (colourAt ks j) (getD before j 0)
 
-module _ {used : ℕ} {ks ws s g : List ℕ} {k : ℕ} {before : List ℕ} (y : Groupable used ks ws s g k before) where
+module _ {used : ℕ} {ks ws s : List ℕ} {k : ℕ} {before : List ℕ} (y : Groupable used ks ws s k before) where
   -- a shortened grouping has what a turn asks
   pub short-fitted : Fitted used ks ws s k (shortWorks ks s k before) before
   short-fitted = record {
     table = y .table;
     shades = y .shades;
-    some = λ h. omega (arith, y .joined 0 h);
+    some = λ h. y .some;
     room = y .room;
     few = λ j. omega (arith, worked-at-most s k (colourAt ks j) (getD before j 0), y .shades .few);
   }
@@ -35,16 +35,16 @@ module _ {used : ℕ} {ks ws s g : List ℕ} {k : ℕ} {before : List ℕ} (y : 
         elim (decLt j i) [
           | yes l ↦
               rw (x .filled, fill-at i j (joins (coloursOf used ks ws) k s) before l (omega (arith, y .room)))
-              (nearest-below s k (colourAt ks j) (omega (arith, y .joined j h)))
+              (nearest-below s k (colourAt ks j) (y .some))
           | no l ↦ rw (x .filled, fill-kept i j (joins (coloursOf used ks ws) k s) before (omega arith)) (y .joined j h)
         ]
 
     -- what the grouping asks holds at each turn
-    pub short-again : Groupable used ks ws s g k members
+    pub short-again : Groupable used ks ws s k members
     short-again = record {
       table = y .table;
       shades = y .shades;
-      rows = y .rows;
+      some = y .some;
       room = omega (arith, y .room, turned-length x);
       joined = short-joined;
     }

@@ -22,11 +22,11 @@ use Rattle.groups.proofs.short.group_short.Statement.{statement}
 use Rattle.groups.proofs.short.group_short.Tie as tie
 
 abbrev Inv-loop : tie.InvT-loop
-Inv-loop keys weights used s g k members₀ total₀ count₀ sums₀ i₀ members total count sums i =
+Inv-loop keys weights used s g k few members₀ total₀ count₀ sums₀ i₀ members total count sums i =
     Turned used keys weights s k (shortWorks keys s k members₀) members₀ members total count sums i
 
 abbrev μ-loop : tie.MeasureT-loop
-μ-loop keys weights used s g k members₀ total₀ count₀ sums₀ i₀ members total count sums i = used - i
+μ-loop keys weights used s g k few members₀ total₀ count₀ sums₀ i₀ members total count sums i = used - i
 
 -- what the entry gives, once it is worked out
 abbrev gives-at : (c : tie.After-gift-of Inv-loop μ-loop)
@@ -41,14 +41,12 @@ gives-at c =
     (c .before .before .before .rejoin .ensures .0) (e .0) (e .1 .0) (e .1 .1 .0) (e .1 .1 .1)
 
 loop-holds : tie.Need-loop-holds Inv-loop μ-loop
-loop-holds c = turned-start (short-fitted (c .before .before .before .before .before .pre))
+loop-holds c = turned-start (short-fitted (c .before .before .before .before .before .pre .0))
 
 rejoin-requires : tie.Need-rejoin-requires Inv-loop μ-loop
-rejoin-requires c κs = (
-  short-again (c .before .before .before .before .before .before .before .before .pre)
-      (c .before .before .loop .inv),
-  c .before .loop-test .taken,
-)
+rejoin-requires c κs =
+    let p = c .before .before .before .before .before .before .before .before .pre in
+    (short-again (p .0) (c .before .before .loop .inv), p .1, c .before .loop-test .taken)
 
 mul-gift-of : tie.Need-mul-gift-of Inv-loop μ-loop
 mul-gift-of c = omega arith
@@ -93,7 +91,7 @@ add-count c =
     omega (
       arith,
       count-fits x (met .before .before .loop-test .taken) (met .rejoin .result .count)
-          (short-worked (start .pre) x _ (met .rejoin .ensures .1)),
+          (short-worked (start .pre .0) x _ (met .rejoin .ensures .1)),
     )
 
 cast-raise : tie.Need-cast-raise Inv-loop μ-loop
@@ -117,7 +115,7 @@ loop-again c =
     let x = gift .before .before .before .before .before .before .loop .inv in
     let start = gift .before .before .before .before .before .before .before .before .before .before .before .before in
     turned-step x (gift .before .before .before .before .before .loop-test .taken) (gives-at gift) _
-    (short-worked (start .pre) x _ (gift .before .before .before .rejoin .ensures .1)) _ (c .raise .ensures)
+    (short-worked (start .pre .0) x _ (gift .before .before .before .rejoin .ensures .1)) _ (c .raise .ensures)
 
 same-length : tie.Need-same-length Inv-loop μ-loop
 same-length c = turned-length (c .before .loop .inv)

@@ -1,6 +1,7 @@
--- `rejoin` meets its contract: what it asks gives what the shortened search asks.
+-- `rejoin` meets its contract: what it asks gives what either walk asks.
 use native.Mathlib.Omega.{arith}
 use borrow.Author.Needs.{needs}
+use Rattle.groups.proofs.Tracking.{tracks-gaps, tracks-rows}
 use Rattle.groups.proofs.short.rejoin.Statement.{statement}
 use Rattle.groups.proofs.short.rejoin.Tie as tie
 
@@ -23,19 +24,38 @@ shared-slice-read-colour-of c = search needs
 colour-of-requires : tie.Need-colour-of-requires
 colour-of-requires c κs = search needs
 
-walk-requires : tie.Need-walk-requires
-walk-requires c κs =
-    let p = c .before .before .before .before .before .before .before .before .pre in
+-- where the function begins
+abbrev st : tie.After-colour-of → tie.Start
+st c = c .before .before .before .before .before .before .before .before
+
+walk-gaps-requires : tie.Need-walk-gaps-requires
+walk-gaps-requires c κs =
+    let p = st (c .before) .pre in
     record {
-      former = p .0 .joined _ (p .1);
+      former = p .0 .joined _ (p .2);
       shades = p .0 .shades;
-      rows = p .0 .rows;
-      inside = c .colour-of .ensures .1;
+      gaps = tracks-gaps _ _ _ _ (c .if1 .taken) (p .1);
+      inside = c .before .colour-of .ensures .1;
     }
 
 returns : tie.Need-returns
 returns c =
-    let e = c .before .colour-of .ensures .0 in
+    let e = c .before .before .colour-of .ensures .0 in
+    (rw e at (c .walk-gaps .ensures .0), rw e at (c .walk-gaps .ensures .1))
+
+walk-requires : tie.Need-walk-requires
+walk-requires c κs =
+    let p = st (c .before) .pre in
+    record {
+      former = p .0 .joined _ (p .2);
+      shades = p .0 .shades;
+      rows = tracks-rows _ _ _ _ (c .if1 .left) (p .1);
+      inside = c .before .colour-of .ensures .1;
+    }
+
+returns-2 : tie.Need-returns-2
+returns-2 c =
+    let e = c .before .before .colour-of .ensures .0 in
     (rw e at (c .walk .ensures .0), rw e at (c .walk .ensures .1))
 
 pub rejoin-spec : {M : Type 1} → statement M
@@ -48,5 +68,7 @@ rejoin-spec =
     mul-colour-of
     shared-slice-read-colour-of
     colour-of-requires
+    walk-gaps-requires
+    returns
     walk-requires
-    returns)
+    returns-2)

@@ -1,0 +1,2 @@
+-- Rows of gaps, one after the other; and the search that goes through one.
+pub mod Nears
