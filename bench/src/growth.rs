@@ -53,10 +53,14 @@ fn map(pace: Pace, strip: &[u8], palette: &[u8]) -> f64 {
     best(pace, &mut || timed(|| proved::map(strip, palette, &mut index)).0)
 }
 
-/// The jobs that grow with pixels.
+/// How a picture of a side is made.
+type Paint = fn(usize) -> Picture;
+
+/// The jobs that grow with pixels. A photo of the greatest side has more colours than a table.
 fn with_pixels(pace: Pace, sides: [usize; 3]) {
-    for paint in [pictures::drawing, pictures::scan, pictures::photo] {
-        let all = sides.map(paint);
+    let paints: [(Paint, usize); 3] = [(pictures::drawing, 1), (pictures::scan, 1), (pictures::photo, 2)];
+    for (paint, part) in paints {
+        let all = sides.map(|side| paint(side / part));
         let name = &all[0].name;
         row("table, one strip", &format!("pixels of a {name}"), "pixel", [0, 1, 2].map(|size| fill(pace, &all[size])));
         let palette = rounds::palette(&tables::table_of(&all[0]), 16);

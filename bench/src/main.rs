@@ -1,8 +1,9 @@
 //! Times the proved library beside plain Rust, job by job, and prints a table in Markdown.
 //!
 //! usage: bench [--quick] [--pictures FOLDER | --growth] [PICTURE.ppm..]
-//! Pictures that are named come behind the three that are made. With a folder it times nothing, but writes each picture there as a P6 file, its palettes as P6 files of one row, its
-//! table, and its starting shades. With --growth it times the proved library alone, each job at three sizes.
+//! Pictures that are named come behind the three that are made. With a folder it times nothing, but writes each picture
+//! there as a P6 file, its palettes as P6 files of one row, its table, and its starting shades. With --growth it times
+//! the proved library alone, each job at three sizes.
 mod floors;
 mod forms;
 mod growth;
@@ -22,7 +23,7 @@ const COUNTS: [usize; 3] = [8, 16, 64];
 
 /// The heading of the table of jobs.
 const HEADING: &str =
-    "| Job | Picture | ns for each | Proved | Rust, same method | Ratio | Rust, best form | Ratio | Form |
+    "| Job | Picture | ns for each | Proved | Rust, usual form | Ratio | Rust, best form | Ratio | Form |
 |---|---|---|---|---|---|---|---|---|";
 
 /// The heading of the table of floors.

@@ -42,8 +42,8 @@ pub fn race<A: PartialEq>(pace: Pace, job: &str, forms: &mut [Form<A>]) -> Vec<f
     best
 }
 
-/// Prints a row: job, picture, unit; the proved library; Rust by the same method, with the ratio; and, where another
-/// form of it is quicker, that one with its ratio and name; all in nanoseconds a unit.
+/// Prints a row: job, picture, unit; the proved library; the usual form in Rust, with the ratio; and, where another
+/// form is quicker, that one with its ratio and name; all in nanoseconds a unit.
 pub fn row(job: &str, picture: &str, unit: (&str, f64), times: &[f64], other: &str) {
     let each: Vec<f64> = times.iter().map(|time| time * 1e9 / unit.1).collect();
     let best = match each.get(2) {

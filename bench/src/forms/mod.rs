@@ -1,7 +1,8 @@
 //! The same jobs in plain Rust, in lent slices and local arrays under a mebibyte, with the same tests of their input.
 //!
-//! `table` with `merge::walk`, `rounds`, `run`, `blocks` and `header` go by the proved library's method. `merge::leap`,
-//! `first` and `cells` are other methods that give the same answers, and on some pictures sooner.
+//! `table` with `merge::walk`, `rounds`, `run`, `blocks` and `header` are the usual forms: the proved library's methods
+//! without what it does for long tables, small ones, and pixels that equal the one before. `merge::leap`, `first` and
+//! `cells` are other methods that give the same answers, and on some pictures sooner.
 pub mod blocks;
 pub mod cells;
 pub mod first;

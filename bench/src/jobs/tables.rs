@@ -24,7 +24,7 @@ fn filled(table: &mut Table, picture: &Picture, strip: usize, add: fn(&mut Table
     (seconds, contents(table))
 }
 
-/// Adds a strip by the same method in Rust.
+/// Adds a strip by the usual form in Rust.
 fn walked(table: &mut Table, strip: &[u8]) {
     forms::table::add(merge::walk, &mut table.record, &mut table.keys, &mut table.weights, strip);
 }
