@@ -3,6 +3,7 @@
 --   push i n v         v put in at place i, n values moved up
 --   allBelow ks i k    the last of the first i keys is below k
 --   sixteenPassed ks i k   the last sixteen of the first i keys are there, and none is below k
+--   passSixteens ks i k    how many of the first i keys are left, passed by sixteens as long as they can be
 --   lift n i o         the n values before place i stored before place o
 --   giveBack           the runs of a list added to a table, the last one first
 --   withRuns           the table in two slices with the first runs of a list
@@ -14,6 +15,6 @@
 --   Tried              what was tried, and what the slices have
 pub mod Walk
 pub mod Trying
-unfoldable pub use Walk.{below, hit, push, allBelow, sixteenPassed, lift, giveBack, withRuns, InOrder}
+unfoldable pub use Walk.{below, hit, push, allBelow, sixteenPassed, passSixteens, lift, giveBack, withRuns, InOrder}
 unfoldable pub use Trying.{piece, laidKeys, laidWeights}
 pub use Trying.{Standing, Ready, Tried}

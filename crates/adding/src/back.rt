@@ -1,8 +1,8 @@
 // Keys that rise, passed from the back: one by one, and sixteen at once where all are passed.
 ghost use mathlib.Core.Path.{_≡_};
-ghost use Prim.Native.Nat.{_≤_, _<_};
-ghost use lib.ListN.{length, getD, take};
-ghost use Rattle.adding.specs.Walk.{below, allBelow, sixteenPassed, InOrder};
+ghost use Prim.Native.Nat.{_≤_};
+ghost use lib.ListN.{length, take};
+ghost use Rattle.adding.specs.Walk.{below, allBelow, sixteenPassed, passSixteens, InOrder};
 
 // Whether the first `i` keys, which rise, are all below `key`.
 pub fn clear(keys: &[u32], i: usize, key: u32) -> bool
@@ -26,11 +26,11 @@ pub fn far(keys: &[u32], i: usize, key: u32) -> bool
     key <= keys[i - 16]
 }
 
-// Passes keys that are not below `key` from the back, by sixteens: how many of the first `i` are
-// left.
+// Passes keys that are not below `key` from the back, by sixteens as long as they go: how many of
+// the first `i` are left.
 fn pass_sixteens(keys: &[u32], i: usize, key: u32) -> usize
     requires { ⌜ i ≤ length (now keys) ⌝ }
-    ensures { λ r. ⌜ (r ≤ i) × (r < i → key ≤ getD (now (keys .entry)) r 0) ⌝ }
+    ensures { λ r. ⌜ r ≡ passSixteens (now (keys .entry)) i key ⌝ }
 {
     let mut left = i;
     while far(keys, left, key) {

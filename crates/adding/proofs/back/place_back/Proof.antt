@@ -6,6 +6,7 @@ use lib.ListN.{getD}
 use denote.Ref.{now}
 use borrow.Author.Tests.{not-true, not-false}
 use Rattle.adding.proofs.back.Tests.{all-below, not-below}
+use Rattle.adding.proofs.back.Sixteens.{sixteens-passed}
 use Rattle.adding.proofs.pixel.Places.{below-at}
 use Rattle.adding.proofs.back.place_back.Statement.{statement}
 use Rattle.adding.proofs.back.place_back.Tie as tie
@@ -30,7 +31,9 @@ pass-sixteens-requires : tie.Need-pass-sixteens-requires Inv-loop μ-loop
 pass-sixteens-requires c κs = omega arith
 
 loop-holds : tie.Need-loop-holds Inv-loop μ-loop
-loop-holds c = c .pass-sixteens .ensures
+loop-holds c =
+    let s = c .before .before .before .before .args in
+    rw (← c .pass-sixteens .ensures) at (sixteens-passed (now (s .keys)) (s .i) (s .key))
 
 clear-requires-2 : tie.Need-clear-requires-2 Inv-loop μ-loop
 clear-requires-2 c κs = omega arith
