@@ -1,0 +1,188 @@
+-- What is shown of runs: each theorem in full, under a sentence that says it.
+-- `AcceptedRun .. r members totals` says that r, members and totals are what an accepted run answers and leaves; the
+-- colours are those of the table, and the group of shade q has the colours whose member is q.
+use Prim.Native.Nat.{ℕ, _+_, _-_, _*_, _≤_, _<_}
+use mathlib.Core.Bool.{true, false}
+use mathlib.Core.List.{List}
+use mathlib.Core.Path.{_≡_, sym, _∙_}
+use lib.ListN.{getD, length}
+use lib.Dec.{eqb}
+use Rattle.number.specs.{sum, sumOf}
+use Rattle.refusal.specs.{done}
+use Rattle.table.specs.{Record}
+use Rattle.colour.specs.{Point, distance}
+use Rattle.shades.specs.{shadeAt, colourAt, nearestShade, OnGrid}
+use Rattle.rounds.specs.{
+  Bounded,
+  SumBounded,
+  coloursOf,
+  pixelsIn,
+  sumsOf,
+  leastOf,
+  costAt,
+  meanOf,
+  drawn,
+  groupAt,
+  groupCost,
+  toMean,
+  after,
+  movedOf,
+  totalOf,
+  starts,
+  begin,
+  leastSum,
+}
+use Rattle.rounds.proofs.Promises.{fraction-at-least, fraction-exactly}
+use Rattle.lloyd.specs.Refusals.{limitOf}
+use Rattle.lloyd.specs.Beginning.{FarthestColour}
+use Rattle.lloyd.specs.Outcomes.{RunOutcome, RunMeets, AcceptedRun, runOf, madeRun, left}
+use Rattle.lloyd.specs.declared.Ran.{Ran}
+use Rattle.lloyd.proofs.Accepted as accepted
+use Rattle.lloyd.proofs.Wholes as wholes
+
+-- ---- the contract
+
+-- A run's contract determines its answer and the final contents of both lent slices.
+pub run-only : (o : RunOutcome) (r r′ : Ran) (ms ms′ ts ts′ : List ℕ) → RunMeets o r ms ts → RunMeets o r′ ms′ ts′
+    → (r ≡ r′) × (ms ≡ ms′) × (ts ≡ ts′)
+run-only o r r′ ms ms′ ts ts′ a b =
+    (a .answer ∙ sym (b .answer), a .members-are ∙ sym (b .members-are), a .totals-are ∙ sym (b .totals-are))
+
+-- ---- every accepted run
+
+-- An accepted run makes rounds of Lloyd's rule from the starting shades, with every colour in shade 0.
+pub run-accepted : (rec : Record) (ks ws : List ℕ) (k limit : ℕ) (ms ts : List ℕ)
+    → runOf rec ks ws k limit ms ts .answer .refusal ≡ done
+    → runOf rec ks ws k limit ms ts
+    ≡ madeRun (coloursOf (rec .used) ks ws) k (limitOf limit) (begin (coloursOf (rec .used) ks ws) k ms) ts
+run-accepted = wholes.run-accepted
+
+module _ {rec : Record} {ks ws : List ℕ} {k limit : ℕ} {ms ts : List ℕ} {r : Ran} {members totals : List ℕ}
+    (h : AcceptedRun rec ks ws k limit ms ts r members totals) where
+  -- ---- where it begins
+
+  -- The run begins with shade 0 on the rounded mean of the whole table, weights counted.
+  pub first-is-mean : shadeAt (begin (coloursOf (rec .used) ks ws) k ms .coordinates) 0
+      ≡ meanOf (coloursOf (rec .used) ks ws)
+  first-is-mean = accepted.first-is-mean h
+
+  -- Each next shade begins on the table colour whose distance to its nearest shade before it is greatest; every colour
+  -- with a lower key is strictly nearer.
+  pub start-is-farthest : (q : ℕ) → q + 1 < k
+      → FarthestColour (rec .used) ks (starts (coloursOf (rec .used) ks ws) (q + 1)) (q + 1)
+      (shadeAt (begin (coloursOf (rec .used) ks ws) k ms .coordinates) (q + 1))
+  start-is-farthest = accepted.start-is-farthest h
+
+  -- ---- its rounds and their totals
+
+  -- At least one round is made, and at most as many as the limit.
+  pub rounds-within : (0 < r .rounds) × (r .rounds ≤ limitOf limit)
+  rounds-within = accepted.rounds-within h
+
+  -- The run is settled exactly where its last round moves no shade.
+  pub settled-is : r .settled
+      ≡ eqb (movedOf toMean (coloursOf (rec .used) ks ws) k
+      (after toMean (coloursOf (rec .used) ks ws) k (begin (coloursOf (rec .used) ks ws) k ms) (r .rounds - 1))) 0
+  settled-is = accepted.settled-is h
+
+  -- Every round before the last moves a shade.
+  pub moved-before : (n : ℕ) → n + 1 < r .rounds
+      → eqb (movedOf toMean (coloursOf (rec .used) ks ws) k
+      (after toMean (coloursOf (rec .used) ks ws) k (begin (coloursOf (rec .used) ks ws) k ms) n)) 0
+      ≡ false
+  moved-before = accepted.moved-before h
+
+  -- The recorded total of each round is that of the method, against the shades as they stood before its move.
+  pub total-recorded : (n : ℕ) → n < r .rounds
+      → getD totals n 0
+      ≡ totalOf (coloursOf (rec .used) ks ws) k
+      (after toMean (coloursOf (rec .used) ks ws) k (begin (coloursOf (rec .used) ks ws) k ms) n)
+  total-recorded = accepted.total-recorded h
+
+  -- The recorded totals never rise.
+  pub totals-never-rise : (n : ℕ) → n + 1 < r .rounds → getD totals (n + 1) 0 ≤ getD totals n 0
+  totals-never-rise = accepted.totals-never-rise h
+
+  -- ---- its final total
+
+  -- The final total is not above the last recorded one.
+  pub final-at-most-last : r .total ≤ getD totals (r .rounds - 1) 0
+  final-at-most-last = accepted.final-at-most-last h
+
+  -- For the last round's grouping no other shades, with any whole coordinates, give a smaller total.
+  pub final-is-least : (s : ℕ → Point)
+      → r .total ≤ sum (rec .used) (λ i. getD ws i 0 * distance (colourAt ks i) (s (getD members i 0)))
+  final-is-least = accepted.final-is-least h
+
+  -- The final total is the sum over the shades of what each costs its group.
+  pub total-is-groups : r .total ≡ sum k (groupCost (coloursOf (rec .used) ks ws) (left r members))
+  total-is-groups = accepted.total-is-groups h
+
+  -- Group by group, times 4W: the cost is never below the least that fractional shades could give this grouping, and
+  -- above it by at most three quarters of a squared sixteenth a pixel; an empty group costs nothing.
+  pub group-bounded : (q : ℕ)
+      → Bounded (groupAt (coloursOf (rec .used) ks ws) (left r members) q)
+      (groupCost (coloursOf (rec .used) ks ws) (left r members) q)
+  group-bounded = accepted.group-bounded h
+
+  -- The same in sum, over any list of groups, the leasts added up as a fraction.
+  pub groups-bounded : (qs : List ℕ)
+      → SumBounded (leastSum (groupAt (coloursOf (rec .used) ks ws) (left r members)) qs)
+      (sumOf (λ q. pixelsIn (groupAt (coloursOf (rec .used) ks ws) (left r members) q)) qs)
+      (sumOf (groupCost (coloursOf (rec .used) ks ws) (left r members)) qs)
+  groups-bounded = accepted.groups-bounded h
+
+  -- That this is the least: a shade at a / n costs the group no less; both sides stand here times W and n².
+  pub group-fraction-at-least : (q n : ℕ) (a : Point)
+      → n * n * leastOf (groupAt (coloursOf (rec .used) ks ws) (left r members) q)
+      ≤ pixelsIn (groupAt (coloursOf (rec .used) ks ws) (left r members) q)
+      * costAt (drawn n (groupAt (coloursOf (rec .used) ks ws) (left r members) q)) a
+  group-fraction-at-least q n a = fraction-at-least (groupAt (coloursOf (rec .used) ks ws) (left r members) q) n a
+
+  -- And it is attained, where n is W and each a is its S.
+  pub group-fraction-exactly : (q : ℕ)
+      → (let G = groupAt (coloursOf (rec .used) ks ws) (left r members) q in
+      pixelsIn G * costAt (drawn (pixelsIn G) G) (sumsOf G) ≡ pixelsIn G * pixelsIn G * leastOf G)
+  group-fraction-exactly q = fraction-exactly (groupAt (coloursOf (rec .used) ks ws) (left r members) q)
+
+  -- ---- the shades and members it leaves
+
+  -- Each shade with a group stands on the rounded mean of its group.
+  pub stands-on-mean : (q : ℕ) → q < k → 0 < pixelsIn (groupAt (coloursOf (rec .used) ks ws) (left r members) q)
+      → shadeAt (r .shades) q ≡ meanOf (groupAt (coloursOf (rec .used) ks ws) (left r members) q)
+  stands-on-mean = accepted.stands-on-mean h
+
+  -- Every answered coordinate is on the grid.
+  pub shades-low : OnGrid (r .shades)
+  shades-low = accepted.shades-low h
+
+  -- There are three for each shade asked for.
+  pub shades-room : 3 * k ≤ length (r .shades)
+  shades-room = accepted.shades-room h
+
+  -- Answered shades past the count are zeros.
+  pub shades-past : (i : ℕ) → 3 * k ≤ i → getD (r .shades) i 0 ≡ 0
+  shades-past = accepted.shades-past h
+
+  -- Each used member is the number of a shade.
+  pub member-below : (i : ℕ) → i < rec .used → getD members i 0 < k
+  member-below = accepted.member-below h
+
+  -- Members past the used entries stay.
+  pub members-kept : (i : ℕ) → rec .used ≤ i → getD members i 0 ≡ getD ms i 0
+  members-kept = accepted.members-kept h
+
+  -- Totals past the rounds made stay.
+  pub totals-kept : (i : ℕ) → r .rounds ≤ i → getD totals i 0 ≡ getD ts i 0
+  totals-kept = accepted.totals-kept h
+
+  -- ---- where it is settled
+
+  -- Where the run is settled, the final total is the last recorded one.
+  pub settled-final : r .settled ≡ true → r .total ≡ getD totals (r .rounds - 1) 0
+  settled-final = accepted.settled-final h
+
+  -- And each used member is the nearest of the answered shades, the lowest number at a tie.
+  pub settled-joined : r .settled ≡ true → (i : ℕ) → i < rec .used
+      → getD members i 0 ≡ nearestShade (r .shades) k (colourAt ks i)
+  settled-joined = accepted.settled-joined h
