@@ -1,5 +1,5 @@
--- More laws of `howMany`: counts of tests that agree, of places in a row, of all, of some and of all but one; and a
--- loop that counts.
+-- More laws of `howMany`: counts of tests that agree, of places in a row, of all, of some, of all but one and of two;
+-- and a loop that counts.
 use mathlib.Core.Bool.{Bool, true, false, cond, not, _&&_}
 use mathlib.Core.Logic.{inl, inr, ⊎-elim}
 use mathlib.Core.Path.{_≡_, refl, sym, ap, _∙_}
@@ -9,7 +9,7 @@ use native.Mathlib.Omega.{arith}
 use lib.Dec.{eqb}
 use borrow.Author.Tests.{eq-eqb, ne-eqb}
 use Rattle.number.specs.Count.{howMany}
-use Rattle.number.proofs.Cases.{bool}
+use Rattle.number.proofs.Cases.{bool, both, never}
 use Rattle.number.proofs.Counts.{howMany-at-most, howMany-counted}
 use Rattle.number.proofs.Searches.{below-or-last}
 
@@ -146,6 +146,23 @@ howMany-others (suc n) p b h e =
 
     left-out : (i : ℕ) → i ≡ p → other b p i ≡ false
     left-out i d = simp (eq-eqb i p d)
+
+-- where two places pass, at least two are counted
+pub howMany-two : (n i j : ℕ) (b : ℕ → Bool) → i < j → j < n → b i ≡ true → b j ≡ true → 2 ≤ howMany n b
+howMany-two n i j b l h e d =
+    omega (
+      arith,
+      howMany-others n i b (omega arith) e,
+      howMany-some n j (other b i) h (simp (ne-eqb j i (λ x. omega arith), d)),
+    )
+
+-- where at least two are counted, another place than p passes
+pub howMany-another : (n p : ℕ) (b : ℕ → Bool) → p < n → b p ≡ true → 2 ≤ howMany n b
+    → (i : ℕ) × (i < n) × ¬ (i ≡ p) × (b i ≡ true)
+howMany-another n p b h e two =
+    let f = howMany-find n (other b p) (omega (arith, howMany-others n p b h e)) in
+    let t = both (not (eqb (f .0) p)) (b (f .0)) (f .2) in
+    (f .0, f .1, (λ x. never (sym (t .0) ∙ ap not (eq-eqb (f .0) p x))), t .1)
 
 -- ---- a loop that counts
 
