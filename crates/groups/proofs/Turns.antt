@@ -1,24 +1,22 @@
--- One turn of a grouping, whichever search finds the shades: an entry joins its nearest shade, its cost is added, and
--- the sums of its group are raised.
-use Prim.Native.Nat.{ℕ, _+_, _*_, _/_, _%_, _≤_, _<_}
+-- One turn of a grouping, whichever search finds the shades: an entry joins its nearest shade, and its cost is added.
+use Prim.Native.Nat.{ℕ, _+_, _*_, _≤_, _<_}
 use mathlib.Core.List.{List}
-use mathlib.Core.Path.{_≡_, refl, sym, ap, _∙_}
+use mathlib.Core.Path.{_≡_, refl, sym}
 use native.Mathlib.Nat.{le-refl}
 use native.Mathlib.Omega.{arith}
-use lib.ListN.{length, getD, set, replicate}
+use lib.ListN.{length, getD, set}
 use Rattle.number.specs.{sum, fill}
 use Rattle.number.proofs.Fills.{fill-length, fill-kept, fill-more, fill-again}
 use Rattle.number.proofs.Sums.{sum-more, sum-bound}
 use Rattle.colour.specs.{mostPixels, mostDistance}
 use Rattle.colour.proofs.Distances.{colour-within}
-use Rattle.shades.specs.{mostShades, colourAt, Shades, nearestShade, packedNearest}
+use Rattle.shades.specs.{mostShades, colourAt, Shades, nearestShade}
 use Rattle.shades.proofs.Laying.{to-shade-most}
-use Rattle.shades.proofs.Nearest.{nearest-below, packed-number, packed-distance}
+use Rattle.shades.proofs.Nearest.{nearest-below}
 use Rattle.rounds.specs.{Tabled, coloursOf, joins, remote}
 use Rattle.rounds.proofs.Sizes.{fair-of-table, spent-at-most}
-use Rattle.sums.specs.{twoOf, oneOf, weighed, raised, Summed}
-use Rattle.sums.proofs.Bounds.{two-at-most, one-at-most, weight-at-most, adds-fit}
-use Rattle.sums.proofs.Summing.{summed-none, summed-more}
+use Rattle.sums.specs.{Summed}
+use Rattle.sums.proofs.Bounds.{weight-at-most}
 use Rattle.groups.specs.Grouping.{Grouped}
 
 -- what both loops ask: a table, some shades where it has entries, a member for each entry, and at most 65 distances
@@ -35,37 +33,27 @@ abbrev pub costs : List ℕ → List ℕ → List ℕ → ℕ → ℕ → ℕ
 costs ks ws s k i = getD ws i 0 * remote s k (colourAt ks i)
 
 -- the first i entries have joined their shades, from the members before; works j distances are counted for entry j
-pub record Turned (used : ℕ) (ks ws s : List ℕ) (k : ℕ) (works : ℕ → ℕ) (before members : List ℕ) (total count : ℕ)
-    (t : List ℕ) (i : ℕ) : Type 0 where
+pub record Turned (used : ℕ) (ks ws s : List ℕ) (k : ℕ) (works : ℕ → ℕ) (before members : List ℕ) (total count i : ℕ)
+    : Type 0 where
   pub fitted : Fitted used ks ws s k works before
   pub within : i ≤ used
   pub filled : members ≡ fill i (joins (coloursOf used ks ws) k s) before
   pub total-is : total ≡ sum i (costs ks ws s k)
   pub count-is : count ≡ sum i works
-  pub sums : Summed (joins (coloursOf used ks ws) k s) ks ws i t
 
--- what entry i gives: its shade, its cost, and what its group's sums are raised by
-pub record Gives (ks ws s : List ℕ) (k i number cost two one : ℕ) : Type 0 where
+-- what entry i is found to have: its shade, and its cost
+pub record Finds (ks ws s : List ℕ) (k i number cost : ℕ) : Type 0 where
   pub number-is : number ≡ nearestShade s k (colourAt ks i)
   pub cost-is : cost ≡ costs ks ws s k i
-  pub two-is : two ≡ weighed twoOf ks ws i
-  pub one-is : one ≡ weighed oneOf ks ws i
 
 -- no entry has joined
 pub turned-start : {used : ℕ} {ks ws s : List ℕ} {k : ℕ} {works : ℕ → ℕ} {before : List ℕ}
-    → Fitted used ks ws s k works before → Turned used ks ws s k works before before 0 0 (replicate 128 0) 0
+    → Fitted used ks ws s k works before → Turned used ks ws s k works before before 0 0 0
 unfolding fill sum
-turned-start {ks = ks} {ws} f = record {
-  fitted = f;
-  within = omega arith;
-  filled = refl;
-  total-is = refl;
-  count-is = refl;
-  sums = summed-none _ ks ws;
-}
+turned-start f = record { fitted = f; within = omega arith; filled = refl; total-is = refl; count-is = refl }
 
-module _ {used : ℕ} {ks ws s : List ℕ} {k : ℕ} {works : ℕ → ℕ} {before members : List ℕ} {total count : ℕ} {t : List ℕ}
-    {i : ℕ} (x : Turned used ks ws s k works before members total count t i) where
+module _ {used : ℕ} {ks ws s : List ℕ} {k : ℕ} {works : ℕ → ℕ} {before members : List ℕ} {total count i : ℕ}
+    (x : Turned used ks ws s k works before members total count i) where
   -- there are as many members as before
   pub turned-length : length members ≡ length before
   turned-length = rw (x .filled) (fill-length i _ before)
@@ -74,11 +62,12 @@ module _ {used : ℕ} {ks ws s : List ℕ} {k : ℕ} {works : ℕ → ℕ} {befo
   pub turned-kept : getD members i 0 ≡ getD before i 0
   turned-kept = rw (x .filled) (fill-kept i i _ before (le-refl i))
 
-  -- every entry has joined
-  pub turned-done : used ≤ i → Grouped used ks ws s k before members total t
-  turned-done l =
+  -- every entry has joined, and the sums are those of the groups
+  pub turned-done : used ≤ i → {t : List ℕ} → Summed (joins (coloursOf used ks ws) k s) ks ws used t
+      → Grouped used ks ws s k before members total t
+  turned-done l sums =
       let e : i ≡ used = omega (arith, x .within) in
-      record { members = rw e at (x .filled); total-is = rw e at (x .total-is); sums = rw e at (x .sums) }
+      record { members = rw e at (x .filled); total-is = rw e at (x .total-is); sums = sums }
 
   -- and is counted
   pub turned-counted : used ≤ i → count ≡ sum used works
@@ -86,36 +75,19 @@ module _ {used : ℕ} {ks ws s : List ℕ} {k : ℕ} {works : ℕ → ℕ} {befo
 
   module _ (l : i < used) where
     -- there are shades
-    turned-some : 0 < k
+    pub turned-some : 0 < k
     turned-some = x .fitted .some (omega arith)
 
     -- the entry's shade is one of 64
-    number-below : nearestShade s k (colourAt ks i) < mostShades
+    pub number-below : nearestShade s k (colourAt ks i) < mostShades
     number-below = omega (arith, nearest-below s k (colourAt ks i) turned-some, x .fitted .shades .few)
 
     -- the entry's weight and distance are those of a table
-    pub turned-low : (best : ℕ) → best ≡ packedNearest s k (colourAt ks i)
-        → (getD ws i 0 ≤ mostPixels) × (best / mostShades ≤ mostDistance)
-    turned-low best e = (
+    pub turned-low : (d : ℕ) → d ≡ remote s k (colourAt ks i) → (getD ws i 0 ≤ mostPixels) × (d ≤ mostDistance)
+    turned-low d e = (
       weight-at-most used ks ws (x .fitted .table) i l,
-      rw (e, packed-distance s k (colourAt ks i) turned-some (x .fitted .shades .few))
-          (to-shade-most s (colourAt ks i) _ (x .fitted .shades .low) (colour-within (getD ks i 0))),
+      rw e (to-shade-most s (colourAt ks i) _ (x .fitted .shades .low) (colour-within (getD ks i 0))),
     )
-
-    -- what the entry gives, read from distance and number in one
-    pub turned-gives : (best number cost two one : ℕ) → best ≡ packedNearest s k (colourAt ks i)
-        → number ≡ best % mostShades → cost ≡ getD ws i 0 * (best / mostShades) → two ≡ weighed twoOf ks ws i
-        → one ≡ weighed oneOf ks ws i → Gives ks ws s k i number cost two one
-    turned-gives best number cost two one e n c p q = record {
-      number-is =
-          n ∙ ap (λ b. b % mostShades) e
-          ∙ packed-number s k (colourAt ks i) turned-some (x .fitted .shades .few);
-      cost-is =
-          c ∙ ap (λ b. getD ws i 0 * (b / mostShades)) e
-          ∙ ap (λ d. getD ws i 0 * d) (packed-distance s k (colourAt ks i) turned-some (x .fitted .shades .few));
-      two-is = p;
-      one-is = q;
-    }
 
     -- the count stays below 2^64
     pub count-fits : (n : ℕ) → n ≡ works i → count + n ≤ 18446744073709551615
@@ -128,7 +100,7 @@ module _ {used : ℕ} {ks ws s : List ℕ} {k : ℕ} {works : ℕ → ℕ} {befo
           x .fitted .table .few,
         )
 
-    module _ {number cost two one : ℕ} (g : Gives ks ws s k i number cost two one) where
+    module _ {number cost : ℕ} (g : Finds ks ws s k i number cost) where
       -- the total stays below 2^64
       pub total-fits : total + cost ≤ 18446744073709551615
       total-fits =
@@ -141,28 +113,15 @@ module _ {used : ℕ} {ks ws s : List ℕ} {k : ℕ} {works : ℕ → ℕ} {befo
                 (joins (coloursOf used ks ws) k s) (i + 1) (omega arith),
           )
 
-      -- the sums of the entry's group are there and stay below 2^64
-      pub sums-fit : (number < mostShades) × (getD t (2 * number) 0 + two ≤ 18446744073709551615)
-          × (getD t (2 * number + 1) 0 + one ≤ 18446744073709551615)
-      sums-fit =
-          let m = joins (coloursOf used ks ws) k s in
-          let tab = x .fitted .table in
-          rw (g .number-is, g .two-is, g .one-is) (
-            number-below,
-            rw (x .sums .two (m i) number-below) (adds-fit used ks ws tab twoOf two-at-most m i l),
-            rw (x .sums .one (m i) number-below) (adds-fit used ks ws tab oneOf one-at-most m i l),
-          )
-
       -- entry i has joined
-      pub turned-step : (n : ℕ) → n ≡ works i → (after : List ℕ) → after ≡ raised t number two one
-          → Turned used ks ws s k works before (set members i number) (total + cost) (count + n) after (i + 1)
-      turned-step n e after r = record {
+      pub turned-step : (n : ℕ) → n ≡ works i
+          → Turned used ks ws s k works before (set members i number) (total + cost) (count + n) (i + 1)
+      turned-step n e = record {
         fitted = x .fitted;
         within = omega arith;
         filled = rw (x .filled, g .number-is) (fill-more i _ before (omega (arith, x .fitted .room)));
         total-is = rw (x .total-is, g .cost-is) (sym (sum-more i (costs ks ws s k)));
         count-is = rw (x .count-is, e) (sym (sum-more i works));
-        sums = rw (r, g .number-is, g .two-is, g .one-is) (summed-more _ ks ws i t (x .sums) number-below);
       }
 
 -- a grouping from members that were overwritten is one from the members before that

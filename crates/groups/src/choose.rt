@@ -5,6 +5,7 @@ ghost use Prim.Native.Nat.{_*_, _≤_};
 ghost use lib.ListN.{length};
 ghost use Rattle.shades.specs.{mostShades, Shades};
 ghost use Rattle.rounds.specs.{stateOf, coloursOf, shortDistances};
+ghost use Rattle.sums.specs.{Summed, memberAt};
 ghost use Rattle.groups.specs.Grouping.{Groupable, Tracks, Grouped};
 use super::Regrouped;
 use super::short::group_short;
@@ -21,9 +22,10 @@ fn track(s: &[u32], k: usize, few: bool, g: &mut [u32])
     search::fill_rows(s, k, g);
 }
 
-// Groups the table from the former shades and leaves the grouping in the members; past the used
-// entries they stay. What `g` holds afterwards is not said. Requires a table, some shades, a former
-// shade for each entry, and room for the rows in `g`.
+// Groups the table from the former shades and leaves the grouping in the members, which stay past
+// the used entries, and the groups' sums in `t`. What `g` holds afterwards is not said. Requires a
+// table, some shades, a former shade for each entry, the sums of the former groups, and room for the
+// rows in `g`.
 pub fn regroup(
     keys: &[u32],
     weights: &[u32],
@@ -32,16 +34,18 @@ pub fn regroup(
     k: usize,
     g: &mut [u32],
     members: &mut [u32],
+    t: &mut [u64; 128],
 ) -> Regrouped
     requires { ⌜ Groupable used (now keys) (now weights) (now s) k (now members)
-        × (mostShades * k ≤ length (now g)) ⌝ }
+        × (mostShades * k ≤ length (now g))
+        × Summed (memberAt (now members)) (now keys) (now weights) used (now t) ⌝ }
     ensures grouped { λ r. ⌜ Grouped used (now (keys .entry)) (now (weights .entry))
-        (now (s .entry)) k (now (members .entry)) (now (members .exit)) (r .total) (r .sums) ⌝ }
+        (now (s .entry)) k (now (members .entry)) (now (members .exit)) (r .total) (now (t .exit)) ⌝ }
     ensures count { λ r. ⌜ r .count
         ≡ shortDistances (coloursOf used (now (keys .entry)) (now (weights .entry))) k
         (stateOf (now (s .entry)) (now (members .entry))) ⌝ }
 {
     let few = used <= k * k / 8;
     track(s, k, few, g);
-    group_short(keys, weights, used, s, g, k, few, members)
+    group_short(keys, weights, used, s, g, k, few, members, t)
 }

@@ -1,5 +1,5 @@
-// Each colour of a table joins its nearest shade, found by the plain or by the shortened search;
-// the groups' sums are taken on the way.
+// Each colour of a table joins its nearest shade, found by the plain or by the shortened search. The
+// groups' sums stand in 128 numbers that are lent, at 2q and 2q + 1 those of group q.
 //
 // Calls; none refuses, and what one requires stands above it
 //   group_short   by the shortened search, from the former shades   short.rt
@@ -16,10 +16,8 @@ pub use choose::regroup;
 pub use plain::group_plain;
 pub use short::group_short;
 
-// The total of a grouping, the distances worked out, and the groups' sums: at 2q and 2q + 1 those
-// of group q.
+// The total of a grouping, and the distances worked out.
 pub struct Regrouped {
     pub total: u64,
     pub count: u64,
-    pub sums: [u64; 128],
 }

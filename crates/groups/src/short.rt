@@ -1,14 +1,17 @@
 // The grouping by the shortened search, from the former shades in the members.
 ghost use mathlib.Core.Path.{_≡_};
 ghost use Prim.Native.Nat.{_<_};
-ghost use lib.ListN.{getD};
-ghost use Rattle.shades.specs.{colourAt, packedNearest, worked};
-ghost use Rattle.rounds.specs.{stateOf, coloursOf, shortDistances};
+ghost use lib.ListN.{getD, set};
+ghost use Rattle.shades.specs.{mostShades, colourAt, toShade, nearestShade, worked};
+ghost use Rattle.rounds.specs.{Tabled, stateOf, coloursOf, shortDistances};
+ghost use Rattle.sums.specs.{Summed, Assigned, memberAt};
 ghost use Rattle.groups.specs.Grouping.{Groupable, Tracks, Grouped};
 use super::Regrouped;
 use search::Met;
-use sums::gift_of;
+use sums::lower;
+use sums::one_of;
 use sums::raise;
+use sums::two_of;
 
 // The nearest shade of entry `i`, from its member, by the rows that `g` has.
 fn rejoin(
@@ -24,8 +27,11 @@ fn rejoin(
 ) -> Met
     requires { ⌜ Groupable used (now keys) (now weights) (now s) k (now members)
         × Tracks few (now s) k (now g) × (i < used) ⌝ }
-    ensures best { λ r. ⌜ r .best
-        ≡ packedNearest (now (s .entry)) k (colourAt (now (keys .entry)) i) ⌝ }
+    ensures number { λ r. ⌜ r .number
+        ≡ nearestShade (now (s .entry)) k (colourAt (now (keys .entry)) i) ⌝ }
+    ensures distance { λ r. ⌜ r .distance
+        ≡ toShade (now (s .entry)) (colourAt (now (keys .entry)) i)
+        (nearestShade (now (s .entry)) k (colourAt (now (keys .entry)) i)) ⌝ }
     ensures count { λ r. ⌜ r .count
         ≡ worked (now (s .entry)) k (colourAt (now (keys .entry)) i)
         (getD (now (members .entry)) i 0) ⌝ }
@@ -38,8 +44,41 @@ fn rejoin(
     search::walk(s, g, k, c, p)
 }
 
-// Groups the table by the shortened search and leaves the grouping in the members; past the used
-// entries they stay. Requires a table, shades with their rows, and a former shade for each entry.
+// Entry `i` joins group `q`. Where that is not its former one, what it gives goes along, from the
+// former group's sums to those of q; most entries of a late round stay, and touch no sums. Requires a
+// table, a group for each entry and the groups' sums, one of the entries and one of 64 groups.
+fn join(
+    keys: &[u32],
+    weights: &[u32],
+    used: usize,
+    members: &mut [u32],
+    t: &mut [u64; 128],
+    i: usize,
+    q: u32,
+)
+    requires { ⌜ Tabled used (now keys) (now weights) × Assigned used (now members)
+        × Summed (memberAt (now members)) (now keys) (now weights) used (now t) × (i < used)
+        × (q < mostShades) ⌝ }
+    ensures members { λ _. ⌜ now (members .exit) ≡ set (now (members .entry)) i q ⌝ }
+    ensures sums { λ _. ⌜ Summed (memberAt (now (members .exit))) (now (keys .entry))
+        (now (weights .entry)) used (now (t .exit)) ⌝ }
+{
+    let p = members[i];
+    if p == q {
+        return;
+    }
+    let from = p as usize;
+    let to = q as usize;
+    let two = two_of(weights[i], keys[i]);
+    let one = one_of(weights[i], keys[i]);
+    lower(t, from, two, one);
+    raise(t, to, two, one);
+    members[i] = q;
+}
+
+// Groups the table by the shortened search and leaves the grouping in the members, which stay past
+// the used entries, and the groups' sums in `t`. Requires a table, shades with their rows, a former
+// shade for each entry, and the sums of the former groups.
 pub fn group_short(
     keys: &[u32],
     weights: &[u32],
@@ -49,28 +88,26 @@ pub fn group_short(
     k: usize,
     few: bool,
     members: &mut [u32],
+    t: &mut [u64; 128],
 ) -> Regrouped
     requires { ⌜ Groupable used (now keys) (now weights) (now s) k (now members)
-        × Tracks few (now s) k (now g) ⌝ }
+        × Tracks few (now s) k (now g)
+        × Summed (memberAt (now members)) (now keys) (now weights) used (now t) ⌝ }
     ensures grouped { λ r. ⌜ Grouped used (now (keys .entry)) (now (weights .entry))
-        (now (s .entry)) k (now (members .entry)) (now (members .exit)) (r .total) (r .sums) ⌝ }
+        (now (s .entry)) k (now (members .entry)) (now (members .exit)) (r .total) (now (t .exit)) ⌝ }
     ensures count { λ r. ⌜ r .count
         ≡ shortDistances (coloursOf used (now (keys .entry)) (now (weights .entry))) k
         (stateOf (now (s .entry)) (now (members .entry))) ⌝ }
 {
     let mut total: u64 = 0;
     let mut count: u64 = 0;
-    let mut sums = [0u64; 128];
     let mut i = 0;
     while i < used {
         let met = rejoin(keys, weights, used, s, g, k, few, members, i);
-        let a = gift_of(weights[i], keys[i], met.best);
-        let q = a.number;
-        members[i] = q;
-        total += a.cost;
+        total += shades::cost(weights[i], met.distance);
         count += met.count;
-        raise(&mut sums, q as usize, a.two, a.one);
+        join(keys, weights, used, members, t, i, met.number);
         i += 1;
     }
-    Regrouped { total, count, sums }
+    Regrouped { total, count }
 }

@@ -121,3 +121,16 @@ sum-only (suc n) a f h =
           let e : a ≡ n = omega arith in
           rw (eq-eqb a n e) (omega (arith, sum-past n a f (omega arith), ap f e))
     ]
+
+-- two summands that differ at one place have sums that differ by as much
+pub sum-change : (n i : ℕ) (f g : ℕ → ℕ) → i < n → ((j : ℕ) → (j ≡ i → ⊥) → f j ≡ g j)
+    → sum n f + g i ≡ sum n g + f i
+unfolding sum
+sum-change zero i f g h same = absurd (omega arith)
+sum-change (suc n) i f g h same =
+    elim (decLt i n) [
+      | yes l ↦ omega (arith, sum-change n i f g l same, same n (λ z. omega arith))
+      | no l ↦
+          let e : i ≡ n = omega arith in
+          omega (arith, sum-eq n f g (λ j m. same j (λ z. omega arith)), ap f e, ap g e)
+    ]

@@ -1,4 +1,5 @@
-// Searching for the nearest shade, in two ways that answer the same: distance and number in one.
+// Searching for the nearest shade, in two ways that find the same: all shades, or those near the
+// former one.
 //
 // Calls; none refuses, and what one requires stands above it
 //   fill_rows      for each shade the shades by rising distance   rows.rt
@@ -23,8 +24,9 @@ pub use near::walk_gaps;
 pub use rows::fill_rows;
 pub use short::walk;
 
-// The nearest shade's distance and number in one, and how many distances were worked out.
+// The nearest shade's number, its distance, and how many distances were worked out.
 pub struct Met {
-    pub best: u32,
+    pub number: u32,
+    pub distance: u32,
     pub count: u64,
 }

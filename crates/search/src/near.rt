@@ -7,7 +7,7 @@ ghost use lib.Dec.{leb, eqb};
 ghost use lib.ListN.{length};
 ghost use Rattle.number.specs.{fill};
 ghost use Rattle.colour.specs.{Within, mostCoordinate};
-ghost use Rattle.shades.specs.{mostShades, Shades, toShade, packedNearest, worked};
+ghost use Rattle.shades.specs.{mostShades, Shades, toShade, nearestShade, worked};
 ghost use Rattle.search.specs.Sorting.{rowOf};
 ghost use Rattle.search.specs.Nearing.{Gaps, Close};
 use super::Met;
@@ -59,7 +59,9 @@ fn tries(g: &[u32], p: usize, q: usize, limit: u32) -> bool
 // and a former shade below k.
 pub fn walk_gaps(s: &[u32], g: &[u32], k: usize, c: Point, p: usize) -> Met
     requires { ⌜ Close (now s) (now g) k c p ⌝ }
-    ensures best { λ r. ⌜ r .best ≡ packedNearest (now (s .entry)) k c ⌝ }
+    ensures number { λ r. ⌜ r .number ≡ nearestShade (now (s .entry)) k c ⌝ }
+    ensures distance { λ r. ⌜ r .distance
+        ≡ toShade (now (s .entry)) c (nearestShade (now (s .entry)) k c) ⌝ }
     ensures count { λ r. ⌜ r .count ≡ worked (now (s .entry)) k c p ⌝ }
 {
     let d = shades::distance_to(s, p, c);
@@ -75,7 +77,8 @@ pub fn walk_gaps(s: &[u32], g: &[u32], k: usize, c: Point, p: usize) -> Met
         q += 1;
     }
     Met {
-        best,
+        number: best % 64,
+        distance: best / 64,
         count: 1 + others,
     }
 }

@@ -43,6 +43,11 @@ module _ (s : List ℕ) (k : ℕ) (c : Point) (some : 0 < k) (few : k ≤ mostSh
   pub packed-distance : packedNearest s k c / mostShades ≡ toShade s c (nearestShade s k c)
   packed-distance = omega (arith, nearest-below s k c some)
 
+  -- both are read from a number that is the same
+  pub packed-found : (m : ℕ) → m ≡ packedNearest s k c
+      → (m % mostShades ≡ nearestShade s k c) × (m / mostShades ≡ toShade s c (nearestShade s k c))
+  packed-found m e = rw e (packed-number, packed-distance)
+
   -- no shade has a lower packed number than the nearest
   pub packed-least : (q : ℕ) → q < k → packedNearest s k c ≤ pack s c q
   packed-least q h =

@@ -2,15 +2,19 @@
 use Prim.Native.Nat.{ℕ, _*_, _≤_}
 use mathlib.Core.Bool.{not}
 use mathlib.Core.List.{List}
-use mathlib.Core.Path.{_≡_, ap₂, _∙_}
+use mathlib.Core.Path.{_≡_, sym, ap₂, _∙_}
+use native.Mathlib.Omega.{arith}
 use lib.ListN.{length}
 use Rattle.number.specs.{fill, howMany}
+use Rattle.number.proofs.Fills.{fill-at}
 use Rattle.shades.specs.{mostShades}
 use Rattle.rounds.specs.{State, stateOf, coloursOf, joins}
+use Rattle.sums.specs.{Summed, Assigned, memberAt}
+use Rattle.sums.proofs.Moving.{summed-same}
 use Rattle.groups.specs.{Grouped}
 use Rattle.moves.specs.{Measured, goes, stays}
 use Rattle.moves.proofs.Moving.{measured, moves-laid, movers-are}
-use Rattle.steps.specs.Meeting.{Steppable, StepMeets}
+use Rattle.steps.specs.Meeting.{Steppable, Walkable, StepMeets}
 
 module _ {used : ℕ} {ks ws s : List ℕ} {k : ℕ} {before after t : List ℕ} {total : ℕ}
     (p : Steppable used ks ws k (stateOf s before)) (g : Grouped used ks ws s k before after total t) where
@@ -36,3 +40,18 @@ module _ {used : ℕ} {ks ws s : List ℕ} {k : ℕ} {before after t : List ℕ}
         moved-is = em ∙ movers-are used ks ws (p .table) m t (g .sums) s k (p .fit .shades .few);
         count-is = ec;
       }
+
+  -- the sums that it leaves are those of the groups that its members tell
+  pub step-sums : Summed (memberAt after) ks ws used t
+  step-sums =
+      let m = joins (coloursOf used ks ws) k s in
+      summed-same m (memberAt after) ks ws used t
+      (λ i l. sym (rw (g .members) (fill-at used i m before l (omega (arith, p .fit .room))))) (g .sums)
+
+-- the members that a shortened round reads tell one of 64 groups for each entry
+pub walk-assigned : {used : ℕ} {ks ws : List ℕ} {k : ℕ} {a : State} → Walkable used ks ws k a
+    → Assigned used (a .members)
+walk-assigned p = record {
+  room = p .steppable .fit .room;
+  below = λ i h. omega (arith, p .joined i h, p .steppable .fit .shades .few);
+}

@@ -4,6 +4,7 @@
 // Calls; none refuses, and what one requires stands above it
 //   plain_step    one round by the plain search                      step.rt
 //   short_step    one round by the shortened search
+//   next_step     the same, from the sums of the former groups
 //   make_rounds   shortened rounds to the first quiet one or a limit   many.rt
 //   final_total   the members against the shades                     total.rt
 //   make_run      starting shades, rounds, final total               full.rt
@@ -17,6 +18,7 @@ mod total;
 
 pub use full::make_run;
 pub use many::make_rounds;
+pub use step::next_step;
 pub use step::plain_step;
 pub use step::short_step;
 pub use total::final_total;

@@ -1,5 +1,6 @@
 // One round: the grouping, by either search, and then the move.
 ghost use Rattle.rounds.specs.{stateOf, coloursOf, plainDistances, shortDistances};
+ghost use Rattle.sums.specs.{Summed, memberAt};
 ghost use Rattle.steps.specs.Meeting.{Steppable, Walkable, StepMeets};
 use super::Stepped;
 use groups::Regrouped;
@@ -20,10 +21,42 @@ pub fn plain_step(
         (stateOf (now (s .exit)) (now (members .exit)))
         (r .total) (r .moved) (r .count) ⌝ }
 {
-    let a = groups::group_plain(keys, weights, used, s, k, members);
-    let t = a.sums;
+    let mut t = [0u64; 128];
+    let a = groups::group_plain(keys, weights, used, s, k, members, &mut t);
     let moved = moves::count_movers(&t, k, s);
     moves::move_shades(&t, k, s);
+    Stepped {
+        total: a.total,
+        moved,
+        count: a.count,
+    }
+}
+
+// One round by the shortened search, with the sums of the former groups in `t`, in which it leaves
+// those of its own. Requires the same, that each member is a shade's number, and the sums.
+pub fn next_step(
+    keys: &[u32],
+    weights: &[u32],
+    used: usize,
+    k: usize,
+    s: &mut [u32],
+    members: &mut [u32],
+    t: &mut [u64; 128],
+) -> Stepped
+    requires { ⌜ Walkable used (now keys) (now weights) k (stateOf (now s) (now members))
+        × Summed (memberAt (now members)) (now keys) (now weights) used (now t) ⌝ }
+    ensures step { λ r. ⌜ StepMeets (coloursOf used (now (keys .entry)) (now (weights .entry))) k
+        (shortDistances (coloursOf used (now (keys .entry)) (now (weights .entry))) k)
+        (stateOf (now (s .entry)) (now (members .entry)))
+        (stateOf (now (s .exit)) (now (members .exit)))
+        (r .total) (r .moved) (r .count) ⌝ }
+    ensures sums { λ _. ⌜ Summed (memberAt (now (members .exit))) (now (keys .entry))
+        (now (weights .entry)) used (now (t .exit)) ⌝ }
+{
+    let mut g = [0u32; 4096];
+    let a = groups::regroup(keys, weights, used, s, k, &mut g, members, t);
+    let moved = moves::count_movers(t, k, s);
+    moves::move_shades(t, k, s);
     Stepped {
         total: a.total,
         moved,
@@ -47,14 +80,6 @@ pub fn short_step(
         (stateOf (now (s .exit)) (now (members .exit)))
         (r .total) (r .moved) (r .count) ⌝ }
 {
-    let mut g = [0u32; 4096];
-    let a = groups::regroup(keys, weights, used, s, k, &mut g, members);
-    let t = a.sums;
-    let moved = moves::count_movers(&t, k, s);
-    moves::move_shades(&t, k, s);
-    Stepped {
-        total: a.total,
-        moved,
-        count: a.count,
-    }
+    let mut t = sums::sums_of(keys, weights, used, members);
+    next_step(keys, weights, used, k, s, members, &mut t)
 }

@@ -2,7 +2,7 @@
 use Prim.Native.Nat.{ℕ, _+_, _*_, _≤_, _<_}
 use mathlib.Core.Bool.{Bool, true, false, cond}
 use mathlib.Core.List.{List}
-use mathlib.Core.Path.{refl, ap}
+use mathlib.Core.Path.{_≡_, refl, ap}
 use native.Mathlib.Nat.{mul-le-mul-left, mul-le-mul-right, le-refl, le-trans}
 use native.Mathlib.Omega.{arith}
 use lib.Dec.{eqb}
@@ -10,7 +10,7 @@ use lib.ListN.{getD}
 use borrow.Author.Tests.{eq-eqb}
 use Rattle.number.specs.{sum}
 use Rattle.number.proofs.Sums.{sum-more, sum-part, sum-le, sum-mul}
-use Rattle.colour.specs.{mostPixels}
+use Rattle.colour.specs.{mostLevel, mostPixels}
 use Rattle.rounds.specs.{Tabled, coloursOf}
 use Rattle.rounds.proofs.Sizes as sizes
 use Rattle.rounds.proofs.Sizes.{fair-of-table}
@@ -28,9 +28,13 @@ two-at-most key = omega arith
 pub one-at-most : (key : ℕ) → oneOf key ≤ mostPair
 one-at-most key = omega arith
 
--- what one entry gives fits in 64 bits
-pub product-fits : (w v : ℕ) → w ≤ mostPixels → v ≤ mostPair → w * v ≤ 18446744073709551615
-product-fits w v h g = omega (arith, le-trans (mul-le-mul-left w g) (mul-le-mul-right mostPair h))
+-- a table's weight times a level fits in 32 bits
+pub times-fits : (w x : ℕ) → w ≤ mostPixels → x ≤ mostLevel → w * x ≤ 4294967295
+times-fits w x h g = omega (arith, le-trans (mul-le-mul-left w g) (mul-le-mul-right mostLevel h))
+
+-- a weight times two levels in one number is its products with both in one
+pub times-pair : (w x y : ℕ) → 4294967296 * (w * x) + w * y ≡ w * (4294967296 * x + y)
+times-pair w x y = omega arith
 
 -- what an entry gives to a group is at most what it has
 pub given-at-most : (b : Bool) (a : ℕ) → cond b a 0 ≤ a
@@ -42,18 +46,20 @@ module _ (used : ℕ) (ks ws : List ℕ) (t : Tabled used ks ws) where
   pub weight-at-most : (i : ℕ) → i < used → getD ws i 0 ≤ mostPixels
   weight-at-most = sizes.weight-at-most (coloursOf used ks ws) (fair-of-table t)
 
-  -- values of at most two levels for each pixel have sums that fit in 64 bits
-  pub sum-fits : (f : ℕ → ℕ) → ((i : ℕ) → f i ≤ mostPair * getD ws i 0) → (i : ℕ) → i < used
-      → sum i f + f i ≤ 18446744073709551615
-  sum-fits f low i h =
+  -- values of at most two levels for each pixel have a sum that fits in 64 bits
+  sum-fits : (f : ℕ → ℕ) → ((i : ℕ) → f i ≤ mostPair * getD ws i 0) → sum used f ≤ 18446744073709551615
+  sum-fits f low =
       omega (
         arith,
-        sum-more i f,
-        sum-le (i + 1) f (λ j. mostPair * getD ws j 0) (λ j l. low j),
-        sum-mul (i + 1) mostPair (λ j. mostPair * getD ws j 0) (λ j. getD ws j 0) (λ j l. refl),
-        sum-part (i + 1) used (λ j. getD ws j 0) (omega arith),
+        sum-le used f (λ j. mostPair * getD ws j 0) (λ j l. low j),
+        sum-mul used mostPair (λ j. mostPair * getD ws j 0) (λ j. getD ws j 0) (λ j l. refl),
         t .pixels,
       )
+
+  -- and so has each part of it with one value more
+  part-fits : (f : ℕ → ℕ) → ((i : ℕ) → f i ≤ mostPair * getD ws i 0) → (i : ℕ) → i < used
+      → sum i f + f i ≤ 18446744073709551615
+  part-fits f low i h = omega (arith, sum-more i f, sum-part (i + 1) used f (omega arith), sum-fits f low)
 
   module _ (f : ℕ → ℕ) (low : (key : ℕ) → f key ≤ mostPair) where
     -- an entry has at most two levels for each of its pixels
@@ -62,7 +68,15 @@ module _ (used : ℕ) (ks ws : List ℕ) (t : Tabled used ks ws) where
 
     -- what entry i adds to the sum over all entries fits
     pub whole-adds-fit : (i : ℕ) → i < used → sum i (weighed f ks ws) + weighed f ks ws i ≤ 18446744073709551615
-    whole-adds-fit i h = sum-fits (weighed f ks ws) weighed-low i h
+    whole-adds-fit i h = part-fits (weighed f ks ws) weighed-low i h
+
+    -- what an entry gives to a group is at most two levels for each of its pixels
+    given-low : (m : ℕ → ℕ) (q i : ℕ) → given m (weighed f ks ws) q i ≤ mostPair * getD ws i 0
+    given-low m q i = le-trans (given-at-most (eqb (m i) q) (weighed f ks ws i)) (weighed-low i)
+
+    -- the sum of a group fits
+    pub group-fits : (m : ℕ → ℕ) (q : ℕ) → sum used (given m (weighed f ks ws) q) ≤ 18446744073709551615
+    group-fits m q = sum-fits (given m (weighed f ks ws) q) (given-low m q)
 
     -- what entry i adds to the sum of its group fits
     pub adds-fit : (m : ℕ → ℕ) (i : ℕ) → i < used
@@ -70,7 +84,6 @@ module _ (used : ℕ) (ks ws : List ℕ) (t : Tabled used ks ws) where
     adds-fit m i h =
         omega (
           arith,
-          sum-fits (given m (weighed f ks ws) (m i))
-              (λ j. le-trans (given-at-most (eqb (m j) (m i)) (weighed f ks ws j)) (weighed-low j)) i h,
+          part-fits (given m (weighed f ks ws) (m i)) (given-low m (m i)) i h,
           ap (λ b. cond b (weighed f ks ws i) 0) (eq-eqb (m i) (m i) refl),
         )

@@ -2,3 +2,5 @@
 pub mod Bounds
 -- The sums of the groups over no entry, and over one entry more.
 pub mod Summing
+-- The sums where one entry goes to another group.
+pub mod Moving

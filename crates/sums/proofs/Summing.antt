@@ -12,7 +12,7 @@ use borrow.Author.Tests.{eq-eqb, ne-eqb}
 use Rattle.number.specs.{sum}
 use Rattle.number.proofs.Sums.{sum-more}
 use Rattle.shades.specs.{mostShades}
-use Rattle.sums.specs.Summing.{twoOf, oneOf, weighed, given, raised, Summed}
+use Rattle.sums.specs.Summing.{twoOf, oneOf, weighed, given, placed, raised, Summed}
 
 -- over no entry every sum is 0
 pub summed-none : (m : ℕ → ℕ) (ks ws : List ℕ) → Summed m ks ws 0 (replicate 128 0)
@@ -23,31 +23,30 @@ summed-none m ks ws = record {
   one = λ q h. getD-replicate 128 (2 * q + 1) 0 0 (omega arith);
 }
 
--- ---- the raised sums
-
--- a store to the first sum of a group leaves the second
-pub first-store : (t : List ℕ) (q x : ℕ)
-    → getD (set t (2 * q) (getD t (2 * q) 0 + x)) (2 * q + 1) 0 ≡ getD t (2 * q + 1) 0
-first-store t q x = getD-set-other t (2 * q) (2 * q + 1) (getD t (2 * q) 0 + x) 0 (λ z. omega arith)
+-- ---- two places of the sums
 
 module _ (t : List ℕ) (p x y : ℕ) where
-  -- the sums once x is stored
-  abbrev half : List ℕ
-  half = set t (2 * p) (getD t (2 * p) 0 + x)
+  -- the first sum of the group is x
+  pub placed-two : length t ≡ 2 * mostShades → p < mostShades → getD (placed t p x y) (2 * p) 0 ≡ x
+  placed-two long few =
+      getD-set-other (set t (2 * p) x) (2 * p + 1) (2 * p) y 0 (λ z. omega arith)
+      ∙ getD-set-same t (2 * p) x 0 (omega arith)
 
-  -- the first sum of the group is x more
-  raised-two : length t ≡ 2 * mostShades → p < mostShades → getD (raised t p x y) (2 * p) 0 ≡ getD t (2 * p) 0 + x
-  raised-two long few =
-      getD-set-other half (2 * p + 1) (2 * p) _ 0 (λ z. omega arith) ∙ getD-set-same t (2 * p) _ 0 (omega arith)
-
-  -- the second sum of the group is y more
-  raised-one : length t ≡ 2 * mostShades → p < mostShades
-      → getD (raised t p x y) (2 * p + 1) 0 ≡ getD t (2 * p + 1) 0 + y
-  raised-one long few = getD-set-same half (2 * p + 1) _ 0 (simp length-set (omega arith))
+  -- the second sum of the group is y
+  pub placed-one : length t ≡ 2 * mostShades → p < mostShades → getD (placed t p x y) (2 * p + 1) 0 ≡ y
+  placed-one long few = getD-set-same (set t (2 * p) x) (2 * p + 1) y 0 (simp length-set (omega arith))
 
   -- every other place stays
-  raised-other : (n : ℕ) → (n ≡ 2 * p → ⊥) → (n ≡ 2 * p + 1 → ⊥) → getD (raised t p x y) n 0 ≡ getD t n 0
-  raised-other n d e = getD-set-other half (2 * p + 1) n _ 0 e ∙ getD-set-other t (2 * p) n _ 0 d
+  placed-other : (n : ℕ) → (n ≡ 2 * p → ⊥) → (n ≡ 2 * p + 1 → ⊥) → getD (placed t p x y) n 0 ≡ getD t n 0
+  placed-other n d e = getD-set-other (set t (2 * p) x) (2 * p + 1) n y 0 e ∙ getD-set-other t (2 * p) n x 0 d
+
+  -- the first sum of every other group stays
+  pub placed-other-two : (q : ℕ) → (q ≡ p → ⊥) → getD (placed t p x y) (2 * q) 0 ≡ getD t (2 * q) 0
+  placed-other-two q d = placed-other (2 * q) (λ z. d (omega arith)) (λ z. omega arith)
+
+  -- and so does the second
+  pub placed-other-one : (q : ℕ) → (q ≡ p → ⊥) → getD (placed t p x y) (2 * q + 1) 0 ≡ getD t (2 * q + 1) 0
+  placed-other-one q d = placed-other (2 * q + 1) (λ z. omega arith) (λ z. d (omega arith))
 
 -- ---- one entry more
 
@@ -79,10 +78,8 @@ summed-more m ks ws i t s few =
       long = simp length-set (s .long);
       two =
           given-more m (weighed twoOf ks ws) (λ q. getD t (2 * q) 0) (λ q. getD u (2 * q) 0) i (s .two)
-          (raised-two t (m i) x y (s .long) few)
-          (λ q d. raised-other t (m i) x y (2 * q) (λ z. d (omega arith)) (λ z. omega arith));
+          (placed-two t (m i) _ _ (s .long) few) (placed-other-two t (m i) _ _);
       one =
           given-more m (weighed oneOf ks ws) (λ q. getD t (2 * q + 1) 0) (λ q. getD u (2 * q + 1) 0) i (s .one)
-          (raised-one t (m i) x y (s .long) few)
-          (λ q d. raised-other t (m i) x y (2 * q + 1) (λ z. omega arith) (λ z. d (omega arith)));
+          (placed-one t (m i) _ _ (s .long) few) (placed-other-one t (m i) _ _);
     }

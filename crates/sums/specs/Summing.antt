@@ -1,5 +1,5 @@
 -- The sums of each group, two in one number: each is below 2^32, as a table has at most 2^24 pixels.
-use Prim.Native.Nat.{ℕ, _+_, _*_, _<_}
+use Prim.Native.Nat.{ℕ, _+_, _-_, _*_, _≤_, _<_}
 use mathlib.Core.Path.{_≡_}
 use mathlib.Core.Bool.{cond}
 use mathlib.Core.List.{List}
@@ -25,12 +25,29 @@ weighed f ks ws i = getD ws i 0 * f (getD ks i 0)
 abbrev pub given : (ℕ → ℕ) → (ℕ → ℕ) → ℕ → ℕ → ℕ
 given m f q i = cond (eqb (m i) q) (f i) 0
 
+-- x and y are put in the places of the two sums of group q
+abbrev pub placed : List ℕ → ℕ → ℕ → ℕ → List ℕ
+placed t q x y = set (set t (2 * q) x) (2 * q + 1) y
+
 -- x and y are added to the two sums of group q
 abbrev pub raised : List ℕ → ℕ → ℕ → ℕ → List ℕ
-raised t q x y = set (set t (2 * q) (getD t (2 * q) 0 + x)) (2 * q + 1) (getD t (2 * q + 1) 0 + y)
+raised t q x y = placed t q (getD t (2 * q) 0 + x) (getD t (2 * q + 1) 0 + y)
+
+-- x and y are taken from the two sums of group q
+abbrev pub lowered : List ℕ → ℕ → ℕ → ℕ → List ℕ
+lowered t q x y = placed t q (getD t (2 * q) 0 - x) (getD t (2 * q + 1) 0 - y)
 
 -- the sums of 64 groups over the first n entries
 pub record Summed (m : ℕ → ℕ) (ks ws : List ℕ) (n : ℕ) (t : List ℕ) : Type 0 where
   pub long : length t ≡ 2 * mostShades
   pub two : (q : ℕ) → q < mostShades → getD t (2 * q) 0 ≡ sum n (given m (weighed twoOf ks ws) q)
   pub one : (q : ℕ) → q < mostShades → getD t (2 * q + 1) 0 ≡ sum n (given m (weighed oneOf ks ws) q)
+
+-- the group of entry i, as the members tell
+abbrev pub memberAt : List ℕ → ℕ → ℕ
+memberAt members i = getD members i 0
+
+-- the members tell one of 64 groups for each of n entries
+pub record Assigned (n : ℕ) (members : List ℕ) : Type 0 where
+  pub room : n ≤ length members
+  pub below : (i : ℕ) → i < n → memberAt members i < mostShades

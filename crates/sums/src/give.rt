@@ -4,22 +4,30 @@ ghost use Prim.Native.Nat.{_+_, _*_, _/_, _%_, _<_, _≤_};
 ghost use lib.ListN.{getD};
 ghost use Rattle.colour.specs.{mostPixels, mostDistance};
 ghost use Rattle.shades.specs.{mostShades};
-ghost use Rattle.sums.specs.Summing.{twoOf, oneOf, raised};
+ghost use Rattle.sums.specs.Summing.{twoOf, oneOf, placed, raised, lowered};
 use super::Gift;
 
-// A level as a wide number.
+// A sum of at most 2^24 levels, in 64 bits.
 fn wide(x: u32) -> u64
     ensures { λ r. ⌜ r ≡ x ⌝ }
 {
     x as u64
 }
 
-// The weight times red and green level, in one. Requires a table's weight.
+// Two such sums in one number.
+fn pair(x: u32, y: u32) -> u64
+    ensures { λ r. ⌜ r ≡ 4294967296 * x + y ⌝ }
+{
+    4294967296 * wide(x) + wide(y)
+}
+
+// The weight times red and green level, in one: products of 32 bits, put side by side. Requires a
+// table's weight.
 pub fn two_of(weight: u32, key: u32) -> u64
     requires { ⌜ weight ≤ mostPixels ⌝ }
     ensures { λ r. ⌜ r ≡ weight * twoOf key ⌝ }
 {
-    wide(weight) * (4294967296 * wide(colour::red_of(key)) + wide(colour::green_of(key)))
+    pair(weight * colour::red_of(key), weight * colour::green_of(key))
 }
 
 // The weight times blue level, and the weight, in one. Requires a table's weight.
@@ -27,7 +35,7 @@ pub fn one_of(weight: u32, key: u32) -> u64
     requires { ⌜ weight ≤ mostPixels ⌝ }
     ensures { λ r. ⌜ r ≡ weight * oneOf key ⌝ }
 {
-    wide(weight) * (4294967296 * wide(colour::blue_of(key)) + 1)
+    pair(weight * colour::blue_of(key), weight)
 }
 
 // What an entry gives, with the distance and number of its shade in `best`. Requires a table's
@@ -47,6 +55,16 @@ pub fn gift_of(weight: u32, key: u32, best: u32) -> Gift
     }
 }
 
+// Puts `x` and `y` in the places of the two sums of group `q`.
+fn put(t: &mut [u64; 128], q: usize, x: u64, y: u64)
+    requires { ⌜ q < mostShades ⌝ }
+    ensures { λ _. ⌜ now (t .exit) ≡ placed (now (t .entry)) q x y ⌝ }
+{
+    let a = 2 * q;
+    t[a] = x;
+    t[a + 1] = y;
+}
+
 // Adds `x` and `y` to the two sums of group `q`. Requires that the sums stay below 2^64.
 pub fn raise(t: &mut [u64; 128], q: usize, x: u64, y: u64)
     requires { ⌜ (q < mostShades) × (getD (now t) (2 * q) 0 + x ≤ 18446744073709551615)
@@ -54,6 +72,19 @@ pub fn raise(t: &mut [u64; 128], q: usize, x: u64, y: u64)
     ensures { λ _. ⌜ now (t .exit) ≡ raised (now (t .entry)) q x y ⌝ }
 {
     let a = 2 * q;
-    t[a] = t[a] + x;
-    t[a + 1] = t[a + 1] + y;
+    let two = t[a] + x;
+    let one = t[a + 1] + y;
+    put(t, q, two, one);
+}
+
+// Takes `x` and `y` from the two sums of group `q`. Requires that they are in them.
+pub fn lower(t: &mut [u64; 128], q: usize, x: u64, y: u64)
+    requires { ⌜ (q < mostShades) × (x ≤ getD (now t) (2 * q) 0)
+        × (y ≤ getD (now t) (2 * q + 1) 0) ⌝ }
+    ensures { λ _. ⌜ now (t .exit) ≡ lowered (now (t .entry)) q x y ⌝ }
+{
+    let a = 2 * q;
+    let two = t[a] - x;
+    let one = t[a + 1] - y;
+    put(t, q, two, one);
 }

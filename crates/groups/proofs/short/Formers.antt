@@ -9,6 +9,7 @@ use Rattle.number.proofs.Fills.{fill-at, fill-kept}
 use Rattle.shades.specs.{colourAt, worked}
 use Rattle.shades.proofs.Nearest.{nearest-below, worked-at-most}
 use Rattle.rounds.specs.{coloursOf, joins}
+use Rattle.sums.specs.{Assigned}
 use Rattle.groups.specs.Grouping.{Groupable}
 use Rattle.groups.proofs.Turns.{Fitted, Turned, turned-length, turned-kept}
 
@@ -27,8 +28,8 @@ module _ {used : ℕ} {ks ws s : List ℕ} {k : ℕ} {before : List ℕ} (y : Gr
     few = λ j. omega (arith, worked-at-most s k (colourAt ks j) (getD before j 0), y .shades .few);
   }
 
-  module _ {members : List ℕ} {total count : ℕ} {t : List ℕ} {i : ℕ}
-      (x : Turned used ks ws s k (shortWorks ks s k before) before members total count t i) where
+  module _ {members : List ℕ} {total count i : ℕ}
+      (x : Turned used ks ws s k (shortWorks ks s k before) before members total count i) where
     -- each member is the number of a shade, before its turn and after
     short-joined : (j : ℕ) → j < used → getD members j 0 < k
     short-joined j h =
@@ -52,3 +53,10 @@ module _ {used : ℕ} {ks ws s : List ℕ} {k : ℕ} {before : List ℕ} (y : Gr
     -- the search of the turn begins at the entry's former shade
     pub short-worked : (n : ℕ) → n ≡ worked s k (colourAt ks i) (getD members i 0) → n ≡ shortWorks ks s k before i
     short-worked n e = e ∙ ap (λ p. worked s k (colourAt ks i) p) (turned-kept x)
+
+    -- and the members tell one of 64 groups for each entry
+    pub short-assigned : Assigned used members
+    short-assigned = record {
+      room = omega (arith, y .room, turned-length x);
+      below = λ j h. omega (arith, short-joined j h, y .shades .few);
+    }

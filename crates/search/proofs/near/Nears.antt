@@ -1,6 +1,6 @@
 -- Laws of rows of gaps: one row more is filled after the others; and a search that goes through a row finds the nearest
 -- shade, and tries as many as the shortened search is to.
-use Prim.Native.Nat.{ℕ, _+_, _-_, _*_, _%_, _≤_, _<_}
+use Prim.Native.Nat.{ℕ, _+_, _-_, _*_, _/_, _%_, _≤_, _<_}
 use mathlib.Core.Bool.{true, false, not, _&&_}
 use mathlib.Core.List.{List}
 use mathlib.Core.Logic.{⊎-elim}
@@ -20,8 +20,8 @@ use Rattle.number.proofs.Searches.{below-or-last}
 use Rattle.number.proofs.Tallies.{Counting, counting-start, counting-step, counting-done}
 use Rattle.colour.specs.{Point, distance}
 use Rattle.colour.proofs.Distances.{farther}
-use Rattle.shades.specs.{mostShades, shadeAt, toShade, tried, worked, pack, packedNearest}
-use Rattle.shades.proofs.Nearest.{packed-only}
+use Rattle.shades.specs.{mostShades, shadeAt, toShade, nearestShade, tried, worked, pack}
+use Rattle.shades.proofs.Nearest.{packed-only, packed-found}
 use Rattle.search.specs.Nearing.{Gaps, Close}
 use Rattle.search.specs.Sorting.{rowOf}
 use Rattle.search.proofs.Fillings.{Filling, filling-step, filling-done}
@@ -121,9 +121,10 @@ module _ {s g : List ℕ} {k : ℕ} {c : Point} {p : ℕ} (y : Close s g k c p) 
     ]
 
     -- past the last shade the nearest is found
-    pub sought-done : (best ≡ packedNearest s k c) × (1 + others ≡ worked s k c p)
-    sought-done = (
-      packed-only s k c (omega (arith, y .former)) (y .shades .few) (best % mostShades) best (w .below) (w .is)
-          least-sought,
-      ap (λ n. 1 + n) (counting-done (w .counted) end),
-    )
+    pub sought-done : (best % mostShades ≡ nearestShade s k c)
+        × ((best / mostShades ≡ toShade s c (nearestShade s k c)) × (1 + others ≡ worked s k c p))
+    sought-done =
+        let some : 0 < k = omega (arith, y .former) in
+        let e = packed-only s k c some (y .shades .few) (best % mostShades) best (w .below) (w .is) least-sought in
+        let f = packed-found s k c some (y .shades .few) best e in
+        (f .0, (f .1, ap (λ n. 1 + n) (counting-done (w .counted) end)))

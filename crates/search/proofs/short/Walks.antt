@@ -16,8 +16,8 @@ use Rattle.number.proofs.Searches.{below-or-last}
 use Rattle.number.proofs.Tallies.{howMany-same, howMany-below, howMany-others}
 use Rattle.colour.specs.{Point, distance}
 use Rattle.colour.proofs.Distances.{distance-self, farther, as-far}
-use Rattle.shades.specs.{mostShades, shadeAt, toShade, worked, pack, packedNearest}
-use Rattle.shades.proofs.Nearest.{packed-only}
+use Rattle.shades.specs.{mostShades, shadeAt, toShade, nearestShade, worked, pack}
+use Rattle.shades.proofs.Nearest.{packed-only, packed-found}
 use Rattle.search.specs.Asking.{Ready}
 use Rattle.search.specs.Sorting.{Row, rowOf}
 use Rattle.search.proofs.Contents.{row-all, row-found}
@@ -39,6 +39,12 @@ module _ {s g : List ℕ} {k : ℕ} {c : Point} {p : ℕ} (y : Ready s g k c p) 
   -- the row of p
   row : Row gapTo k (rowOf g p)
   row = y .rows .row p (y .former)
+
+  -- what the walk answers, with the least packed number and the places walked
+  abbrev Found : ℕ → ℕ → Type 0
+  Found best j =
+      (best % mostShades ≡ nearestShade s k c)
+      × ((best / mostShades ≡ toShade s c (nearestShade s k c)) × (j ≡ worked s k c p))
 
   -- the number at a place of the row is that of a shade
   pub row-number : (j : ℕ) → j < k → rowOf g p j % mostShades < k
@@ -144,18 +150,51 @@ module _ {s g : List ℕ} {k : ℕ} {c : Point} {p : ℕ} (y : Ready s g k c p) 
         ∙ howMany-others k p b (y .former) (le-leb _ (4 * toShade s c p) (omega (arith, distance-self (shadeAt s p))))
 
     -- where every gap left is too much, the walk has found the nearest shade
-    walked-done : Ended → (best ≡ packedNearest s k c) × (j ≡ worked s k c p)
-    walked-done far = (
-      packed-only s k c (omega (arith, y .former)) (y .shades .few) (best % mostShades) best (w .below) (w .is)
-          (least-met far),
-      places-worked far,
-    )
+    walked-done : Ended → Found best j
+    walked-done far =
+        let some : 0 < k = omega (arith, y .former) in
+        let e =
+        packed-only s k c some (y .shades .few) (best % mostShades) best (w .below) (w .is) (least-met far) in
+        let f = packed-found s k c some (y .shades .few) best e in
+        (f .0, (f .1, places-worked far))
 
     -- the row is at its end
-    pub walked-all : k ≤ j → (best ≡ packedNearest s k c) × (j ≡ worked s k c p)
+    pub walked-all : k ≤ j → Found best j
     walked-all h = walked-done (λ i l m. absurd (omega arith))
 
     -- the gap at the next place is too much, and the row rises
     pub walked-stopped : j < k → 4 * toShade s c p < rowOf g p j / mostShades
-        → (best ≡ packedNearest s k c) × (j ≡ worked s k c p)
+        → Found best j
     walked-stopped h far = walked-done (λ i l m. omega (arith, row .rising j i l m))
+
+  module _ (far : 4 * toShade s c p < rowOf g p 1 / mostShades) where
+    -- where the gap at place 1 is too much, p stands at place 0
+    lone-first : rowOf g p 0 % mostShades ≡ p
+    lone-first =
+        let e = row-found gapTo k (rowOf g p) row p (y .former) in
+        elim (decLt 0 (e .0)) [
+          | yes l ↦
+              absurd (omega (
+                arith,
+                far,
+                row .rising 1 (e .0) l (e .1),
+                e .2,
+                distance-self (shadeAt s p),
+                y .former,
+                y .shades .few,
+              ))
+          | no l ↦
+              let z : e .0 ≡ 0 = omega arith in
+              omega (arith, rw z at (e .2), distance-self (shadeAt s p), y .former, y .shades .few)
+        ]
+
+    -- and is the nearest
+    pub walked-nowhere : (p ≡ nearestShade s k c)
+        × ((toShade s c p ≡ toShade s c (nearestShade s k c)) × (1 ≡ worked s k c p))
+    walked-nowhere =
+        let f : Found (mostShades * toShade s c p + rowOf g p 0 % mostShades) 1 = elim (decLt 1 k) [
+          | yes l ↦ walked-stopped first-met l far
+          | no l ↦ walked-all first-met (omega arith)
+        ] in
+        let z : p ≡ nearestShade s k c = omega (arith, f .0, lone-first) in
+        (z, (ap (toShade s c) z, f .1 .1))

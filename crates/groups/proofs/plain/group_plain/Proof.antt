@@ -6,56 +6,58 @@ use native.Mathlib.Omega.{arith}
 use lib.ListN.{getD}
 use denote.Ref.{now}
 use borrow.Author.Needs.{needs}
+use Rattle.rounds.specs.{coloursOf, joins}
+use Rattle.sums.specs.{Summed}
+use Rattle.sums.proofs.Summing.{summed-none}
 use Rattle.groups.proofs.Turns.{
   Turned,
-  Gives,
+  Finds,
   turned-start,
   turned-length,
-  turned-low,
-  turned-gives,
   turned-step,
   turned-done,
   turned-counted,
   total-fits,
   count-fits,
-  sums-fit,
   grouped-again,
 }
 use Rattle.groups.proofs.plain.Founds.{foundAt, plain-fitted, plain-length, plain-found}
+use Rattle.groups.proofs.plain.Raising.{raised-low, raised-finds, raised-fit, raised-step}
 use Rattle.groups.proofs.plain.group_plain.Statement.{statement}
 use Rattle.groups.proofs.plain.group_plain.Tie as tie
 
 abbrev Inv-loop : tie.InvT-loop
-Inv-loop keys weights used s k members₀ total₀ count₀ sums₀ i₀ members total count sums i =
-    Turned used keys weights s k (λ j. k) members₀ members total count sums i
+Inv-loop keys weights used s k members₀ t₀ total₀ count₀ i₀ members t total count i =
+    Turned used keys weights s k (λ j. k) members₀ members total count i
+    × Summed (joins (coloursOf used keys weights) k s) keys weights i t
 
 abbrev μ-loop : tie.MeasureT-loop
-μ-loop keys weights used s k members₀ total₀ count₀ sums₀ i₀ members total count sums i = used - i
+μ-loop keys weights used s k members₀ t₀ total₀ count₀ i₀ members t total count i = used - i
+
+-- where the plain search is done, and where the grouping begins
+abbrev searched : tie.At-loop Inv-loop μ-loop → tie.After-search-all Inv-loop μ-loop
+searched c = c .before .before .before
+
+abbrev st : tie.At-loop Inv-loop μ-loop → tie.Start Inv-loop μ-loop
+st c = c .before .before .before .before .before .before .before .before .before
 
 -- the member that the turn reads is what the search has found
 abbrev found-at : (c : tie.After-slice-known3 Inv-loop μ-loop)
     → let l = c .before .before .before .before .loop in
-    let a = c .before .before .before .before .before .before .before .before .before .before .before .before .before
-    .args in
+    let a = st (c .before .before .before .before) .args in
     getD (l .members) (l .i) 0 ≡ foundAt (now (a .keys)) (now (a .s)) (a .k) (l .i)
 found-at c =
-    let searched = c .before .before .before .before .before .before .before in
-    let start = searched .before .before .before .before .before .before in
-    plain-found (c .before .before .before .before .loop .inv) (now (start .args .members))
-    (searched .search-all .ensures) (c .before .before .before .loop-test .taken) (start .pre .3)
+    plain-found (c .before .before .before .before .loop .inv .0) (now (st (c .before .before .before .before) .args .members)) (searched (c .before .before .before .before) .search-all .ensures)
+    (c .before .before .before .loop-test .taken) (st (c .before .before .before .before) .pre .3)
 
--- what the entry gives, once it is worked out
-abbrev gives-at : (c : tie.After-gift-of Inv-loop μ-loop)
-    → let l = c .before .before .before .before .before .loop in
-    let a = c .before .before .before .before .before .before .before .before .before .before .before .before .before
-    .before .args in
+-- what is found for the entry, once it is worked out
+abbrev finds-at : (c : tie.After-gift-of Inv-loop μ-loop)
+    → let a = st (c .before .before .before .before .before) .args in
     let r = c .gift-of .result in
-    Gives (now (a .keys)) (now (a .weights)) (now (a .s)) (a .k) (l .i) (r .number) (r .cost) (r .two) (r .one)
-gives-at c =
+    Finds (now (a .keys)) (now (a .weights)) (now (a .s)) (a .k) (c .before .before .before .before .before .loop .i) (r .number) (r .cost)
+finds-at c =
     let e = c .gift-of .ensures in
-    turned-gives (c .before .before .before .before .before .loop .inv)
-    (c .before .before .before .before .loop-test .taken) _ _ _ _ _ (found-at (c .before)) (e .0) (e .1 .0) (e .1 .1 .0)
-    (e .1 .1 .1)
+    raised-finds (c .before .before .before .before .before .loop .inv .0) (c .before .before .before .before .loop-test .taken) _ _ _ (found-at (c .before)) (e .0) (e .1 .0)
 
 search-all-requires : tie.Need-search-all-requires Inv-loop μ-loop
 search-all-requires c κs =
@@ -65,68 +67,53 @@ search-all-requires c κs =
 loop-holds : tie.Need-loop-holds Inv-loop μ-loop
 loop-holds c =
     let start = c .before .before .before .before .before .before .before .before in
-    let p = start .pre in
-    turned-start (plain-fitted _ (now (start .args .members)) (p .0) (p .1) (p .2) (p .3)
-    (c .before .before .search-all .ensures))
+    let p = start .pre in (
+      turned-start
+          (plain-fitted _ (now (start .args .members)) (p .0) (p .1) (p .2) (p .3) (c .before .before .search-all .ensures)),
+      rw (p .4) (summed-none _ _ _),
+    )
 
 mul-gift-of : tie.Need-mul-gift-of Inv-loop μ-loop
 mul-gift-of c = omega arith
 
 shared-slice-read-gift-of : tie.Need-shared-slice-read-gift-of Inv-loop μ-loop
-shared-slice-read-gift-of c = omega (arith, c .before .before .loop .inv .fitted .table .weights-room)
+shared-slice-read-gift-of c = omega (arith, c .before .before .loop .inv .0 .fitted .table .weights-room)
 
 mul-gift-of-2 : tie.Need-mul-gift-of-2 Inv-loop μ-loop
 mul-gift-of-2 c = omega arith
 
 shared-slice-read-gift-of-2 : tie.Need-shared-slice-read-gift-of-2 Inv-loop μ-loop
-shared-slice-read-gift-of-2 c = omega (arith, c .before .before .before .loop .inv .fitted .table .keys-room)
+shared-slice-read-gift-of-2 c = omega (arith, c .before .before .before .loop .inv .0 .fitted .table .keys-room)
 
 mul-gift-of-3 : tie.Need-mul-gift-of-3 Inv-loop μ-loop
 mul-gift-of-3 c = omega arith
 
 slice-read-gift-of : tie.Need-slice-read-gift-of Inv-loop μ-loop
-slice-read-gift-of c =
-    let x = c .before .before .before .before .loop .inv in
-    omega (arith, turned-length x, x .fitted .room)
+slice-read-gift-of c = let x = c .before .before .before .before .loop .inv .0 in omega (arith, turned-length x, x .fitted .room)
 
 gift-of-requires : tie.Need-gift-of-requires Inv-loop μ-loop
-gift-of-requires c κs =
-    turned-low (c .before .before .before .before .loop .inv) (c .before .before .before .loop-test .taken) _
-    (found-at c)
+gift-of-requires c κs = raised-low (c .before .before .before .before .loop .inv .0) (c .before .before .before .loop-test .taken) _ (found-at c)
 
 mul-members : tie.Need-mul-members Inv-loop μ-loop
 mul-members c = omega arith
 
 slice-write-members : tie.Need-slice-write-members Inv-loop μ-loop
-slice-write-members c =
-    let x = c .before .before .before .before .before .loop .inv in
-    omega (arith, turned-length x, x .fitted .room)
+slice-write-members c = let x = c .before .before .before .before .before .loop .inv .0 in omega (arith, turned-length x, x .fitted .room)
 
 add-total : tie.Need-add-total Inv-loop μ-loop
-add-total c =
-    omega (
-      arith,
-      total-fits (c .before .before .before .before .before .before .loop .inv)
-          (c .before .before .before .before .before .loop-test .taken) (gives-at (c .before)),
-    )
+add-total c = omega (arith, total-fits (c .before .before .before .before .before .before .loop .inv .0) (c .before .before .before .before .before .loop-test .taken) (finds-at (c .before)))
 
 add-count : tie.Need-add-count Inv-loop μ-loop
-add-count c =
-    let k = c .before .before .before .before .before .before .before .before .before .before .before .before .before
-    .before .before .args .k in
-    omega (
-      arith,
-      count-fits (c .before .before .before .before .before .before .loop .inv)
-          (c .before .before .before .before .before .loop-test .taken) k refl,
-    )
+add-count c = omega (arith, count-fits (c .before .before .before .before .before .before .loop .inv .0) (c .before .before .before .before .before .loop-test .taken) (st (c .before .before .before .before .before .before) .args .k) refl)
 
 cast-raise : tie.Need-cast-raise Inv-loop μ-loop
 cast-raise c = search needs
 
 raise-requires : tie.Need-raise-requires Inv-loop μ-loop
 raise-requires c κs =
-    sums-fit (c .before .before .before .before .before .before .before .loop .inv)
-    (c .before .before .before .before .before .before .loop-test .taken) (gives-at (c .before .before))
+    let l = c .before .before .before .before .before .before .before .loop .inv in
+    let e = c .before .before .gift-of .ensures in
+    raised-fit (l .0) (c .before .before .before .before .before .before .loop-test .taken) (l .1) (finds-at (c .before .before)) (e .1 .1 .0) (e .1 .1 .1)
 
 add-i : tie.Need-add-i Inv-loop μ-loop
 add-i c = omega arith
@@ -136,22 +123,23 @@ loop-less c = omega arith
 
 loop-again : tie.Need-loop-again Inv-loop μ-loop
 loop-again c =
-    let gift = c .before .before .before in
-    turned-step (gift .before .before .before .before .before .loop .inv)
-    (gift .before .before .before .before .loop-test .taken) (gives-at gift) _ refl _ (c .raise .ensures)
+    let l = c .before .before .before .before .before .before .before .before .loop .inv in
+    let h = c .before .before .before .before .before .before .before .loop-test .taken in
+    let f = finds-at (c .before .before .before) in
+    let e = c .before .before .before .gift-of .ensures in
+    (turned-step (l .0) h f _ refl, raised-step (l .0) h (l .1) f (e .1 .1 .0) (e .1 .1 .1) _ (c .raise .ensures))
 
 same-length : tie.Need-same-length Inv-loop μ-loop
 same-length c =
-    let searched = c .before .before .before .before in
-    plain-length (c .before .loop .inv) (now (searched .before .before .before .before .before .before .args .members))
-    (searched .search-all .ensures)
+    plain-length (c .before .loop .inv .0) (now (st (c .before) .args .members)) (searched (c .before) .search-all .ensures)
 
 returns : tie.Need-returns Inv-loop μ-loop
 returns c =
     let x = c .before .loop .inv in
-    let searched = c .before .before .before .before in (
-      grouped-again _ _ (searched .search-all .ensures) (turned-done x (c .loop-test .left)),
-      turned-counted x (c .loop-test .left),
+    let h = c .loop-test .left in
+    let e : c .before .loop .i ≡ st (c .before) .args .used = omega (arith, x .0 .within) in (
+      grouped-again _ _ (searched (c .before) .search-all .ensures) (turned-done (x .0) h (rw e at (x .1))),
+      turned-counted (x .0) h,
     )
 
 pub group-plain-spec : {M : Type 1} → statement M

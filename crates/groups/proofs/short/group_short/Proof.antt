@@ -1,107 +1,93 @@
--- `group_short` meets its contract: the loop's invariant is `Turned`, with the distances of the shortened search.
-use Prim.Native.Nat.{_-_}
+-- `group_short` meets its contract: the loop's invariant is `Turned`, with the distances of the shortened search, and
+-- the sums are those of the groups that the members tell.
+use Prim.Native.Nat.{_-_, _*_}
+use mathlib.Core.Path.{ap, _∙_}
 use native.Mathlib.Omega.{arith}
+use lib.ListN.{getD}
 use denote.Ref.{now}
 use borrow.Author.Needs.{needs}
+use Rattle.sums.specs.{Summed, memberAt}
 use Rattle.groups.proofs.Turns.{
   Turned,
-  Gives,
+  Finds,
   turned-start,
   turned-length,
   turned-low,
-  turned-gives,
   turned-step,
   turned-done,
   turned-counted,
+  number-below,
   total-fits,
   count-fits,
-  sums-fit,
 }
-use Rattle.groups.proofs.short.Formers.{shortWorks, short-fitted, short-again, short-worked}
+use Rattle.groups.proofs.short.Formers.{shortWorks, short-fitted, short-again, short-worked, short-assigned}
+use Rattle.groups.proofs.short.Joining.{joined-sums}
 use Rattle.groups.proofs.short.group_short.Statement.{statement}
 use Rattle.groups.proofs.short.group_short.Tie as tie
 
 abbrev Inv-loop : tie.InvT-loop
-Inv-loop keys weights used s g k few members₀ total₀ count₀ sums₀ i₀ members total count sums i =
-    Turned used keys weights s k (shortWorks keys s k members₀) members₀ members total count sums i
+Inv-loop keys weights used s g k few members₀ t₀ total₀ count₀ i₀ members t total count i =
+    Turned used keys weights s k (shortWorks keys s k members₀) members₀ members total count i
+    × Summed (memberAt members) keys weights used t
 
 abbrev μ-loop : tie.MeasureT-loop
-μ-loop keys weights used s g k few members₀ total₀ count₀ sums₀ i₀ members total count sums i = used - i
+μ-loop keys weights used s g k few members₀ t₀ total₀ count₀ i₀ members t total count i = used - i
 
--- what the entry gives, once it is worked out
-abbrev gives-at : (c : tie.After-gift-of Inv-loop μ-loop)
-    → let a = c .before .before .before .before .before .before .before .before .before .before .before .before .args in
-    let r = c .gift-of .result in
-    Gives (now (a .keys)) (now (a .weights)) (now (a .s)) (a .k)
-    (c .before .before .before .before .before .before .loop .i) (r .number) (r .cost) (r .two) (r .one)
-gives-at c =
-    let e = c .gift-of .ensures in
-    turned-gives (c .before .before .before .before .before .before .loop .inv)
-    (c .before .before .before .before .before .loop-test .taken) _ _ _ _ _
-    (c .before .before .before .rejoin .ensures .0) (e .0) (e .1 .0) (e .1 .1 .0) (e .1 .1 .1)
+-- where the grouping begins
+abbrev st : tie.At-loop Inv-loop μ-loop → tie.Start Inv-loop μ-loop
+st c = c .before .before .before .before .before .before
+
+-- what is found for the entry, once it is worked out
+abbrev finds-at : (c : tie.After-cost Inv-loop μ-loop)
+    → let a = st (c .before .before .before .before .before) .args in
+    Finds (now (a .keys)) (now (a .weights)) (now (a .s)) (a .k) (c .before .before .before .before .before .loop .i) (c .before .before .rejoin .result .number)
+    (c .cost .result)
+finds-at c = record {
+  number-is = c .before .before .rejoin .ensures .0;
+  cost-is =
+      c .cost .ensures ∙ ap (λ d. getD (now (st (c .before .before .before .before .before) .args .weights)) (c .before .before .before .before .before .loop .i) 0 * d)
+      (c .before .before .rejoin .ensures .1 .0);
+}
 
 loop-holds : tie.Need-loop-holds Inv-loop μ-loop
-loop-holds c = turned-start (short-fitted (c .before .before .before .before .before .pre .0))
+loop-holds c = (turned-start (short-fitted (c .before .before .before .before .before .pre .0)), c .before .before .before .before .before .pre .2)
 
 rejoin-requires : tie.Need-rejoin-requires Inv-loop μ-loop
 rejoin-requires c κs =
-    let p = c .before .before .before .before .before .before .before .before .pre in
-    (short-again (p .0) (c .before .before .loop .inv), p .1, c .before .loop-test .taken)
+    let p = st (c .before .before) .pre in
+    (short-again (p .0) (c .before .before .loop .inv .0), p .1, c .before .loop-test .taken)
 
-mul-gift-of : tie.Need-mul-gift-of Inv-loop μ-loop
-mul-gift-of c = omega arith
+mul-cost : tie.Need-mul-cost Inv-loop μ-loop
+mul-cost c = omega arith
 
-shared-slice-read-gift-of : tie.Need-shared-slice-read-gift-of Inv-loop μ-loop
-shared-slice-read-gift-of c =
-    omega (arith, c .before .before .before .before .loop .inv .fitted .table .weights-room)
+shared-slice-read-cost : tie.Need-shared-slice-read-cost Inv-loop μ-loop
+shared-slice-read-cost c = omega (arith, c .before .before .before .before .loop .inv .0 .fitted .table .weights-room)
 
-mul-gift-of-2 : tie.Need-mul-gift-of-2 Inv-loop μ-loop
-mul-gift-of-2 c = omega arith
-
-shared-slice-read-gift-of-2 : tie.Need-shared-slice-read-gift-of-2 Inv-loop μ-loop
-shared-slice-read-gift-of-2 c =
-    omega (arith, c .before .before .before .before .before .loop .inv .fitted .table .keys-room)
-
-gift-of-requires : tie.Need-gift-of-requires Inv-loop μ-loop
-gift-of-requires c κs =
-    turned-low (c .before .before .before .before .before .loop .inv)
-    (c .before .before .before .before .loop-test .taken) _ (c .before .before .rejoin .ensures .0)
-
-mul-members : tie.Need-mul-members Inv-loop μ-loop
-mul-members c = omega arith
-
-slice-write-members : tie.Need-slice-write-members Inv-loop μ-loop
-slice-write-members c =
-    let x = c .before .before .before .before .before .before .loop .inv in
-    omega (arith, turned-length x, x .fitted .room)
+cost-requires : tie.Need-cost-requires Inv-loop μ-loop
+cost-requires c κs = turned-low (c .before .before .before .before .loop .inv .0) (c .before .before .before .loop-test .taken) _ (c .before .rejoin .ensures .1 .0)
 
 add-total : tie.Need-add-total Inv-loop μ-loop
-add-total c =
-    omega (
-      arith,
-      total-fits (c .before .before .before .before .before .before .before .loop .inv)
-          (c .before .before .before .before .before .before .loop-test .taken) (gives-at (c .before)),
-    )
+add-total c = omega (arith, total-fits (c .before .before .before .before .before .loop .inv .0) (c .before .before .before .before .loop-test .taken) (finds-at c))
 
 add-count : tie.Need-add-count Inv-loop μ-loop
 add-count c =
-    let met = c .before .before .before .before .before in
-    let start = met .before .before .before .before .before .before .before .before .before in
-    let x = met .before .before .before .loop .inv in
+    let x = c .before .before .before .before .before .before .loop .inv .0 in
     omega (
       arith,
-      count-fits x (met .before .before .loop-test .taken) (met .rejoin .result .count)
-          (short-worked (start .pre .0) x _ (met .rejoin .ensures .1)),
+      count-fits x (c .before .before .before .before .before .loop-test .taken) (c .before .before .before .rejoin .result .count)
+          (short-worked (st (c .before .before .before .before .before .before) .pre .0) x _ (c .before .before .before .rejoin .ensures .1 .1)),
     )
 
-cast-raise : tie.Need-cast-raise Inv-loop μ-loop
-cast-raise c = search needs
-
-raise-requires : tie.Need-raise-requires Inv-loop μ-loop
-raise-requires c κs =
-    sums-fit (c .before .before .before .before .before .before .before .before .before .loop .inv)
-    (c .before .before .before .before .before .before .before .before .loop-test .taken)
-    (gives-at (c .before .before .before))
+join-requires : tie.Need-join-requires Inv-loop μ-loop
+join-requires c κs =
+    let l = c .before .before .before .before .before .before .before .before .loop .inv in
+    let h = c .before .before .before .before .before .before .before .loop-test .taken in (
+      l .0 .fitted .table,
+      short-assigned (st (c .before .before .before .before .before .before .before .before) .pre .0) (l .0),
+      l .1,
+      h,
+      rw (c .before .before .before .before .before .rejoin .ensures .0) (number-below (l .0) h),
+    )
 
 add-i : tie.Need-add-i Inv-loop μ-loop
 add-i c = omega arith
@@ -111,19 +97,21 @@ loop-less c = omega arith
 
 loop-again : tie.Need-loop-again Inv-loop μ-loop
 loop-again c =
-    let gift = c .before .before .before .before in
-    let x = gift .before .before .before .before .before .before .loop .inv in
-    let start = gift .before .before .before .before .before .before .before .before .before .before .before .before in
-    turned-step x (gift .before .before .before .before .before .loop-test .taken) (gives-at gift) _
-    (short-worked (start .pre .0) x _ (gift .before .before .before .rejoin .ensures .1)) _ (c .raise .ensures)
+    let x = c .before .before .before .before .before .before .before .before .before .before .before .loop .inv .0 in (
+      rw (c .before .before .join .ensures .0)
+          (turned-step x (c .before .before .before .before .before .before .before .before .before .before .loop-test .taken) (finds-at (c .before .before .before .before .before .before)) _
+          (short-worked (st (c .before .before .before .before .before .before .before .before .before .before .before) .pre .0) x _ (c .before .before .before .before .before .before .before .before .rejoin .ensures .1 .1))),
+      c .before .before .join .ensures .1,
+    )
 
 same-length : tie.Need-same-length Inv-loop μ-loop
-same-length c = turned-length (c .before .loop .inv)
+same-length c = turned-length (c .before .loop .inv .0)
 
 returns : tie.Need-returns Inv-loop μ-loop
 returns c =
-    let x = c .before .loop .inv in
-    (turned-done x (c .loop-test .left), turned-counted x (c .loop-test .left))
+    let x = c .before .loop .inv .0 in
+    let h = c .loop-test .left in
+    (turned-done x h (joined-sums x h (c .before .loop .inv .1)), turned-counted x h)
 
 pub group-short-spec : {M : Type 1} → statement M
 group-short-spec =
@@ -133,17 +121,12 @@ group-short-spec =
     μ-loop
     loop-holds
     rejoin-requires
-    mul-gift-of
-    shared-slice-read-gift-of
-    mul-gift-of-2
-    shared-slice-read-gift-of-2
-    gift-of-requires
-    mul-members
-    slice-write-members
+    mul-cost
+    shared-slice-read-cost
+    cost-requires
     add-total
     add-count
-    cast-raise
-    raise-requires
+    join-requires
     add-i
     loop-less
     loop-again

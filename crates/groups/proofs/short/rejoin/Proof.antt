@@ -41,7 +41,7 @@ walk-gaps-requires c κs =
 returns : tie.Need-returns
 returns c =
     let e = c .before .before .colour-of .ensures .0 in
-    (rw e at (c .walk-gaps .ensures .0), rw e at (c .walk-gaps .ensures .1))
+    rw e at (c .walk-gaps .ensures)
 
 walk-requires : tie.Need-walk-requires
 walk-requires c κs =
@@ -56,7 +56,7 @@ walk-requires c κs =
 returns-2 : tie.Need-returns-2
 returns-2 c =
     let e = c .before .before .colour-of .ensures .0 in
-    (rw e at (c .walk .ensures .0), rw e at (c .walk .ensures .1))
+    rw e at (c .walk .ensures)
 
 pub rejoin-spec : {M : Type 1} → statement M
 rejoin-spec =

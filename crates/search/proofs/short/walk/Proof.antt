@@ -1,5 +1,6 @@
 -- `walk` meets its contract: the loop's invariant is `Walked`.
 use Prim.Native.Nat.{_-_}
+use mathlib.Core.Path.{_∙_}
 use native.Mathlib.Omega.{arith}
 use borrow.Author.Needs.{needs}
 use Rattle.search.proofs.short.Walks.{
@@ -9,6 +10,7 @@ use Rattle.search.proofs.short.Walks.{
   walked-step,
   walked-all,
   walked-stopped,
+  walked-nowhere,
 }
 use Rattle.search.proofs.short.walk.Statement.{statement}
 use Rattle.search.proofs.short.walk.Tie as tie
@@ -30,48 +32,60 @@ mul-base c = let y = c .before .before .before .pre in omega (arith, y .former, 
 mul-limit : tie.Need-mul-limit Inv-loop μ-loop
 mul-limit c = omega arith
 
+add-if1 : tie.Need-add-if1 Inv-loop μ-loop
+add-if1 c = let y = c .before .before .before .pre in omega (arith, y .former, y .shades .few)
+
+mul-if1 : tie.Need-mul-if1 Inv-loop μ-loop
+mul-if1 c = let y = c .before .before .before .pre in omega (arith, y .former, y .shades .few)
+
+shared-slice-read-if1 : tie.Need-shared-slice-read-if1 Inv-loop μ-loop
+shared-slice-read-if1 c = let y = c .before .before .before .before .pre in omega (arith, y .former, y .rows .room)
+
+cast-t18 : tie.Need-cast-t18 Inv-loop μ-loop
+cast-t18 c = let y = c .before .before .before .before .before .pre in omega (arith, y .former, y .shades .few)
+
+returns : tie.Need-returns Inv-loop μ-loop
+returns c =
+    let d = c .before .before .distance-to .ensures .0 in
+    let w = walked-nowhere (c .before .before .before .before .before .pre) (rw d at (c .if1 .taken)) in
+    (w .0, (d ∙ w .1 .0, w .1 .1))
+
 mul-best : tie.Need-mul-best Inv-loop μ-loop
 mul-best c = omega arith
 
 mul-best-2 : tie.Need-mul-best-2 Inv-loop μ-loop
-mul-best-2 c = let y = c .before .before .before .pre in omega (arith, y .former, y .shades .few)
+mul-best-2 c = let y = c .before .before .before .before .before .pre in omega (arith, y .former, y .shades .few)
 
 shared-slice-read-best : tie.Need-shared-slice-read-best Inv-loop μ-loop
-shared-slice-read-best c =
-    let y = c .before .before .before .before .pre in
-    omega (arith, y .former, y .rows .room)
+shared-slice-read-best c = let y = c .before .before .before .before .before .before .pre in omega (arith, y .former, y .rows .room)
 
 add-best : tie.Need-add-best Inv-loop μ-loop
 add-best c = omega arith
 
 loop-holds : tie.Need-loop-holds Inv-loop μ-loop
-loop-holds c = rw (c .before .distance-to .ensures .0) (walked-start (c .before .before .before .before .pre))
+loop-holds c = rw (c .before .before .before .distance-to .ensures .0) (walked-start (c .before .before .before .before .before .before .pre))
 
 add-v : tie.Need-add-v Inv-loop μ-loop
-add-v c = omega arith
+add-v c = let y = c .before .before .before .before .before .before .before .before .pre in omega (arith, y .former, y .shades .few)
 
 mul-v : tie.Need-mul-v Inv-loop μ-loop
-mul-v c =
-    let y = c .before .before .before .before .before .before .pre in
-    omega (arith, y .former, y .shades .few)
+mul-v c = let y = c .before .before .before .before .before .before .before .before .pre in omega (arith, y .former, y .shades .few)
 
 shared-slice-read-v : tie.Need-shared-slice-read-v Inv-loop μ-loop
-shared-slice-read-v c =
-    let y = c .before .before .before .before .before .before .before .pre in
-    omega (arith, y .former, y .shades .few, y .rows .room)
+shared-slice-read-v c = let y = c .before .before .before .before .before .before .before .before .before .pre in omega (arith, y .former, y .shades .few, y .rows .room)
 
-returns : tie.Need-returns Inv-loop μ-loop
-returns c =
-    let start = c .before .before .before .before .before in
-    walked-stopped (start .before .before .before .pre) (c .before .before .before .loop .inv)
-    (c .before .before .loop-test .taken) (rw (start .distance-to .ensures .0) at (c .if1 .taken))
+returns-2 : tie.Need-returns-2 Inv-loop μ-loop
+returns-2 c =
+    let l = c .before .before .before in
+    walked-stopped (l .before .before .before .before .before .before .before .pre) (l .loop .inv) (c .before .before .loop-test .taken)
+    (rw (l .before .before .before .before .distance-to .ensures .0) at (c .if2 .taken))
 
 cast-packed : tie.Need-cast-packed Inv-loop μ-loop
 cast-packed c = search needs
 
 packed-requires : tie.Need-packed-requires Inv-loop μ-loop
 packed-requires c κs =
-    let y = c .before .before .before .before .before .before .before .before .pre in
+    let y = c .before .before .before .before .before .before .before .before .before .before .pre in
     let h = row-number y (c .before .before .before .loop .j) (c .before .before .loop-test .taken) in
     (omega (arith, y .shades .room), y .shades .low, y .inside, omega arith)
 
@@ -86,15 +100,13 @@ loop-less c = omega arith
 
 loop-again : tie.Need-loop-again Inv-loop μ-loop
 loop-again c =
-    let at = c .before .before .before .before .before in
-    let d = at .before .before .distance-to .ensures .0 in
+    let l = c .before .before .before .before .before in
     rw (c .lesser .ensures, c .before .packed .ensures .0)
-    (walked-step (at .before .before .before .before .before .pre) (at .loop .inv)
-    (c .before .before .before .before .loop-test .taken) (omega (arith, c .before .before .if1 .left, d)))
+    (walked-step (l .before .before .before .before .before .before .before .pre) (l .loop .inv) (c .before .before .before .before .loop-test .taken)
+    (omega (arith, c .before .before .if2 .left, l .before .before .before .before .distance-to .ensures .0)))
 
-returns-2 : tie.Need-returns-2 Inv-loop μ-loop
-returns-2 c =
-    walked-all (c .before .before .before .before .before .before .pre) (c .before .loop .inv) (c .loop-test .left)
+returns-3 : tie.Need-returns-3 Inv-loop μ-loop
+returns-3 c = walked-all (c .before .before .before .before .before .before .before .before .pre) (c .before .loop .inv) (c .loop-test .left)
 
 pub walk-spec : {M : Type 1} → statement M
 walk-spec =
@@ -105,6 +117,11 @@ walk-spec =
     distance-to-requires
     mul-base
     mul-limit
+    add-if1
+    mul-if1
+    shared-slice-read-if1
+    cast-t18
+    returns
     mul-best
     mul-best-2
     shared-slice-read-best
@@ -113,11 +130,11 @@ walk-spec =
     add-v
     mul-v
     shared-slice-read-v
-    returns
+    returns-2
     cast-packed
     packed-requires
     lesser-requires
     add-j
     loop-less
     loop-again
-    returns-2)
+    returns-3)

@@ -1,4 +1,4 @@
--- `make_rounds` meets its contract: the loop's invariant is `Going`.
+-- `make_rounds` meets its contract: the loop's invariant is `Going`, with the sums of the groups that the members tell.
 use Prim.Native.Nat.{_-_}
 use mathlib.Core.Path.{_≡_, refl}
 use native.Mathlib.Omega.{arith}
@@ -6,6 +6,8 @@ use lib.ListN.{length}
 use borrow.Author.Needs.{needs}
 use Rattle.rounds.specs.{stateOf, coloursOf}
 use Rattle.rounds.proofs.Sizes.{fair-of-table}
+use Rattle.sums.specs.{Summed, memberAt}
+use Rattle.steps.proofs.Stepping.{walk-assigned}
 use Rattle.steps.proofs.Turns.{
   Going,
   after-walkable,
@@ -20,71 +22,72 @@ use Rattle.steps.proofs.many.make_rounds.Statement.{statement}
 use Rattle.steps.proofs.many.make_rounds.Tie as tie
 
 abbrev Inv-loop : tie.InvT-loop
-Inv-loop keys weights used k limit s₀ members₀ totals₀ r₀ go₀ moved₀ distances₀ s members totals r go moved distances =
+Inv-loop keys weights used k limit s₀ members₀ totals₀ t₀ r₀ go₀ moved₀ distances₀ s members totals t r go moved
+    distances =
     Going (coloursOf used keys weights) k limit (stateOf s₀ members₀) totals₀ (stateOf s members) totals r go moved
     distances
-    × (length s ≡ length s₀) × (length members ≡ length members₀)
+    × (length s ≡ length s₀) × (length members ≡ length members₀) × Summed (memberAt members) keys weights used t
 
 abbrev μ-loop : tie.MeasureT-loop
-μ-loop keys weights used k limit s₀ members₀ totals₀ r₀ go₀ moved₀ distances₀ s members totals r go moved distances =
+μ-loop keys weights used k limit s₀ members₀ totals₀ t₀ r₀ go₀ moved₀ distances₀ s members totals t r go moved distances =
     limit - r
 
-loop-holds : tie.Need-loop-holds Inv-loop μ-loop
-loop-holds c = (going-start _ _ _ _ _ (c .before .before .before .before .before .pre .1), refl, refl)
+-- where the rounds begin
+abbrev st : tie.At-loop Inv-loop μ-loop → tie.Start Inv-loop μ-loop
+st c = c .before .before .before .before .before .before .before .before
 
-short-step-requires : tie.Need-short-step-requires Inv-loop μ-loop
-short-step-requires c κs =
-    let l = c .before .before .before in
-    let st = l .before .before .before .before .before .before in
-    rw (l .loop .inv .0 .state) (after-walkable (st .pre .0) _)
+sums-of-requires : tie.Need-sums-of-requires Inv-loop μ-loop
+sums-of-requires c κs = let p = c .before .before .before .before .before .before .pre .0 in (p .steppable .table, walk-assigned p)
+
+loop-holds : tie.Need-loop-holds Inv-loop μ-loop
+loop-holds c = (going-start _ _ _ _ _ (c .before .before .before .before .before .before .before .pre .1), refl, refl, c .sums-of .ensures)
+
+next-step-requires : tie.Need-next-step-requires Inv-loop μ-loop
+next-step-requires c κs =
+    let l = c .before .before .before .before in
+    (rw (l .loop .inv .0 .state) (after-walkable (st l .pre .0) _), l .loop .inv .3)
 
 mul-totals : tie.Need-mul-totals Inv-loop μ-loop
 mul-totals c =
-    let i = c .before .before .before .before .before .before .before in
-    let st = i .before .before .before .before .before .before .before in
-    omega (arith, st .good, st .pre .2, going-below _ _ _ _ (i .before .loop .inv .0) (i .loop-test .taken))
+    let l = c .before .before .before .before .before .before .before .before .before in
+    omega (arith, st l .good, st l .pre .2, going-below _ _ _ _ (l .loop .inv .0) (c .before .before .before .before .before .before .before .before .loop-test .taken))
 
 slice-write-totals : tie.Need-slice-write-totals Inv-loop μ-loop
 slice-write-totals c =
-    let i = c .before .before .before .before .before .before .before in
-    let st = i .before .before .before .before .before .before .before in
-    rw (going-length _ _ _ _ (i .before .loop .inv .0))
-    (omega (arith, st .pre .3, going-below _ _ _ _ (i .before .loop .inv .0) (i .loop-test .taken)))
+    let l = c .before .before .before .before .before .before .before .before .before in
+    rw (going-length _ _ _ _ (l .loop .inv .0))
+    (omega (arith, st l .pre .3, going-below _ _ _ _ (l .loop .inv .0) (c .before .before .before .before .before .before .before .before .loop-test .taken)))
 
 add-distances : tie.Need-add-distances Inv-loop μ-loop
 add-distances c =
-    let i = c .before .before .before .before .before .before .before .before in
-    let st = i .before .before .before .before .before .before .before in
-    let p = st .pre .0 .steppable in
+    let l = c .before .before .before .before .before .before .before .before .before .before in
+    let p = st l .pre .0 .steppable in
     omega (
       arith,
-      going-counted _ _ _ _ (i .before .loop .inv .0) (i .loop-test .taken) (fair-of-table (p .table))
-          (p .fit .shades .few) (st .pre .2) _
-          (c .before .before .before .before .before .short-step .ensures .count-is),
+      going-counted _ _ _ _ (l .loop .inv .0) (c .before .before .before .before .before .before .before .before .before .loop-test .taken) (fair-of-table (p .table))
+          (p .fit .shades .few) (st l .pre .2) _ (c .before .before .before .before .before .next-step .ensures .0 .count-is),
     )
 
 add-r : tie.Need-add-r Inv-loop μ-loop
-add-r c =
-    let i = c .before .before .before .before .before .before .before .before in
-    omega (arith, going-below _ _ _ _ (i .before .loop .inv .0) (i .loop-test .taken))
+add-r c = omega (arith, going-below _ _ _ _ (c .before .before .before .before .before .before .before .before .before .before .loop .inv .0) (c .before .before .before .before .before .before .before .before .before .loop-test .taken))
 
 bound-requires : tie.Need-bound-requires Inv-loop μ-loop
 bound-requires c κs = search needs
 
 loop-less : tie.Need-loop-less Inv-loop μ-loop
-loop-less c =
-    let i = c .before .before .before .before .before .before .before .before .before in
-    omega (arith, going-below _ _ _ _ (i .before .loop .inv .0) (i .loop-test .taken))
+loop-less c = omega (arith, going-below _ _ _ _ (c .before .before .before .before .before .before .before .before .before .before .before .loop .inv .0) (c .before .before .before .before .before .before .before .before .before .before .loop-test .taken))
 
 loop-again : tie.Need-loop-again Inv-loop μ-loop
 loop-again c =
-    let i = c .before .before .before .before .before .before .before .before .before in
-    let l = i .before .loop in
-    let st = i .before .before .before .before .before .before .before in
-    let e = c .before .before .before .before .before .before .short-step .ensures in
-    let h = i .loop-test .taken in
-    let b = going-below _ _ _ _ (l .inv .0) h in
-    (going-next _ _ _ _ (l .inv .0) h (omega (arith, st .pre .3)) e (c .bound .ensures), omega arith, omega arith)
+    let l = c .before .before .before .before .before .before .before .before .before .before .before in
+    let e = c .before .before .before .before .before .before .next-step .ensures in
+    let h = c .before .before .before .before .before .before .before .before .before .before .loop-test .taken in
+    let b = going-below _ _ _ _ (l .loop .inv .0) h in (
+      going-next _ _ _ _ (l .loop .inv .0) h (omega (arith, st l .pre .3)) (e .0) (c .bound .ensures),
+      omega arith,
+      omega arith,
+      e .1,
+    )
 
 none-requires : tie.Need-none-requires Inv-loop μ-loop
 none-requires c κs = search needs
@@ -101,8 +104,7 @@ same-length-3 c = going-length _ _ _ _ (c .before .before .loop .inv .0)
 returns : tie.Need-returns Inv-loop μ-loop
 returns c =
     let l = c .before .before in
-    let st = l .before .before .before .before .before .before in
-    going-done _ _ _ _ (l .loop .inv .0) (omega (arith, c .before .loop-test .left)) (st .pre .1) _ (c .none .ensures)
+    going-done _ _ _ _ (l .loop .inv .0) (omega (arith, c .before .loop-test .left)) (st l .pre .1) _ (c .none .ensures)
 
 pub make-rounds-spec : {M : Type 1} → statement M
 make-rounds-spec =
@@ -110,8 +112,9 @@ make-rounds-spec =
     (tie.spec
     Inv-loop
     μ-loop
+    sums-of-requires
     loop-holds
-    short-step-requires
+    next-step-requires
     mul-totals
     slice-write-totals
     add-distances

@@ -4,22 +4,14 @@ use Rattle.steps.proofs.Stepping.{move-asked, step-meets}
 use Rattle.steps.proofs.step.plain_step.Statement.{statement}
 use Rattle.steps.proofs.step.plain_step.Tie as tie
 
--- where the round begins
-abbrev st : tie.After-group-plain → tie.Start
-st c = c .before .before .before .before .before .before .before
-
 group-plain-requires : tie.Need-group-plain-requires
 group-plain-requires c κs = search needs
 
 count-movers-requires : tie.Need-count-movers-requires
-count-movers-requires c κs =
-    let a = c .before .before .before .before .before in
-    move-asked (st a .pre) (a .group-plain .ensures .0)
+count-movers-requires c κs = move-asked (c .before .before .before .before .before .before .before .before .before .before .before .before .pre) (c .before .before .before .before .group-plain .ensures .0)
 
 move-shades-requires : tie.Need-move-shades-requires
-move-shades-requires c κs =
-    let a = c .before .before .before .before .before .before .before .before in
-    move-asked (st a .pre) (a .group-plain .ensures .0)
+move-shades-requires c κs = move-asked (c .before .before .before .before .before .before .before .before .before .before .before .before .before .before .before .pre) (c .before .before .before .before .before .before .before .group-plain .ensures .0)
 
 same-length : tie.Need-same-length
 same-length c = search needs
@@ -29,11 +21,8 @@ same-length-2 c = search needs
 
 returns : tie.Need-returns
 returns c =
-    let m = c .before .before in
-    let n = m .before .before .before in
-    let a = n .before .before .before .before .before .before in
-    step-meets (st a .pre) (a .group-plain .ensures .0) _ _ _ _ (m .move-shades .ensures)
-    (n .count-movers .ensures) (a .group-plain .ensures .1)
+    let g = c .before .before .before .before .before .before .before .before .before .before .group-plain .ensures in
+    step-meets (c .before .before .before .before .before .before .before .before .before .before .before .before .before .before .before .before .before .before .pre) (g .0) _ _ _ _ (c .before .before .move-shades .ensures) (c .before .before .before .before .before .count-movers .ensures) (g .1)
 
 pub plain-step-spec : {M : Type 1} → statement M
 plain-step-spec =

@@ -1,62 +1,39 @@
--- `two_of` answers the weight times both levels, which fits.
+-- `two_of` answers the weight times both levels: each product fits in 32 bits.
 use native.Mathlib.Omega.{arith}
-use Rattle.sums.proofs.Bounds.{two-at-most, product-fits}
 use borrow.Author.Needs.{needs}
+use Rattle.colour.specs.{redOf, greenOf}
+use Rattle.sums.proofs.Bounds.{times-fits, times-pair}
 use Rattle.sums.proofs.give.two_of.Statement.{statement}
 use Rattle.sums.proofs.give.two_of.Tie as tie
-
-wide-requires : tie.Need-wide-requires
-wide-requires c κs = search needs
 
 red-of-requires : tie.Need-red-of-requires
 red-of-requires c κs = search needs
 
-wide-requires-2 : tie.Need-wide-requires-2
-wide-requires-2 c κs = search needs
-
-mul-result : tie.Need-mul-result
-mul-result c = search needs
+mul-pair : tie.Need-mul-pair
+mul-pair c = let st = c .before in omega (arith, times-fits (st .args .weight) _ (st .pre) (c .red-of .ensures .1))
 
 green-of-requires : tie.Need-green-of-requires
 green-of-requires c κs = search needs
 
-wide-requires-3 : tie.Need-wide-requires-3
-wide-requires-3 c κs = search needs
+mul-pair-2 : tie.Need-mul-pair-2
+mul-pair-2 c = let st = c .before .before in omega (arith, times-fits (st .args .weight) _ (st .pre) (c .green-of .ensures .1))
 
-add-result : tie.Need-add-result
-add-result c = search needs
-
-mul-result-2 : tie.Need-mul-result-2
-mul-result-2 c =
-    let st = c .before .before .before .before .before in
-    rw (
-      c .before .before .before .before .wide .ensures,
-      c .before .before .wide2 .ensures,
-      c .before .before .before .red-of .ensures .0,
-      c .wide3 .ensures,
-      c .before .green-of .ensures .0,
-    ) (omega (arith, product-fits (st .args .weight) _ (st .pre) (two-at-most (st .args .key))))
+pair-requires : tie.Need-pair-requires
+pair-requires c κs = search needs
 
 returns : tie.Need-returns
 returns c =
-    rw (
-      c .before .before .before .before .wide .ensures,
-      c .before .before .wide2 .ensures,
-      c .before .before .before .red-of .ensures .0,
-      c .wide3 .ensures,
-      c .before .green-of .ensures .0,
-    )
+    let a = c .before .before .before .args in
+    rw (c .pair .ensures, c .before .before .red-of .ensures .0, c .before .green-of .ensures .0)
+    (times-pair (a .weight) (redOf (a .key)) (greenOf (a .key)))
 
 pub two-of-spec : {M : Type 1} → statement M
 two-of-spec =
     tie.close
     (tie.spec
-    wide-requires
     red-of-requires
-    wide-requires-2
-    mul-result
+    mul-pair
     green-of-requires
-    wide-requires-3
-    add-result
-    mul-result-2
+    mul-pair-2
+    pair-requires
     returns)

@@ -1,0 +1,48 @@
+-- The turn of a plain grouping: what the search left gives the shade and the cost, and the sums of the shade's group are
+-- raised.
+use Prim.Native.Nat.{ℕ, _+_, _*_, _/_, _%_, _≤_, _<_}
+use mathlib.Core.List.{List}
+use mathlib.Core.Path.{_≡_, ap, _∙_}
+use lib.ListN.{getD}
+use Rattle.colour.specs.{mostPixels, mostDistance}
+use Rattle.shades.specs.{mostShades, colourAt, packedNearest}
+use Rattle.shades.proofs.Nearest.{packed-found}
+use Rattle.rounds.specs.{coloursOf, joins}
+use Rattle.sums.specs.{twoOf, oneOf, weighed, raised, Summed}
+use Rattle.sums.proofs.Bounds.{two-at-most, one-at-most, adds-fit}
+use Rattle.sums.proofs.Summing.{summed-more}
+use Rattle.groups.proofs.Turns.{Turned, Finds, turned-some, turned-low, number-below}
+
+module _ {used : ℕ} {ks ws s : List ℕ} {k : ℕ} {works : ℕ → ℕ} {before members : List ℕ} {total count i : ℕ}
+    (x : Turned used ks ws s k works before members total count i) (l : i < used) where
+  -- weight and distance are those of a table
+  pub raised-low : (best : ℕ) → best ≡ packedNearest s k (colourAt ks i)
+      → (getD ws i 0 ≤ mostPixels) × (best / mostShades ≤ mostDistance)
+  raised-low best e =
+      turned-low x l _ (packed-found s k (colourAt ks i) (turned-some x l) (x .fitted .shades .few) best e .1)
+
+  -- shade and cost are read from distance and number in one
+  pub raised-finds : (best number cost : ℕ) → best ≡ packedNearest s k (colourAt ks i) → number ≡ best % mostShades
+      → cost ≡ getD ws i 0 * (best / mostShades) → Finds ks ws s k i number cost
+  raised-finds best number cost e n c =
+      let f = packed-found s k (colourAt ks i) (turned-some x l) (x .fitted .shades .few) best e in
+      record { number-is = n ∙ f .0; cost-is = c ∙ ap (λ d. getD ws i 0 * d) (f .1) }
+
+  module _ {t : List ℕ} (sums : Summed (joins (coloursOf used ks ws) k s) ks ws i t) {number cost two one : ℕ}
+      (g : Finds ks ws s k i number cost) (p : two ≡ weighed twoOf ks ws i) (q : one ≡ weighed oneOf ks ws i) where
+    -- the sums of the entry's group are there and stay below 2^64
+    pub raised-fit : (number < mostShades) × (getD t (2 * number) 0 + two ≤ 18446744073709551615)
+        × (getD t (2 * number + 1) 0 + one ≤ 18446744073709551615)
+    raised-fit =
+        let m = joins (coloursOf used ks ws) k s in
+        let tab = x .fitted .table in
+        rw (g .number-is, p, q) (
+          number-below x l,
+          rw (sums .two (m i) (number-below x l)) (adds-fit used ks ws tab twoOf two-at-most m i l),
+          rw (sums .one (m i) (number-below x l)) (adds-fit used ks ws tab oneOf one-at-most m i l),
+        )
+
+    -- and are raised
+    pub raised-step : (after : List ℕ) → after ≡ raised t number two one
+        → Summed (joins (coloursOf used ks ws) k s) ks ws (i + 1) after
+    raised-step after r = rw (r, g .number-is, p, q) (summed-more _ ks ws i t sums (number-below x l))

@@ -1,0 +1,38 @@
+-- An entry that joins another group: its member is set, and every other member stays.
+use Prim.Native.Nat.{ℕ, _≤_, _<_}
+use mathlib.Core.List.{List}
+use mathlib.Core.Path.{_≡_, sym, _∙_}
+use native.Mathlib.Omega.{arith}
+use lib.ListN.{length, set, getD}
+use lib.Seq.{getD-set-same, getD-set-other, set-getD}
+use Rattle.number.proofs.Fills.{fill-at}
+use Rattle.rounds.specs.{coloursOf, joins}
+use Rattle.sums.specs.{Summed, memberAt}
+use Rattle.sums.proofs.Moving.{Goes, summed-same}
+use Rattle.groups.proofs.Turns.{Turned}
+
+module _ (members : List ℕ) (i q : ℕ) where
+  -- the group that it joins
+  pub joined-at : i < length members → memberAt (set members i q) i ≡ q
+  joined-at l = getD-set-same members i q 0 l
+
+  -- it goes there
+  pub joined-goes : i < length members → (memberAt members i ≡ q → ⊥)
+      → Goes (memberAt members) (memberAt (set members i q)) i
+  joined-goes l d = record {
+    other = λ z. d (z ∙ joined-at l);
+    stay = λ j e. getD-set-other members i j q 0 e;
+  }
+
+  -- where it is in that group already, nothing is set
+  pub joined-same : memberAt members i ≡ q → members ≡ set members i q
+  joined-same e = sym (rw e at (set-getD members i 0))
+
+-- once every entry has joined, the sums of the groups that the members tell are those of the nearest shades
+pub joined-sums : {used : ℕ} {ks ws s : List ℕ} {k : ℕ} {works : ℕ → ℕ} {before members : List ℕ}
+    {total count i : ℕ} {t : List ℕ} → Turned used ks ws s k works before members total count i → used ≤ i
+    → Summed (memberAt members) ks ws used t → Summed (joins (coloursOf used ks ws) k s) ks ws used t
+joined-sums {used} {ks} {ws} {s} {k} {before = before} {members} {i = i} {t} x l sums =
+    let m = joins (coloursOf used ks ws) k s in
+    summed-same (memberAt members) m ks ws used t
+    (λ j h. rw (x .filled) (fill-at i j m before (omega arith) (omega (arith, x .fitted .room)))) sums

@@ -1,0 +1,150 @@
+-- The sums of the groups where one entry goes from its group to another: what it gives is taken from the one and added
+-- to the other.
+use Prim.Native.Nat.{ℕ, _+_, _-_, _*_, _≤_, _<_}
+use mathlib.Core.Bool.{cond}
+use mathlib.Core.List.{List}
+use mathlib.Core.Path.{_≡_, refl, sym, ap, _∙_}
+use native.Mathlib.Decide.{ℕ-discrete}
+use native.Mathlib.Omega.{arith}
+use lib.ListN.{length, getD, length-set}
+use borrow.Author.Tests.{eq-eqb, ne-eqb}
+use Rattle.number.specs.{sum}
+use Rattle.number.proofs.Sums.{sum-eq, sum-change}
+use Rattle.shades.specs.{mostShades}
+use Rattle.rounds.specs.{Tabled}
+use Rattle.sums.specs.Summing.{twoOf, oneOf, weighed, given, raised, lowered, Summed}
+use Rattle.sums.proofs.Bounds.{two-at-most, one-at-most, group-fits}
+use Rattle.sums.proofs.Summing.{placed-two, placed-one, placed-other-two, placed-other-one}
+
+-- an entry gives all it has to its own group
+given-own : (m f : ℕ → ℕ) (q i : ℕ) → m i ≡ q → given m f q i ≡ f i
+given-own m f q i e = ap (λ b. cond b (f i) 0) (eq-eqb (m i) q e)
+
+-- and nothing to another
+given-other : (m f : ℕ → ℕ) (q i : ℕ) → (m i ≡ q → ⊥) → given m f q i ≡ 0
+given-other m f q i d = ap (λ b. cond b (f i) 0) (ne-eqb (m i) q d)
+
+-- entry i goes from group m i to another, m′ i, and every other entry stays
+pub record Goes (m m′ : ℕ → ℕ) (i : ℕ) : Type 0 where
+  pub other : m i ≡ m′ i → ⊥
+  pub stay : (j : ℕ) → (j ≡ i → ⊥) → m′ j ≡ m j
+
+module _ {m m′ : ℕ → ℕ} {n i : ℕ} (g : Goes m m′ i) (h : i < n) (f : ℕ → ℕ) where
+  -- the sums of any group, before and after
+  both-sums : (q : ℕ) → sum n (given m′ f q) + given m f q i ≡ sum n (given m f q) + given m′ f q i
+  both-sums q = sum-change n i (given m′ f q) (given m f q) h (λ j d. rw (g .stay j d))
+
+  -- the sum of the group that it leaves
+  pub left-sum : sum n (given m f (m i)) ≡ sum n (given m′ f (m i)) + f i
+  left-sum =
+      omega (
+        arith,
+        both-sums (m i),
+        given-own m f (m i) i refl,
+        given-other m′ f (m i) i (λ z. g .other (sym z)),
+      )
+
+  -- the sum of the group that it joins
+  pub joined-sum : sum n (given m′ f (m′ i)) ≡ sum n (given m f (m′ i)) + f i
+  joined-sum = omega (arith, both-sums (m′ i), given-own m′ f (m′ i) i refl, given-other m f (m′ i) i (g .other))
+
+  -- the sum of every other group
+  other-sum : (q : ℕ) → (m i ≡ q → ⊥) → (m′ i ≡ q → ⊥) → sum n (given m f q) ≡ sum n (given m′ f q)
+  other-sum q d e = omega (arith, both-sums q, given-other m f q i d, given-other m′ f q i e)
+
+  -- numbers a that are the groups' sums before become those after, c, by way of b: first those of the group that the
+  -- entry leaves are lowered, then those of the group that it joins are raised
+  given-moved : (a b c : ℕ → ℕ) → ((q : ℕ) → q < mostShades → a q ≡ sum n (given m f q)) → m i < mostShades
+      → m′ i < mostShades → b (m i) ≡ a (m i) - f i → ((q : ℕ) → (q ≡ m i → ⊥) → b q ≡ a q)
+      → c (m′ i) ≡ b (m′ i) + f i → ((q : ℕ) → (q ≡ m′ i → ⊥) → c q ≡ b q) → (q : ℕ) → q < mostShades
+      → c q ≡ sum n (given m′ f q)
+  given-moved a b c sums few few′ low stay high keep q l = elim (ℕ-discrete q (m i)) [
+    | yes e ↦
+        rw e
+        (omega (
+          arith,
+          keep (m i) (g .other),
+          low,
+          sums (m i) few,
+          left-sum,
+        ))
+    | no d ↦ elim (ℕ-discrete q (m′ i)) [
+      | yes e ↦
+          rw e
+          (omega (
+            arith,
+            high,
+            stay (m′ i) (λ z. g .other (sym z)),
+            sums (m′ i) few′,
+            joined-sum,
+          ))
+      | no e ↦ omega (arith, keep q e, stay q d, sums q l, other-sum q (λ z. d (sym z)) (λ z. e (sym z)))
+    ]
+  ]
+
+-- the sums follow an entry that goes to another group
+pub summed-moved : {m m′ : ℕ → ℕ} (ks ws : List ℕ) {n i : ℕ} {t : List ℕ} → Summed m ks ws n t → Goes m m′ i → i < n
+    → m i < mostShades → m′ i < mostShades
+    → Summed m′ ks ws n
+    (raised (lowered t (m i) (weighed twoOf ks ws i) (weighed oneOf ks ws i)) (m′ i) (weighed twoOf ks ws i)
+    (weighed oneOf ks ws i))
+summed-moved {m} {m′} ks ws {n} {i} {t} s g h few few′ =
+    let x = weighed twoOf ks ws i in
+    let y = weighed oneOf ks ws i in
+    let u = lowered t (m i) x y in
+    let v = raised u (m′ i) x y in
+    let long : length u ≡ 2 * mostShades = simp length-set (s .long) in
+    record {
+      long = simp length-set (s .long);
+      two =
+          given-moved g h (weighed twoOf ks ws) (λ q. getD t (2 * q) 0) (λ q. getD u (2 * q) 0) (λ q. getD v (2 * q) 0)
+          (s .two) few few′ (placed-two t (m i) _ _ (s .long) few) (placed-other-two t (m i) _ _)
+          (placed-two u (m′ i) _ _ long few′) (placed-other-two u (m′ i) _ _);
+      one =
+          given-moved g h (weighed oneOf ks ws) (λ q. getD t (2 * q + 1) 0) (λ q. getD u (2 * q + 1) 0)
+          (λ q. getD v (2 * q + 1) 0) (s .one) few few′ (placed-one t (m i) _ _ (s .long) few)
+          (placed-other-one t (m i) _ _) (placed-one u (m′ i) _ _ long few′) (placed-other-one u (m′ i) _ _);
+    }
+
+-- what the entry gives is in the sums of the group that it leaves
+pub leaves-fit : {m m′ : ℕ → ℕ} (ks ws : List ℕ) {n i : ℕ} {t : List ℕ} → Summed m ks ws n t → Goes m m′ i → i < n
+    → m i < mostShades
+    → (weighed twoOf ks ws i ≤ getD t (2 * m i) 0) × (weighed oneOf ks ws i ≤ getD t (2 * m i + 1) 0)
+leaves-fit {m} ks ws {t = t} s g h few = (
+  omega (arith, s .two (m _) few, left-sum g h (weighed twoOf ks ws)),
+  omega (arith, s .one (m _) few, left-sum g h (weighed oneOf ks ws)),
+)
+
+-- and the sums of the group that it joins stay below 2^64
+pub joins-fit : {m m′ : ℕ → ℕ} {ks ws : List ℕ} {n i : ℕ} {t : List ℕ} → Tabled n ks ws → Summed m ks ws n t
+    → Goes m m′ i → i < n → m′ i < mostShades
+    → let u = lowered t (m i) (weighed twoOf ks ws i) (weighed oneOf ks ws i) in
+    (getD u (2 * m′ i) 0 + weighed twoOf ks ws i ≤ 18446744073709551615)
+    × (getD u (2 * m′ i + 1) 0 + weighed oneOf ks ws i ≤ 18446744073709551615)
+joins-fit {m} {m′} {ks} {ws} {n} {i} {t} tab s g h few =
+    let x = getD t (2 * m i) 0 - weighed twoOf ks ws i in
+    let y = getD t (2 * m i + 1) 0 - weighed oneOf ks ws i in (
+      omega (
+        arith,
+        placed-other-two t (m i) x y (m′ i) (λ z. g .other (sym z)),
+        s .two (m′ i) few,
+        joined-sum g h (weighed twoOf ks ws),
+        group-fits n ks ws tab twoOf two-at-most m′ (m′ i),
+      ),
+      omega (
+        arith,
+        placed-other-one t (m i) x y (m′ i) (λ z. g .other (sym z)),
+        s .one (m′ i) few,
+        joined-sum g h (weighed oneOf ks ws),
+        group-fits n ks ws tab oneOf one-at-most m′ (m′ i),
+      ),
+    )
+
+-- sums are those of any grouping that is the same on the entries
+pub summed-same : (m m′ : ℕ → ℕ) (ks ws : List ℕ) (n : ℕ) (t : List ℕ) → ((i : ℕ) → i < n → m i ≡ m′ i)
+    → Summed m ks ws n t → Summed m′ ks ws n t
+summed-same m m′ ks ws n t e s = record {
+  long = s .long;
+  two = λ q h. s .two q h ∙ sum-eq n _ _ (λ i l. rw (e i l));
+  one = λ q h. s .one q h ∙ sum-eq n _ _ (λ i l. rw (e i l));
+}
