@@ -71,6 +71,7 @@ fn every_job(pace: Pace, picture: &Picture) {
     tables::whole(pace, picture);
     tables::rows(pace, picture);
     tables::test(pace, picture, &table);
+    tables::pixel(pace, picture, &table);
     for count in [16, 64] {
         let (start, late) = (rounds::state(&table, count, 0), rounds::state(&table, count, 10));
         rounds::single(pace, Kind::Plain, picture, &table, &late);

@@ -51,6 +51,15 @@ impl Groups {
         number
     }
 
+    /// An entry leaves a group; the total stays.
+    #[inline(always)]
+    pub fn leave(&mut self, key: u32, weight: u32, number: u32) {
+        let weight = weight as u64;
+        let sums = &mut self.sums[(number & 63) as usize];
+        sums[0] -= weight * ((key as u64 >> 16) << 32 | (key as u64 >> 8 & 255));
+        sums[1] -= weight * ((key as u64 & 255) << 32 | 1);
+    }
+
     /// Moves each shade with a group to its rounded mean: how many moved.
     pub fn move_shades(&self, shades: &mut Shades) -> u64 {
         let count = shades.count;

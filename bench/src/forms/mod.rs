@@ -1,14 +1,16 @@
 //! The same jobs in plain Rust, in lent slices and local arrays under a mebibyte, with the same tests of their input.
 //!
 //! `table` with `merge::walk`, `rounds`, `run`, `blocks` and `header` are the usual forms: the proved library's methods
-//! without what it does for long tables, small ones, and pixels that equal the one before. `merge::leap`, `first` and
-//! `cells` are other methods that give the same answers, and on some pictures sooner.
+//! without what it does for long tables, small ones, pixels that equal the one before, and colours that stay in their
+//! group. `merge::leap`, `first`, `onward` and `cells` are other methods that give the same answers, and on some
+//! pictures sooner.
 pub mod blocks;
 pub mod cells;
 pub mod first;
 pub mod groups;
 pub mod header;
 pub mod merge;
+pub mod onward;
 pub mod rounds;
 pub mod run;
 pub mod runs;

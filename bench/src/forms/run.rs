@@ -1,5 +1,6 @@
 //! The run: starting shades with a distance kept for each colour in the members, then rounds.
 use super::groups::{Groups, Shades};
+use super::onward::group_onward;
 use super::rounds::{group_short, Grouping};
 use super::{colour_of, distance, table, Point};
 
@@ -45,10 +46,19 @@ fn starts(keys: &[u32], weights: &[u32], count: usize, members: &mut [u32]) -> S
     shades
 }
 
-/// A run of `count` shades, its first round by `first` and the others along rows; totals lent are the limit. The
-/// answer is rounds, settled, distances, final total.
+/// How the rounds of a run are made: the first by a grouping, the others along rows, with sums taken anew or going on.
+#[derive(Clone, Copy)]
+pub struct Way {
+    pub first: Grouping,
+    pub onward: bool,
+}
+
+/// The usual way.
+pub const USUAL: Way = Way { first: group_short, onward: false };
+
+/// A run of `count` shades; totals lent are the limit. The answer is rounds, settled, distances, final total.
 pub fn run(
-    first: Grouping,
+    way: Way,
     record: [u64; 2],
     (keys, weights): (&[u32], &[u32]),
     count: usize,
@@ -62,9 +72,15 @@ pub fn run(
     let (keys, weights, members) = (&keys[..used], &weights[..used], &mut members[..used]);
     let mut shades = starts(keys, weights, count, members);
     let (mut rounds, mut settled, mut distances) = (0, 0, 0);
+    let mut groups = Groups::new();
     while settled == 0 && rounds < totals.len() {
-        let grouping = if rounds == 0 { first } else { group_short };
-        let (groups, worked) = grouping(keys, weights, &shades, members);
+        let worked;
+        if way.onward && rounds > 0 {
+            worked = group_onward(keys, weights, &shades, members, &mut groups);
+        } else {
+            let grouping = if rounds == 0 { way.first } else { group_short };
+            (groups, worked) = grouping(keys, weights, &shades, members);
+        }
         totals[rounds] = groups.total;
         rounds += 1;
         distances += worked;

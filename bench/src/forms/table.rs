@@ -1,6 +1,6 @@
 //! Adding a strip to a table: the table's test, then lists of runs, sorted and merged.
 use super::merge::Merge;
-use super::runs;
+use super::{key_of, runs};
 
 /// Whether record and used entries are a table: every pass goes through to its end.
 pub fn is_table(record: [u64; 2], keys: &[u32], weights: &[u32]) -> bool {
@@ -39,5 +39,24 @@ fn take<const MOST: usize>(merge: Merge, record: &mut [u64; 2], keys: &mut [u32]
         let used = merge(keys, weights, record[0] as usize, &mut list[..len], &mut other[..len]).expect("full");
         *record = [used as u64, record[1] + pixels as u64];
         left = &left[3 * pixels..];
+    }
+}
+
+/// Adds a strip pixel by pixel: the place by halving, and the entries above a new colour moved up.
+pub fn add_plain(record: &mut [u64; 2], keys: &mut [u32], weights: &mut [u32], strip: &[u8]) {
+    assert!(strip.len().is_multiple_of(3) && is_table(*record, keys, weights), "refused");
+    for pixel in strip.chunks_exact(3) {
+        let (key, used) = (key_of(pixel), record[0] as usize);
+        match keys[..used].binary_search(&key) {
+            Ok(at) => weights[at] += 1,
+            Err(at) => {
+                assert!(used < keys.len().min(weights.len()), "full");
+                keys.copy_within(at..used, at + 1);
+                weights.copy_within(at..used, at + 1);
+                (keys[at], weights[at]) = (key, 1);
+                record[0] += 1;
+            }
+        }
+        record[1] += 1;
     }
 }

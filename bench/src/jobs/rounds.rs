@@ -1,7 +1,7 @@
 //! Jobs of rounds and runs.
 use crate::forms::first::group_counted;
 use crate::forms::rounds::{self, group_plain, group_short, Grouping};
-use crate::forms::run;
+use crate::forms::run::{self, Way, USUAL};
 use crate::pictures::Picture;
 use crate::proved::{self, Run, Table};
 use crate::race::{race, row, timed, Form, Pace};
@@ -20,7 +20,7 @@ pub fn state(table: &Table, count: usize, rounds_made: usize) -> State {
         proved::run(table, count, &mut done);
     } else {
         let entries = (&table.keys[..], &table.weights[..]);
-        run::run(group_short, table.record, entries, count, &mut done.members, &mut [], &mut done.shades);
+        run::run(USUAL, table.record, entries, count, &mut done.members, &mut [], &mut done.shades);
     }
     State { coordinates: done.shades[..3 * count].to_vec(), members: done.members }
 }
@@ -74,11 +74,11 @@ pub fn single(pace: Pace, kind: Kind, picture: &Picture, table: &Table, before: 
 
 /// A whole run.
 pub fn whole(pace: Pace, picture: &Picture, table: &Table, count: usize, limit: usize) {
-    let rust = |first: Grouping| {
+    let rust = |way: Way| {
         let mut done = Run::room(table.used(), limit);
         let (seconds, answer) = timed(|| {
             let entries = (&table.keys[..], &table.weights[..]);
-            run::run(first, table.record, entries, count, &mut done.members, &mut done.totals, &mut done.shades)
+            run::run(way, table.record, entries, count, &mut done.members, &mut done.totals, &mut done.shades)
         });
         (seconds, Run { answer, ..done })
     };
@@ -87,11 +87,12 @@ pub fn whole(pace: Pace, picture: &Picture, table: &Table, count: usize, limit: 
         let (seconds, ()) = timed(|| proved::run(table, count, &mut done));
         (seconds, done)
     };
-    let times = race(pace, "run", &mut [&mut proved, &mut || rust(group_short), &mut || rust(group_counted)]);
+    let other = Way { first: group_counted, onward: true };
+    let times = race(pace, "run", &mut [&mut proved, &mut || rust(USUAL), &mut || rust(other)]);
     let mut done = Run::room(table.used(), limit);
     proved::run(table, count, &mut done);
     let unit = ("colour and round", table.used() as f64 * done.answer[0] as f64);
-    row(&format!("run, limit {limit}, k = {count}"), &picture.name, unit, &times, "first round in blocks");
+    row(&format!("run, limit {limit}, k = {count}"), &picture.name, unit, &times, "first round in blocks, sums go on");
 }
 
 /// The palette of a run at limit 20.

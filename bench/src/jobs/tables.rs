@@ -105,3 +105,20 @@ pub fn test(pace: Pace, picture: &Picture, table: &Table) {
     );
     row("the table's test", &picture.name, ("entry", table.used() as f64), &times, "");
 }
+
+/// One pixel of a new colour, below nearly all others, so that they move up; the plain form in Rust beside it.
+pub fn pixel(pace: Pace, picture: &Picture, table: &Table) {
+    let used = &table.keys[..table.used()];
+    let new = (0..).zip(used).find(|(key, used)| key != *used).map_or(used.len() as u32, |(key, _)| key);
+    let strip = [(new >> 16) as u8, (new >> 8) as u8, new as u8];
+    let once = |add: fn(&mut Table, &[u8])| {
+        let mut lent = table.clone();
+        let (seconds, ()) = timed(|| add(&mut lent, &strip));
+        (seconds, contents(&lent))
+    };
+    let plain = |table: &mut Table, strip: &[u8]| {
+        forms::table::add_plain(&mut table.record, &mut table.keys, &mut table.weights, strip)
+    };
+    let times = race(pace, "a new pixel", &mut [&mut || once(proved::add), &mut || once(plain)]);
+    row("a new pixel", &picture.name, ("pixel", 1.0), &times, "");
+}
