@@ -2,6 +2,7 @@
 use Prim.Native.Nat.{ℕ, _+_, _*_, _≤_, _<_}
 use mathlib.Core.List.{List}
 use mathlib.Core.Path.{_≡_}
+use Rattle.number.specs.{sq}
 use Rattle.number.proofs.Squares.{sq-most}
 use Rattle.number.proofs.Sums.{sum-eq, sum-bound, sum-parts}
 use Rattle.colour.specs.{Point, Within}
@@ -21,13 +22,27 @@ module _ (n : ℕ) (c d : ℕ → Point) (s t : List ℕ) (f g : ℕ → ℕ) (p
   pub misses-same : missesOf c s f n ≡ missesOf d t g n
   misses-same = rw (miss-same 0, miss-same 1, miss-same 2)
 
--- n points and shades with no coordinate above m miss by at most n times m²
-pub miss-most : (m e n : ℕ) (c : ℕ → Point) (s : List ℕ) (f : ℕ → ℕ) → ((i : ℕ) → i < n → Within m (c i))
-    → ((q : ℕ) → Within m (shadeAt s q)) → missOn e c s f n ≤ n * (m * m)
-miss-most m e n c s f inside low =
-    sum-bound n (m * m) _ (λ i l.
-    let p = shadeAt s (f i) in
-    sq-most (axis e (c i)) (axis e p) m (axis-within m e (c i) (inside i l)) (axis-within m e p (low (f i))))
+-- ---- the most that they are, for points and shades with no coordinate above m
+
+-- the squared difference of point c i from the shade that f names, on channel e
+abbrev pub missAt : ℕ → (ℕ → Point) → List ℕ → (ℕ → ℕ) → ℕ → ℕ
+missAt e c s f i = sq (axis e (c i)) (axis e (shadeAt s (f i)))
+
+module _ (m : ℕ) (c : ℕ → Point) (s : List ℕ) (f : ℕ → ℕ) (low : (q : ℕ) → Within m (shadeAt s q)) where
+  -- one point misses by at most m² on a channel
+  miss-low : (e i : ℕ) → Within m (c i) → missAt e c s f i ≤ m * m
+  miss-low e i inside =
+      let p = shadeAt s (f i) in
+      sq-most (axis e (c i)) (axis e p) m (axis-within m e (c i) inside) (axis-within m e p (low (f i)))
+
+  -- and so on each
+  pub misses-low : (i : ℕ) → Within m (c i)
+      → (missAt 0 c s f i ≤ m * m) × (missAt 1 c s f i ≤ m * m) × (missAt 2 c s f i ≤ m * m)
+  misses-low i inside = (miss-low 0 i inside, miss-low 1 i inside, miss-low 2 i inside)
+
+  -- n points miss by at most n times m²
+  pub miss-most : (e n : ℕ) → ((i : ℕ) → i < n → Within m (c i)) → missOn e c s f n ≤ n * (m * m)
+  miss-most e n inside = sum-bound n (m * m) _ (λ i l. miss-low e i (inside i l))
 
 -- ---- in two parts
 

@@ -89,8 +89,8 @@ module _ (palette strip : List ℕ) (n : ℕ) (colours : Bytes palette) (bytes :
   channel-most e =
       omega (
         arith,
-        miss-most mostLevel e n (pixelAt strip) palette (entryFor palette strip) (λ i l. pixel-within strip i bytes)
-            (λ q. pixel-within palette q colours),
+        miss-most mostLevel (pixelAt strip) palette (entryFor palette strip) (λ q. pixel-within palette q colours) e n
+            (λ i l. pixel-within strip i bytes),
       )
 
   -- and so on each

@@ -3,11 +3,11 @@ use Prim.Native.Nat.{ℕ, _+_, _*_, _%_, _≤_, _<_}
 use mathlib.Core.List.{List}
 use mathlib.Core.Path.{_≡_}
 use lib.ListN.{getD, length}
-use Rattle.colour.specs.{mostCoordinate, mostPixels}
-use Rattle.shades.specs.{mostShades, OnGrid}
+use Rattle.colour.specs.{Point, mostCoordinate, mostPixels}
+use Rattle.shades.specs.{mostShades, nearestShade, OnGrid}
 use Rattle.search.specs.{RoomFor}
 use Rattle.strips.specs.Meaning.{entryCount}
-use Rattle.strips.specs.Gathering.{placeOf}
+use Rattle.strips.specs.Gathering.{fewPlaces, placeOf}
 use Rattle.strips.specs.declared.Errors.{Errors}
 
 -- the lists that a block of n pixels is mapped in have a place for each pixel
@@ -16,6 +16,16 @@ pub record Room (n : ℕ) (keys which reds greens blues best : List ℕ) : Type 
   pub place : n ≤ length which
   pub point : RoomFor n reds greens blues
   pub number : n ≤ length best
+
+-- n pixels take at most 256 places, and none but these
+pub record FewTaken (n : ℕ) (which : List ℕ) (m : ℕ) : Type 0 where
+  pub at-most : m ≤ fewPlaces
+  pub few : m ≤ n
+  pub placed : (i : ℕ) → i < n → placeOf which i < m
+
+-- the number of the nearest of k shades to point c i
+abbrev pub nearestAt : List ℕ → ℕ → (ℕ → Point) → ℕ → ℕ
+nearestAt s k c i = nearestShade s k (c i)
 
 -- the number in the packed number at place i
 abbrev pub numberIn : List ℕ → ℕ → ℕ

@@ -1,4 +1,5 @@
--- A block of pixels, and what gathering them leaves: pixels that follow one another and are equal share a place.
+-- A block of pixels, and what gathering them leaves: pixels that follow one another and are equal share a place. Where
+-- these places are few, they are joined: those with one key are gathered once more, wherever they stand.
 use Prim.Native.Nat.{ℕ, _-_, _≤_, _<_}
 use mathlib.Core.Bool.{cond}
 use mathlib.Core.List.{List}
@@ -11,6 +12,10 @@ use Rattle.strips.specs.Meaning.{pixelAt}
 -- the most pixels of a block, and so the most places
 abbrev pub mostPlaces : ℕ
 mostPlaces = 1024
+
+-- the most places that are joined
+abbrev pub fewPlaces : ℕ
+fewPlaces = 256
 
 -- the block that begins at pixel i of n ends at e: it has some pixels, and no more than a block may have
 pub record BlockEnd (i n e : ℕ) : Type 0 where
@@ -26,6 +31,14 @@ differ a b = cond (eqb a b) 0 1
 abbrev pub pointKey : Point → ℕ
 pointKey c = keyOf (c .r) (c .g) (c .b)
 
+-- the key of pixel i
+abbrev pub pixelKey : List ℕ → ℕ → ℕ
+pixelKey strip i = pointKey (pixelAt strip i)
+
+-- the key at place q
+abbrev pub keyAt : List ℕ → ℕ → ℕ
+keyAt keys q = getD keys q 0
+
 -- the place of pixel i
 abbrev pub placeOf : List ℕ → ℕ → ℕ
 placeOf which i = getD which i 0
@@ -34,9 +47,17 @@ placeOf which i = getD which i 0
 abbrev pub levelsAt : List ℕ → ℕ → Point
 levelsAt keys q = record { r = redOf (getD keys q 0); g = greenOf (getD keys q 0); b = blueOf (getD keys q 0) }
 
--- the first n pixels of a strip are gathered in m places, at most one for each pixel: the key at the place of a pixel
--- is the pixel's
-pub record Gathered (strip : List ℕ) (n : ℕ) (keys which : List ℕ) (m : ℕ) : Type 0 where
+-- the colour at the place of pixel i
+abbrev pub levelsOf : List ℕ → List ℕ → ℕ → Point
+levelsOf keys which i = levelsAt keys (placeOf which i)
+
+-- the keys f 0 to f (n - 1) are gathered in m places, at most one for each: the key at the place of each is its own
+pub record Gathered (f : ℕ → ℕ) (n : ℕ) (keys which : List ℕ) (m : ℕ) : Type 0 where
   pub few : m ≤ n
   pub placed : (i : ℕ) → i < n → placeOf which i < m
-  pub is : (i : ℕ) → i < n → getD keys (placeOf which i) 0 ≡ pointKey (pixelAt strip i)
+  pub is : (i : ℕ) → i < n → keyAt keys (placeOf which i) ≡ f i
+
+-- where m places are taken, a key takes place h: one of them, if it stands there, or the next
+pub data Takes (keys : List ℕ) (m key h : ℕ) : Type 0 where
+  there : h < m → keyAt keys h ≡ key → Takes keys m key h
+  next : h ≡ m → Takes keys m key h

@@ -6,7 +6,7 @@ ghost use lib.ListN.{length};
 ghost use Rattle.number.specs.{fill};
 ghost use Rattle.search.specs.{RoomFor};
 ghost use Rattle.strips.specs.Meaning.{pixelCount};
-ghost use Rattle.strips.specs.Gathering.{mostPlaces, differ, levelsAt, Gathered};
+ghost use Rattle.strips.specs.Gathering.{mostPlaces, differ, pixelKey, levelsAt, Gathered};
 
 // 1 where two keys differ, 0 where they are equal.
 fn differs(a: u32, b: u32) -> usize
@@ -22,7 +22,7 @@ fn differs(a: u32, b: u32) -> usize
 pub fn gather(strip: &[u8], keys: &mut [u32], which: &mut [u16]) -> usize
     requires { ⌜ (pixelCount (now strip) ≤ length (now keys))
         × (pixelCount (now strip) ≤ length (now which)) × (pixelCount (now strip) ≤ mostPlaces) ⌝ }
-    ensures { λ r. ⌜ Gathered (now (strip .entry)) (pixelCount (now (strip .entry)))
+    ensures { λ r. ⌜ Gathered (pixelKey (now (strip .entry))) (pixelCount (now (strip .entry)))
         (now (keys .exit)) (now (which .exit)) r ⌝ }
 {
     let n = strip.len() / 3;

@@ -3,15 +3,21 @@
 //
 // Calls; none refuses, and what one requires stands above it
 //   map_pixels   maps a strip against a palette of bytes     whole.rt
-// The pixels of a block are gathered in gather.rt, equal ones that follow one another as one, and
-// searched in block.rt; their numbers and errors are told in settle.rt. The search is that of the
-// plain round, on levels in place of sixteenths.
+// The pixels of a block are gathered in gather.rt, equal ones that follow one another as one. Where
+// that leaves few places, few.rt joins those with one colour (join.rt), and numbers and errors are
+// told place by place (tell.rt); where it leaves many, numbers and errors are told pixel by pixel
+// (settle.rt). In places.rt the places are searched, as the plain round does, on levels in place of
+// sixteenths.
 //
 // Read next: specs/Lib.antt (what the words mean), proofs/Promises.antt (what is shown).
 
 mod block;
+mod few;
 mod gather;
+mod join;
+mod places;
 mod settle;
+mod tell;
 mod whole;
 
 pub use whole::map_pixels;

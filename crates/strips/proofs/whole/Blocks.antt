@@ -36,7 +36,7 @@ misses-small : (c : ℕ → Point) (s : List ℕ) (f : ℕ → ℕ) (n : ℕ) �
     → SmallErrors (missesOf c s f n)
 misses-small c s f n inside low few =
     let most : (e : ℕ) → missOn e c s f n ≤ mostCoordinate * mostCoordinate * mostPixels =
-    λ e. omega (arith, miss-most mostCoordinate e n c s f inside (λ q. shade-within s q low)) in
+    λ e. omega (arith, miss-most mostCoordinate c s f (λ q. shade-within s q low) e n inside) in
     record { red-small = most 0; green-small = most 1; blue-small = most 2 }
 
 -- what is asked for a whole strip: three bytes for each place, some shades on the grid, and no more pixels than may be

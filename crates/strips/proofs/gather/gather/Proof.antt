@@ -6,7 +6,8 @@ use lib.ListN.{length}
 use denote.Ref.{now}
 use borrow.Author.Needs.{needs}
 use Rattle.strips.specs.Meaning.{pixelCount}
-use Rattle.strips.proofs.gather.Gathers.{Takes, Gathering, gathering-start, gathering-takes, gathering-step}
+use Rattle.strips.specs.Gathering.{Takes}
+use Rattle.strips.proofs.gather.Gathers.{Gathering, gathering-start, gathering-takes, gathering-step}
 use Rattle.strips.proofs.gather.gather.Statement.{statement}
 use Rattle.strips.proofs.gather.gather.Tie as tie
 
@@ -102,7 +103,7 @@ loop-again : tie.Need-loop-again Inv-loop μ-loop
 loop-again c =
     let l = turn c in
     gathering-step (l .loop .inv) (omega arith) (c .before .key-of .ensures .0) (takes c .2)
-    (omega (arith, takes c)) (room c) (omega (arith, l .loop .inv .which-long, st l .pre .1))
+    (omega (arith, takes c)) (omega arith) (takes c .1) (room c) (omega (arith, l .loop .inv .which-long, st l .pre .1))
 
 same-length : tie.Need-same-length Inv-loop μ-loop
 same-length c = c .before .loop .inv .keys-long

@@ -4,8 +4,10 @@ use native.Mathlib.Omega.{arith}
 use lib.ListN.{length}
 use denote.Ref.{now}
 use Rattle.colour.specs.{mostCoordinate}
+use Rattle.shades.proofs.Laying.{shade-within}
 use Rattle.strips.specs.Meaning.{pixelAt}
 use Rattle.strips.specs.Asking.{numberOf}
+use Rattle.strips.proofs.Misses.{missAt, misses-low}
 use Rattle.strips.proofs.Pixels.{pixels-on-grid}
 use Rattle.strips.proofs.settle.Settling.{
   Settled,
@@ -20,7 +22,9 @@ use Rattle.strips.proofs.settle.settle.Tie as tie
 
 abbrev Inv-loop : tie.InvT-loop
 Inv-loop strip which s best index₀ n red₀ green₀ blue₀ i₀ index red green blue i =
-    Settled (pixelAt strip) s (numberOf which best) index₀ index red green blue i
+    let f = numberOf which best in
+    let c = pixelAt strip in
+    Settled f (missAt 0 c s f) (missAt 1 c s f) (missAt 2 c s f) index₀ index red green blue i
 
 abbrev μ-loop : tie.MeasureT-loop
 μ-loop strip which s best index₀ n red₀ green₀ blue₀ i₀ index red green blue i = length index₀ - i
@@ -51,13 +55,18 @@ small : (c : tie.At-loop Inv-loop μ-loop)
 small c =
     let a = st c .args in
     let known = c .before .before .before .before .before .shared-slice-known .given in
-    settled-small (c .loop .inv)
-    (pixels-on-grid (now (a .strip)) (length (now (a .index))) (λ j. omega (arith, known j))) (st c .pre .shades)
+    let low = misses-low mostCoordinate (pixelAt (now (a .strip))) (now (a .s))
+    (numberOf (now (a .which)) (now (a .best))) (λ q. shade-within (now (a .s)) q (st c .pre .shades)) in
+    let on = pixels-on-grid (now (a .strip)) (length (now (a .index))) (λ p. omega (arith, known p)) in
+    settled-small (c .loop .inv) (mostCoordinate * mostCoordinate) (λ j l. low j (on j l))
 
 loop-holds : tie.Need-loop-holds Inv-loop μ-loop
 loop-holds c =
     let a = c .before .before .before .before .before .args in
-    settled-start (pixelAt (now (a .strip))) (now (a .s)) (numberOf (now (a .which)) (now (a .best))) (now (a .index))
+    let f = numberOf (now (a .which)) (now (a .best)) in
+    let p = pixelAt (now (a .strip)) in
+    let s = now (a .s) in
+    settled-start f (missAt 0 p s f) (missAt 1 p s f) (missAt 2 p s f) (now (a .index))
 
 mul-number : tie.Need-mul-number Inv-loop μ-loop
 mul-number c = omega (arith, st (c .before) .pre .room)

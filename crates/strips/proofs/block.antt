@@ -1,2 +1,0 @@
--- A block searched: the numbers found are those of the nearest shades.
-pub mod Searches

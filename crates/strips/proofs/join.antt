@@ -1,0 +1,2 @@
+-- Place after place is joined.
+pub mod Joins
