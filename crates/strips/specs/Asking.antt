@@ -1,5 +1,5 @@
 -- What the strip mapper and its parts ask.
-use Prim.Native.Nat.{ℕ, _+_, _*_, _%_, _≤_, _<_}
+use Prim.Native.Nat.{ℕ, _+_, _-_, _*_, _%_, _≤_, _<_}
 use mathlib.Core.List.{List}
 use mathlib.Core.Path.{_≡_}
 use lib.ListN.{getD, length}
@@ -7,8 +7,14 @@ use Rattle.colour.specs.{Point, mostCoordinate, mostPixels}
 use Rattle.shades.specs.{mostShades, nearestShade, OnGrid}
 use Rattle.search.specs.{RoomFor}
 use Rattle.strips.specs.Meaning.{entryCount}
-use Rattle.strips.specs.Gathering.{fewPlaces, placeOf}
+use Rattle.places.specs.{mostPlaces, fewPlaces, placeOf}
 use Rattle.strips.specs.declared.Errors.{Errors}
+
+-- the block that begins at pixel i of n ends at e: it has some pixels, and no more than a block may have
+pub record BlockEnd (i n e : ℕ) : Type 0 where
+  pub some : i < e
+  pub within : e ≤ n
+  pub few : e - i ≤ mostPlaces
 
 -- the lists that a block of n pixels is mapped in have a place for each pixel
 pub record Room (n : ℕ) (keys which reds greens blues best : List ℕ) : Type 0 where

@@ -11,18 +11,7 @@
 --   errorsOf palette strip n  the channel errors of the first n pixels
 --   errorOf palette strip n   their error: the sum of squared level differences
 --   plusErrors a b            the errors of two strips together
---   mostPlaces                1024, the most pixels of a block
---   fewPlaces                 256, the most places that are joined
 --   BlockEnd i n e            the block that begins at pixel i of n ends at e
---   differ a b                1 where two numbers differ, 0 where they are equal
---   pointKey c                the key of a colour in whole levels
---   pixelKey strip i          the key of pixel i
---   keyAt keys q              the key at place q
---   placeOf which i           the place of pixel i
---   levelsAt keys q           the colour with the key at place q, in whole levels
---   levelsOf keys which i     the colour at the place of pixel i
---   Gathered f n keys which m the keys f 0 .. f (n - 1) are at their places, m in all
---   Takes keys m key h        a key takes place h: one of m where it stands, or the next
 --   nearestAt s k c i         the nearest of k shades to point c i
 --   numberIn best i           the number in a packed number
 --   numberOf which best i     the number found for pixel i
@@ -35,7 +24,6 @@
 --   Room, Found, SmallErrors, Mappable   what mapping a block, settling it, adding errors up and mapping a strip ask
 --   Tellable, Told            what telling of places, and adding up what is told, ask
 pub mod Meaning
-pub mod Gathering
 pub mod Asking
 pub mod Telling
 pub use declared.Errors.{Errors}
@@ -53,19 +41,7 @@ unfoldable pub use Meaning.{
   plusErrors,
 }
 pub use Meaning.{NearestEntry}
-unfoldable pub use Gathering.{
-  mostPlaces,
-  fewPlaces,
-  differ,
-  pointKey,
-  pixelKey,
-  keyAt,
-  placeOf,
-  levelsAt,
-  levelsOf,
-}
-pub use Gathering.{BlockEnd, Gathered, Takes}
 unfoldable pub use Asking.{nearestAt, numberIn, numberOf}
-pub use Asking.{Room, FewTaken, Found, SmallErrors, Mappable}
+pub use Asking.{BlockEnd, Room, FewTaken, Found, SmallErrors, Mappable}
 unfoldable pub use Telling.{cellOf, cellsOf, toldAt, toldOf, toldErrors}
 pub use Telling.{Tellable, Told}

@@ -5,7 +5,7 @@ use lib.ListN.{getD, length}
 use Rattle.number.specs.{sum, sq}
 use Rattle.colour.specs.{Point, mostLevel, mostPixels}
 use Rattle.shades.specs.{shadeAt, OnGrid}
-use Rattle.strips.specs.Gathering.{placeOf}
+use Rattle.places.specs.{placeOf}
 use Rattle.strips.specs.Asking.{numberOf}
 use Rattle.strips.specs.declared.Errors.{Errors}
 

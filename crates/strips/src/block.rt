@@ -5,13 +5,13 @@ ghost use lib.ListN.{length};
 ghost use Rattle.number.specs.{fill};
 ghost use Rattle.shades.specs.{Shades};
 ghost use Rattle.strips.specs.Meaning.{pixelAt, nearestTo, missesOf};
-ghost use Rattle.strips.specs.Gathering.{mostPlaces, pixelKey, Gathered};
+ghost use Rattle.places.specs.{mostPlaces, pixelKey, Gathered};
 ghost use Rattle.strips.specs.Asking.{Room};
 use super::Errors;
 use super::few::map_few;
-use super::gather::gather;
-use super::places::search_places;
 use super::settle::settle;
+use places::gather;
+use places::search_places;
 
 // Maps a block of pixels that are gathered in the first `n` places of `keys` to the `k` shades of
 // `s`; the four lists before `index` are where it works. Requires that they are, some shades on the

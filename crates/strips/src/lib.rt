@@ -3,19 +3,15 @@
 //
 // Calls; none refuses, and what one requires stands above it
 //   map_pixels   maps a strip against a palette of bytes     whole.rt
-// The pixels of a block are gathered in gather.rt, equal ones that follow one another as one. Where
-// that leaves few places, few.rt joins those with one colour (join.rt), and numbers and errors are
-// told place by place (tell.rt); where it leaves many, numbers and errors are told pixel by pixel
-// (settle.rt). In places.rt the places are searched, as the plain round does, on levels in place of
-// sixteenths.
+// Crate `places` gathers the pixels of a block in places, and searches these as the plain round does,
+// on levels in place of sixteenths. Where the places are few (few.rt) those with one colour are
+// joined, and numbers and errors are told place by place (tell.rt); where they are many (block.rt)
+// numbers and errors are told pixel by pixel (settle.rt).
 //
 // Read next: specs/Lib.antt (what the words mean), proofs/Promises.antt (what is shown).
 
 mod block;
 mod few;
-mod gather;
-mod join;
-mod places;
 mod settle;
 mod tell;
 mod whole;

@@ -13,8 +13,7 @@ ghost use Rattle.strips.specs.Meaning.{
   errorsOf,
   plusErrors,
 };
-ghost use Rattle.strips.specs.Gathering.{BlockEnd};
-ghost use Rattle.strips.specs.Asking.{Mappable, SmallErrors};
+ghost use Rattle.strips.specs.Asking.{BlockEnd, Mappable, SmallErrors};
 use super::Errors;
 use super::block::map_block;
 

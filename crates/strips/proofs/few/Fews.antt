@@ -12,10 +12,10 @@ use Rattle.shades.specs.{nearestShade, Shades}
 use Rattle.shades.proofs.Nearest.{nearest-below}
 use Rattle.strips.specs.declared.Errors.{Errors}
 use Rattle.strips.specs.Meaning.{missesOf}
-use Rattle.strips.specs.Gathering.{keyAt, placeOf, levelsAt, levelsOf, Gathered}
+use Rattle.places.specs.{keyAt, placeOf, levelsAt, levelsOf, Gathered}
 use Rattle.strips.specs.Asking.{numberOf, nearestAt, FewTaken}
 use Rattle.strips.specs.Telling.{cellOf, cellsOf, toldAt, toldOf, toldErrors, Tellable, Told}
-use Rattle.strips.proofs.places.Searches.{Searched, searched-inside}
+use Rattle.strips.proofs.block.Searches.{Searched, searched-inside}
 use Rattle.strips.proofs.tell.Tells.{told-at}
 
 -- equal keys have the same levels

@@ -14,7 +14,7 @@ use Rattle.shades.proofs.Laying.{shade-within}
 use Rattle.search.specs.{PointsOnGrid}
 use Rattle.strips.specs.declared.Errors.{Errors}
 use Rattle.strips.specs.Meaning.{pixelAt, nearestTo, missOn, missesOf, plusErrors}
-use Rattle.strips.specs.Gathering.{mostPlaces}
+use Rattle.places.specs.{mostPlaces}
 use Rattle.strips.specs.Asking.{Room, SmallErrors}
 use Rattle.strips.proofs.Misses.{miss-most, misses-same, misses-parts}
 use Rattle.strips.proofs.Pixels.{pixels-on-grid, pixel-part}

@@ -6,9 +6,9 @@ use denote.Ref.{now}
 use borrow.Author.Needs.{needs}
 use Rattle.colour.specs.{Bytes}
 use Rattle.strips.specs.Meaning.{pixelCount}
-use Rattle.strips.specs.Gathering.{pixelKey, Gathered}
+use Rattle.places.specs.{pixelKey, Gathered}
 use Rattle.strips.specs.Asking.{Room}
-use Rattle.strips.proofs.places.Searches.{gathered-taken, gathered-index, gathered-errors}
+use Rattle.strips.proofs.block.Searches.{gathered-taken, gathered-index, gathered-errors}
 use Rattle.strips.proofs.block.map_block.Statement.{statement}
 use Rattle.strips.proofs.block.map_block.Tie as tie
 

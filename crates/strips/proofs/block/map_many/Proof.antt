@@ -5,7 +5,7 @@ use denote.Ref.{now}
 use borrow.Author.Needs.{needs}
 use Rattle.colour.specs.{Bytes}
 use Rattle.strips.specs.Meaning.{pixelAt}
-use Rattle.strips.proofs.places.Searches.{
+use Rattle.strips.proofs.block.Searches.{
   Searched,
   levels-of-pixel,
   room-for,

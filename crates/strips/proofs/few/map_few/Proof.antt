@@ -4,8 +4,8 @@ use native.Mathlib.Omega.{arith}
 use lib.ListN.{length}
 use denote.Ref.{now}
 use borrow.Author.Needs.{needs}
-use Rattle.strips.specs.Gathering.{keyAt, levelsAt, Gathered}
-use Rattle.strips.proofs.places.Searches.{Searched, room-for, searched-all}
+use Rattle.places.specs.{keyAt, levelsAt, Gathered}
+use Rattle.strips.proofs.block.Searches.{Searched, room-for, searched-all}
 use Rattle.strips.proofs.few.Fews.{
   NearestTold,
   levels-same,

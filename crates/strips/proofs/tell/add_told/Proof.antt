@@ -4,7 +4,7 @@ use mathlib.Core.Path.{refl}
 use native.Mathlib.Omega.{arith}
 use lib.ListN.{length}
 use denote.Ref.{now}
-use Rattle.strips.specs.Gathering.{placeOf}
+use Rattle.places.specs.{placeOf}
 use Rattle.strips.specs.Telling.{toldOf}
 use Rattle.strips.proofs.settle.Settling.{
   Settled,

@@ -5,7 +5,7 @@ use native.Mathlib.Omega.{arith}
 use lib.ListN.{length, length-set}
 use denote.Ref.{now}
 use borrow.Author.Needs.{needs}
-use Rattle.strips.specs.Gathering.{levelsOf}
+use Rattle.places.specs.{levelsOf}
 use Rattle.strips.specs.Asking.{numberOf}
 use Rattle.strips.proofs.tell.Tells.{Telling, telling-start, telling-long, telling-step}
 use Rattle.strips.proofs.tell.tell.Statement.{statement}

@@ -1,0 +1,22 @@
+-- `place_for` meets its contract: the place is one where the key stands, or the next.
+use mathlib.Core.Path.{refl}
+use borrow.Author.Needs.{needs}
+use borrow.Author.Tests.{eqb-true}
+use Rattle.places.specs.Gathering.{there, next}
+use Rattle.places.proofs.keys.place_for.Statement.{statement}
+use Rattle.places.proofs.keys.place_for.Tie as tie
+
+mul-if2 : tie.Need-mul-if2
+mul-if2 c = search needs
+
+shared-slice-read-if2 : tie.Need-shared-slice-read-if2
+shared-slice-read-if2 c = search needs
+
+returns : tie.Need-returns
+returns c = there (c .before .before .if1 .taken) (eqb-true _ _ (c .if2 .taken))
+
+returns-2 : tie.Need-returns-2
+returns-2 c = next refl
+
+pub place-for-spec : {M : Type 1} → statement M
+place-for-spec = tie.close (tie.spec mul-if2 shared-slice-read-if2 returns returns-2)

@@ -1,0 +1,16 @@
+// The places of a block of pixels: pixels with one colour share one, so that it is searched once.
+//
+// Calls; none refuses, and what one requires stands above it
+//   gather          equal pixels that follow one another get one place   runs.rt
+//   join            places with one key become one                       keys.rt
+//   search_places   the nearest shade of the colour at each place        find.rt
+//
+// Read next: specs/Lib.antt (what the words mean), proofs/Lib.antt (what is shown).
+
+mod find;
+mod keys;
+mod runs;
+
+pub use find::search_places;
+pub use keys::join;
+pub use runs::gather;

@@ -1,0 +1,63 @@
+// The pixels of a block, gathered: one that equals the pixel before it shares its place, so that a
+// colour is searched once for each run of it.
+ghost use mathlib.Core.Path.{_≡_};
+ghost use Prim.Native.Nat.{_/_, _≤_};
+ghost use lib.ListN.{length};
+ghost use Rattle.number.specs.{fill};
+ghost use Rattle.search.specs.{RoomFor};
+ghost use Rattle.places.specs.Gathering.{mostPlaces, differ, pixelKey, levelsAt, Gathered};
+
+// 1 where two keys differ, 0 where they are equal.
+fn differs(a: u32, b: u32) -> usize
+    ensures { λ r. ⌜ r ≡ differ a b ⌝ }
+{
+    if a == b { 0 } else { 1 }
+}
+
+// Gathers the pixels of `strip`: `keys` gets the key of each run of equal ones at the run's place,
+// and `which` the place of each pixel. Answers how many places there are. No branch is made on a
+// pixel: the key of one that shares its place is stored there again. Requires at most 1024 pixels,
+// and room for them.
+pub fn gather(strip: &[u8], keys: &mut [u32], which: &mut [u16]) -> usize
+    requires { ⌜ (length (now strip) / 3 ≤ length (now keys))
+        × (length (now strip) / 3 ≤ length (now which)) × (length (now strip) / 3 ≤ mostPlaces) ⌝ }
+    ensures { λ r. ⌜ Gathered (pixelKey (now (strip .entry))) (length (now (strip .entry)) / 3)
+        (now (keys .exit)) (now (which .exit)) r ⌝ }
+{
+    let n = strip.len() / 3;
+    let mut places = 0;
+    let mut last: u32 = 4294967295;
+    let mut i = 0;
+    while i < n {
+        let at = 3 * i;
+        let key = colour::key_of(strip[at], strip[at + 1], strip[at + 2]);
+        places += differs(key, last);
+        let place = places - 1;
+        keys[place] = key;
+        which[i] = place as u16;
+        last = key;
+        i += 1;
+    }
+    places
+}
+
+// Lays out the colours of the first `n` keys: their levels go to the fronts of three lists, the
+// rest of which stays. Requires that many keys, and room for their colours.
+pub fn lay_out(keys: &[u32], n: usize, reds: &mut [u16], greens: &mut [u16], blues: &mut [u16])
+    requires { ⌜ (n ≤ length (now keys)) × RoomFor n (now reds) (now greens) (now blues) ⌝ }
+    ensures reds { λ _. ⌜ now (reds .exit)
+        ≡ fill n (λ q. levelsAt (now (keys .entry)) q .r) (now (reds .entry)) ⌝ }
+    ensures greens { λ _. ⌜ now (greens .exit)
+        ≡ fill n (λ q. levelsAt (now (keys .entry)) q .g) (now (greens .entry)) ⌝ }
+    ensures blues { λ _. ⌜ now (blues .exit)
+        ≡ fill n (λ q. levelsAt (now (keys .entry)) q .b) (now (blues .entry)) ⌝ }
+{
+    let mut i = 0;
+    while i < n {
+        let key = keys[i];
+        reds[i] = colour::short_of(colour::red_of(key));
+        greens[i] = colour::short_of(colour::green_of(key));
+        blues[i] = colour::short_of(colour::blue_of(key));
+        i += 1;
+    }
+}

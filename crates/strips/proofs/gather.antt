@@ -1,2 +1,0 @@
--- Pixel after pixel takes its place.
-pub mod Gathers
