@@ -53,26 +53,34 @@ pub fn rows_of(shades: &Shades) -> [[u32; 64]; 64] {
     rows
 }
 
-/// The shortened round on good input: each colour walks its former shade's row while the shades are near enough.
+/// A colour's walk along its former shade's row while the shades are near enough: distance and number of the nearest in
+/// one, and the distances worked out.
+#[inline(always)]
+pub fn walk(key: u32, former: u32, shades: &Shades, rows: &[[u32; 64]; 64]) -> (u32, u64) {
+    let colour = colour_of(key);
+    let former = (former & 63) as usize;
+    let near = distance(colour, shades.at[former]);
+    let row = &rows[former][..shades.count];
+    let mut best = 64 * near + (row[0] & 63);
+    let mut worked = 1;
+    for packed in &row[1..] {
+        if packed >> 6 > 4 * near {
+            break;
+        }
+        let number = packed & 63;
+        best = best.min(64 * distance(colour, shades.at[number as usize]) + number);
+        worked += 1;
+    }
+    (best, worked)
+}
+
+/// The shortened round on good input: each colour walks, and joins its group's sums.
 pub fn group_short(keys: &[u32], weights: &[u32], shades: &Shades, members: &mut [u32]) -> (Groups, u64) {
     let mut groups = Groups::new();
     let rows = rows_of(shades);
     let mut distances = 0;
     for ((key, weight), member) in keys.iter().zip(weights).zip(members) {
-        let colour = colour_of(*key);
-        let former = (*member & 63) as usize;
-        let near = distance(colour, shades.at[former]);
-        let row = &rows[former][..shades.count];
-        let mut best = 64 * near + (row[0] & 63);
-        let mut worked = 1;
-        for packed in &row[1..] {
-            if packed >> 6 > 4 * near {
-                break;
-            }
-            let number = packed & 63;
-            best = best.min(64 * distance(colour, shades.at[number as usize]) + number);
-            worked += 1;
-        }
+        let (best, worked) = walk(*key, *member, shades, &rows);
         distances += worked;
         *member = groups.join(*key, *weight, best);
     }
