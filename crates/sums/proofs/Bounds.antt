@@ -2,12 +2,11 @@
 use Prim.Native.Nat.{ℕ, _+_, _*_, _≤_, _<_}
 use mathlib.Core.Bool.{Bool, true, false, cond}
 use mathlib.Core.List.{List}
-use mathlib.Core.Path.{_≡_, refl, ap}
+use mathlib.Core.Path.{_≡_, refl}
 use native.Mathlib.Nat.{mul-le-mul-left, mul-le-mul-right, le-refl, le-trans}
 use native.Mathlib.Omega.{arith}
 use lib.Dec.{eqb}
 use lib.ListN.{getD}
-use borrow.Author.Tests.{eq-eqb}
 use Rattle.number.specs.{sum}
 use Rattle.number.proofs.Sums.{sum-more, sum-part, sum-le, sum-mul}
 use Rattle.colour.specs.{mostLevel, mostPixels}
@@ -15,6 +14,7 @@ use Rattle.rounds.specs.{Tabled, coloursOf}
 use Rattle.rounds.proofs.Sizes as sizes
 use Rattle.rounds.proofs.Sizes.{fair-of-table}
 use Rattle.sums.specs.Summing.{twoOf, oneOf, weighed, given}
+use Rattle.sums.proofs.Summing.{given-own}
 
 -- two levels of 255 in one number
 abbrev pub mostPair : ℕ
@@ -85,5 +85,5 @@ module _ (used : ℕ) (ks ws : List ℕ) (t : Tabled used ks ws) where
         omega (
           arith,
           part-fits (given m (weighed f ks ws) (m i)) (given-low m (m i)) i h,
-          ap (λ b. cond b (weighed f ks ws i) 0) (eq-eqb (m i) (m i) refl),
+          given-own m (weighed f ks ws) (m i) i refl,
         )

@@ -1,28 +1,25 @@
 -- The sums of the groups where one entry goes from its group to another: what it gives is taken from the one and added
 -- to the other.
 use Prim.Native.Nat.{ℕ, _+_, _-_, _*_, _≤_, _<_}
-use mathlib.Core.Bool.{cond}
 use mathlib.Core.List.{List}
-use mathlib.Core.Path.{_≡_, refl, sym, ap, _∙_}
+use mathlib.Core.Path.{_≡_, refl, sym, _∙_}
 use native.Mathlib.Decide.{ℕ-discrete}
 use native.Mathlib.Omega.{arith}
 use lib.ListN.{length, getD, length-set}
-use borrow.Author.Tests.{eq-eqb, ne-eqb}
 use Rattle.number.specs.{sum}
 use Rattle.number.proofs.Sums.{sum-eq, sum-change}
 use Rattle.shades.specs.{mostShades}
 use Rattle.rounds.specs.{Tabled}
 use Rattle.sums.specs.Summing.{twoOf, oneOf, weighed, given, raised, lowered, Summed}
 use Rattle.sums.proofs.Bounds.{two-at-most, one-at-most, group-fits}
-use Rattle.sums.proofs.Summing.{placed-two, placed-one, placed-other-two, placed-other-one}
-
--- an entry gives all it has to its own group
-given-own : (m f : ℕ → ℕ) (q i : ℕ) → m i ≡ q → given m f q i ≡ f i
-given-own m f q i e = ap (λ b. cond b (f i) 0) (eq-eqb (m i) q e)
-
--- and nothing to another
-given-other : (m f : ℕ → ℕ) (q i : ℕ) → (m i ≡ q → ⊥) → given m f q i ≡ 0
-given-other m f q i d = ap (λ b. cond b (f i) 0) (ne-eqb (m i) q d)
+use Rattle.sums.proofs.Summing.{
+  placed-two,
+  placed-one,
+  placed-other-two,
+  placed-other-one,
+  given-own,
+  given-other,
+}
 
 -- entry i goes from group m i to another, m′ i, and every other entry stays
 pub record Goes (m m′ : ℕ → ℕ) (i : ℕ) : Type 0 where

@@ -4,7 +4,6 @@ use mathlib.Core.Bool.{cond}
 use mathlib.Core.List.{List}
 use mathlib.Core.Path.{_≡_, refl, sym, ap, _∙_}
 use native.Mathlib.Decide.{ℕ-discrete}
-use native.Mathlib.Nat.{add-zero}
 use native.Mathlib.Omega.{arith}
 use lib.ListN.{length, getD, set, length-set, replicate, getD-replicate}
 use lib.Seq.{getD-set-same, getD-set-other}
@@ -48,6 +47,16 @@ module _ (t : List ℕ) (p x y : ℕ) where
   pub placed-other-one : (q : ℕ) → (q ≡ p → ⊥) → getD (placed t p x y) (2 * q + 1) 0 ≡ getD t (2 * q + 1) 0
   placed-other-one q d = placed-other (2 * q + 1) (λ z. omega arith) (λ z. d (omega arith))
 
+-- ---- what an entry gives
+
+-- an entry gives all it has to its own group
+pub given-own : (m f : ℕ → ℕ) (q i : ℕ) → m i ≡ q → given m f q i ≡ f i
+given-own m f q i e = ap (λ b. cond b (f i) 0) (eq-eqb (m i) q e)
+
+-- and nothing to another
+pub given-other : (m f : ℕ → ℕ) (q i : ℕ) → (m i ≡ q → ⊥) → given m f q i ≡ 0
+given-other m f q i d = ap (λ b. cond b (f i) 0) (ne-eqb (m i) q d)
+
 -- ---- one entry more
 
 -- numbers a that are the groups' sums over i entries become those over one more, where that of the entry's group is
@@ -55,17 +64,11 @@ module _ (t : List ℕ) (p x y : ℕ) where
 given-more : (m f a b : ℕ → ℕ) (i : ℕ) → ((q : ℕ) → q < mostShades → a q ≡ sum i (given m f q))
     → b (m i) ≡ a (m i) + f i → ((q : ℕ) → (q ≡ m i → ⊥) → b q ≡ a q)
     → (q : ℕ) → q < mostShades → b q ≡ sum (i + 1) (given m f q)
-given-more m f a b i sums mine others q h = go (ℕ-discrete q (m i))
-  where
-    go : Dec (q ≡ m i) → b q ≡ sum (i + 1) (given m f q)
-    go (yes e) =
-        ap b e ∙ mine ∙ ap (λ n. a n + f i) (sym e) ∙ ap (λ n. n + f i) (sums q h)
-        ∙ ap (λ g. sum i (given m f q) + cond g (f i) 0) (sym (eq-eqb (m i) q (sym e)))
-        ∙ sym (sum-more i (given m f q))
-    go (no d) =
-        others q d ∙ sums q h ∙ sym (add-zero _)
-        ∙ ap (λ g. sum i (given m f q) + cond g (f i) 0) (sym (ne-eqb (m i) q (λ z. d (sym z))))
-        ∙ sym (sum-more i (given m f q))
+given-more m f a b i sums mine others q h = elim (ℕ-discrete q (m i)) [
+  | yes e ↦
+      rw e (omega (arith, mine, sums (m i) (rw e at h), sum-more i (given m f (m i)), given-own m f (m i) i refl))
+  | no d ↦ omega (arith, others q d, sums q h, sum-more i (given m f q), given-other m f q i (λ z. d (sym z)))
+]
 
 -- entry i raises the sums of its group
 pub summed-more : (m : ℕ → ℕ) (ks ws : List ℕ) (i : ℕ) (t : List ℕ) → Summed m ks ws i t → m i < mostShades
