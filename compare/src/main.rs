@@ -6,7 +6,7 @@
 //! cases than usual are not asked to meet every edge case. `--edges` lists how often each edge case was met.
 use std::process::ExitCode;
 use std::time::Instant;
-use std::{env, fmt::Write};
+use std::{env, fmt::Write, thread};
 
 use compare::bench::Bench;
 use compare::subjects::{Failure, Subject, SUBJECTS};
@@ -52,8 +52,31 @@ fn asked() -> Result<Asked, String> {
     Ok(asked)
 }
 
-/// A subject's line: name, seed, calls compared, refusals met with their numbers, seconds.
-fn line(subject: &Subject, seed: u64, bench: &Bench, seconds: f64) -> String {
+/// A subject compared: what its cases came to, and how long they took.
+struct Compared {
+    subject: &'static Subject,
+    bench: Bench,
+    result: Result<(), Failure>,
+    seconds: f64,
+}
+
+/// Compares these subjects beside each other, each on a thread of its own; they come out in their order.
+fn compared(subjects: impl Iterator<Item = &'static Subject>, seed: u64, asked: &Asked) -> Vec<Compared> {
+    let compare = |subject: &'static Subject| {
+        let begun = Instant::now();
+        let cases = if subject.cases == 1 { 1 } else { asked.cases.unwrap_or(subject.cases) };
+        let (bench, result) = subject.compare(None, seed, asked.from, cases);
+        Compared { subject, bench, result, seconds: begun.elapsed().as_secs_f64() }
+    };
+    thread::scope(|scope| {
+        let begun: Vec<_> = subjects.map(|subject| scope.spawn(move || compare(subject))).collect();
+        begun.into_iter().map(|thread| thread.join().expect("a comparison does not panic")).collect()
+    })
+}
+
+/// A subject's line: name, seed, calls compared, refusals met with their numbers, seconds beside the other subjects.
+fn line(compared: &Compared, seed: u64) -> String {
+    let Compared { subject, bench, seconds, .. } = compared;
     let refused: u64 = bench.refusals.values().sum();
     let mut line = format!("{} seed {seed} calls {} refused {refused} (", subject.name, bench.calls);
     for (place, (number, times)) in bench.refusals.iter().enumerate() {
@@ -79,20 +102,15 @@ fn main() -> ExitCode {
             return ExitCode::from(2);
         }
     };
+    let named = |subject: &&Subject| asked.subjects.is_empty() || asked.subjects.iter().any(|name| name == subject.name);
     let (mut passed, mut failed) = (0, 0);
     for &seed in &asked.seeds {
-        for subject in &SUBJECTS {
-            if !asked.subjects.is_empty() && !asked.subjects.iter().any(|name| name == subject.name) {
-                continue;
-            }
-            let begun = Instant::now();
-            let cases = if subject.cases == 1 { 1 } else { asked.cases.unwrap_or(subject.cases) };
-            let (bench, result) = subject.compare(None, seed, asked.from, cases);
-            println!("{}", line(subject, seed, &bench, begun.elapsed().as_secs_f64()));
+        for compared in compared(SUBJECTS.iter().filter(named), seed, &asked) {
+            println!("{}", line(&compared, seed));
             if asked.edges {
-                bench.model.met.iter().for_each(|(what, times)| println!("  {what}: {times}"));
+                compared.bench.model.met.iter().for_each(|(what, times)| println!("  {what}: {times}"));
             }
-            match result {
+            match compared.result {
                 Ok(()) => passed += 1,
                 Err(failure) => {
                     println!("{}", told(&failure));

@@ -1,1 +1,1 @@
--- The laws stand with the module whose loops they serve: `back`, `pixel`, `merge`, `chunk`.
+-- The laws stand with the module whose loops they serve: `pixel`, `chunk`.

@@ -4,9 +4,9 @@ ghost use Prim.Native.Nat.{_≤_, _<_};
 ghost use lib.ListN.{length};
 ghost use Rattle.runs.specs.{mostRuns};
 ghost use Rattle.adding.specs.Trying.{Ready, Tried};
-use super::merge::count_with;
-use super::merge::merge;
 use super::pixel::add_pixel;
+use merging::merge::count_with;
+use merging::merge::merge;
 
 // Pixels tried, and the number of entries with them.
 pub struct Chunk {

@@ -3,14 +3,11 @@
 //
 // Functions, for the crate above (each says what it requires)
 //   pixel::add_pixel   one pixel, by a search for its place
-//   merge::merge       sorted runs, in one walk from the back
 //   chunk::add_one     one pixel of a strip
 //   chunk::add_some    as many pixels of a strip as one list of runs holds
 // A function that adds answers the number of entries with the pixels. Where that is above the room,
 // the slices are as they were.
 //
 // Read next: specs/Lib.antt (what the words mean), proofs/Lib.antt (which laws stand where).
-mod back;
 pub mod chunk;
-pub mod merge;
 pub mod pixel;

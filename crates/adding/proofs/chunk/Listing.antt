@@ -14,9 +14,9 @@ use Rattle.entries.proofs.Gives.{Keys, keys-take, putAll-pixels}
 use Rattle.entries.proofs.Strips.{byte-keys, keys-drop}
 use Rattle.runs.specs.{runKey, runCount, sorted}
 use Rattle.runs.proofs.sort.Order.{sorted-sum, sorted-length, sorted-rises}
-use Rattle.adding.specs.Walk.{giveBack}
+use Rattle.merging.specs.{giveBack}
 use Rattle.adding.specs.Trying.{piece}
-use Rattle.adding.proofs.merge.Backs.{back-all}
+use Rattle.merging.proofs.merge.Backs.{back-all}
 
 -- a piece of a strip of bytes has keys
 pub piece-keys : (s : List ℕ) (from n : ℕ) → ((i : ℕ) → getD s i 0 < 256) → Keys (piece s from n)

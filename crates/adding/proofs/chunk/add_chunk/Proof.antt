@@ -9,9 +9,9 @@ use denote.Ref.{now}
 use borrow.Author.Needs.{needs}
 use Rattle.entries.specs.{Entry, entries, keysInto, weightsInto, putAll}
 use Rattle.entries.proofs.Slices.{keys-in-order, entries-length}
-use Rattle.adding.specs.Walk.{giveBack, InOrder}
+use Rattle.merging.specs.{giveBack, InOrder}
 use Rattle.adding.specs.Trying.{piece}
-use Rattle.adding.proofs.merge.Backs.{back-length-le}
+use Rattle.merging.proofs.merge.Backs.{back-length-le}
 use Rattle.adding.proofs.chunk.Listing.{Listed, list-rises, list-all, piece-pixels, laid-shut, laid-open}
 use Rattle.adding.proofs.chunk.add_chunk.Statement.{statement}
 use Rattle.adding.proofs.chunk.add_chunk.Tie as tie
