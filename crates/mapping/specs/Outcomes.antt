@@ -10,7 +10,8 @@ use Rattle.refusal.specs.{Row, row, outcomeOf, done, BAD-STRIP, BAD-PALETTE, MA
 use Rattle.colour.specs.{badStrip, mostPixels}
 use Rattle.palette.specs.{badPalette}
 use Rattle.figures.specs.{meanOf, meansOf}
-use Rattle.strips.specs.{Errors, pixelCount, entryFor, errorsOf, errorOf}
+use Rattle.misses.specs.{Errors}
+use Rattle.strips.specs.{pixelCount, entryFor, errorsOf, errorOf}
 use Rattle.mapping.specs.declared.Mapped.{Mapped}
 
 -- MANY PIXELS: mapping over 16,777,216 pixels

@@ -5,7 +5,8 @@ use mathlib.Core.List.{List, [], _∷_, _++_}
 use mathlib.Core.Path.{_≡_}
 use Rattle.refusal.specs.{done}
 use Rattle.colour.specs.{badStrip}
-use Rattle.strips.specs.{Errors, pixelCount, plusErrors}
+use Rattle.misses.specs.{Errors, plusErrors}
+use Rattle.strips.specs.{pixelCount}
 use Rattle.mapping.specs.Outcomes.{MapOutcome, mapStrip}
 
 -- the strips joined, from first to last

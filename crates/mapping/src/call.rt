@@ -9,12 +9,12 @@ ghost use Rattle.mapping.specs.Outcomes.{refusedMap, answerOf, mapStrip,
 use super::Mapped;
 use figures::Mean;
 use figures::Means;
+use misses::Errors;
 use refusal::BAD_PALETTE;
 use refusal::BAD_STRIP;
 use refusal::DONE;
 use refusal::MANY_PIXELS;
 use refusal::SHORT_ROOM;
-use strips::Errors;
 
 // The answer of a refusal: its number, zeros and "no pixels".
 fn refused(number: u8) -> Mapped

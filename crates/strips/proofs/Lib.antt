@@ -1,9 +1,5 @@
 -- What is shown, in full statements.
 pub mod Promises
--- Squared differences added up: when two sums agree, what they are at most, and a sum in two parts.
-pub mod Misses
--- Pixels of a strip: on the grid, those of a part of the strip, and those of two strips joined.
-pub mod Pixels
 -- Shades that agree have the same nearest, so a palette may be searched as coordinates.
 pub mod Widened
 -- The errors of a strip: the channels together, two strips joined, and the most that they are.

@@ -1,14 +1,14 @@
 -- What the strip mapper and its parts ask.
-use Prim.Native.Nat.{ℕ, _+_, _-_, _*_, _%_, _≤_, _<_}
+use Prim.Native.Nat.{ℕ, _-_, _*_, _≤_, _<_}
 use mathlib.Core.List.{List}
 use mathlib.Core.Path.{_≡_}
-use lib.ListN.{getD, length}
+use lib.ListN.{length}
 use Rattle.colour.specs.{Point, mostCoordinate, mostPixels}
-use Rattle.shades.specs.{mostShades, nearestShade, OnGrid}
+use Rattle.shades.specs.{mostShades, nearestShade}
 use Rattle.search.specs.{RoomFor}
 use Rattle.strips.specs.Meaning.{entryCount}
 use Rattle.places.specs.{mostPlaces, fewPlaces, placeOf}
-use Rattle.strips.specs.declared.Errors.{Errors}
+use Rattle.misses.specs.{Errors}
 
 -- the block that begins at pixel i of n ends at e: it has some pixels, and no more than a block may have
 pub record BlockEnd (i n e : ℕ) : Type 0 where
@@ -32,23 +32,6 @@ pub record FewTaken (n : ℕ) (which : List ℕ) (m : ℕ) : Type 0 where
 -- the number of the nearest of k shades to point c i
 abbrev pub nearestAt : List ℕ → ℕ → (ℕ → Point) → ℕ → ℕ
 nearestAt s k c i = nearestShade s k (c i)
-
--- the number in the packed number at place i
-abbrev pub numberIn : List ℕ → ℕ → ℕ
-numberIn best i = getD best i 0 % mostShades
-
--- the number found for pixel i: that at its place
-abbrev pub numberOf : List ℕ → List ℕ → ℕ → ℕ
-numberOf which best i = numberIn best (placeOf which i)
-
--- a strip of n pixels, and for each of them a number is found whose shade is in s
-pub record Found (strip which s best : List ℕ) (n : ℕ) : Type 0 where
-  pub pixels : length strip ≡ 3 * n
-  pub room : n ≤ length which
-  pub placed : (i : ℕ) → i < n → placeOf which i < length best
-  pub inside : (i : ℕ) → i < n → 3 * numberOf which best i + 2 < length s
-  pub shades : OnGrid s
-  pub few : n ≤ mostPixels
 
 -- no error is above that of 16,777,216 pixels
 pub record SmallErrors (a : Errors) : Type 0 where

@@ -4,12 +4,13 @@ ghost use Prim.Native.Nat.{_*_, _<_, _≤_};
 ghost use lib.ListN.{length};
 ghost use Rattle.number.specs.{fill};
 ghost use Rattle.shades.specs.{Shades};
-ghost use Rattle.strips.specs.Meaning.{pixelAt, nearestTo, missesOf};
+ghost use Rattle.misses.specs.{pixelAt, missesOf};
+ghost use Rattle.strips.specs.Meaning.{nearestTo};
 ghost use Rattle.places.specs.{mostPlaces, pixelKey, Gathered};
 ghost use Rattle.strips.specs.Asking.{Room};
-use super::Errors;
 use super::few::map_few;
-use super::settle::settle;
+use misses::Errors;
+use misses::settle::settle;
 use places::gather;
 use places::search_places;
 

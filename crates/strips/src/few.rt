@@ -4,12 +4,12 @@ ghost use Prim.Native.Nat.{_<_, _≤_};
 ghost use lib.ListN.{length};
 ghost use Rattle.number.specs.{fill};
 ghost use Rattle.shades.specs.{Shades};
-ghost use Rattle.strips.specs.Meaning.{missesOf};
+ghost use Rattle.misses.specs.{missesOf};
 ghost use Rattle.places.specs.{mostPlaces, levelsOf};
 ghost use Rattle.strips.specs.Asking.{Room, FewTaken, nearestAt};
-use super::Errors;
-use super::tell::add_told;
-use super::tell::tell;
+use misses::Errors;
+use misses::tell::add_told;
+use misses::tell::tell;
 use places::join;
 use places::search_places;
 

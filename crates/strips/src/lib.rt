@@ -5,22 +5,13 @@
 //   map_pixels   maps a strip against a palette of bytes     whole.rt
 // Crate `places` gathers the pixels of a block in places, and searches these as the plain round does,
 // on levels in place of sixteenths. Where the places are few (few.rt) those with one colour are
-// joined, and numbers and errors are told place by place (tell.rt); where they are many (block.rt)
-// numbers and errors are told pixel by pixel (settle.rt).
+// joined, and crate `misses` tells numbers and errors place by place; where they are many (block.rt)
+// it tells them pixel by pixel.
 //
 // Read next: specs/Lib.antt (what the words mean), proofs/Promises.antt (what is shown).
 
 mod block;
 mod few;
-mod settle;
-mod tell;
 mod whole;
 
 pub use whole::map_pixels;
-
-// The sums of squared level differences, one for each channel.
-pub struct Errors {
-    pub red: u64,
-    pub green: u64,
-    pub blue: u64,
-}

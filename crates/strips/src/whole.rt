@@ -5,17 +5,11 @@ ghost use lib.ListN.{length, getD};
 ghost use Rattle.number.specs.{fill};
 ghost use Rattle.colour.specs.{mostLevel, mostPixels};
 ghost use Rattle.shades.specs.{Shades};
-ghost use Rattle.strips.specs.Meaning.{
-  pixelAt,
-  nearestTo,
-  entryFor,
-  missesOf,
-  errorsOf,
-  plusErrors,
-};
+ghost use Rattle.misses.specs.{pixelAt, missesOf, plusErrors};
+ghost use Rattle.strips.specs.Meaning.{nearestTo, entryFor, errorsOf};
 ghost use Rattle.strips.specs.Asking.{BlockEnd, Mappable, SmallErrors};
-use super::Errors;
 use super::block::map_block;
+use misses::Errors;
 
 // The errors of two blocks together, which are required to be as small as a strip's.
 fn plus(a: Errors, b: Errors) -> Errors

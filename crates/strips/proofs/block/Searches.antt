@@ -11,8 +11,8 @@ use Rattle.colour.proofs.Promises.{levels-of-key}
 use Rattle.shades.specs.{mostShades, shadeAt, nearestShade, packedNearest, Shades}
 use Rattle.shades.proofs.Nearest.{nearest-below, packed-number}
 use Rattle.search.specs.{RoomFor}
-use Rattle.strips.specs.declared.Errors.{Errors}
-use Rattle.strips.specs.Meaning.{pixelAt, nearestTo, missesOf}
+use Rattle.misses.specs.{Errors, pixelAt, missesOf, Found, numberIn, numberOf}
+use Rattle.strips.specs.Meaning.{nearestTo}
 use Rattle.places.specs.{
   fewPlaces,
   pixelKey,
@@ -22,9 +22,9 @@ use Rattle.places.specs.{
   levelsOf,
   Gathered,
 }
-use Rattle.strips.specs.Asking.{Found, FewTaken, nearestAt, numberIn, numberOf}
-use Rattle.strips.proofs.Misses.{misses-same}
-use Rattle.strips.proofs.Pixels.{pixel-within}
+use Rattle.strips.specs.Asking.{FewTaken, nearestAt}
+use Rattle.misses.proofs.Misses.{misses-same}
+use Rattle.misses.proofs.Pixels.{pixel-within}
 
 -- the number of the nearest of k shades is found for each of the points c 0 to c (n - 1), at its place
 pub record Searched (c : ℕ → Point) (s : List ℕ) (k n : ℕ) (which best : List ℕ) : Type 0 where

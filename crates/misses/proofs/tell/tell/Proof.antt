@@ -6,10 +6,10 @@ use lib.ListN.{length, length-set}
 use denote.Ref.{now}
 use borrow.Author.Needs.{needs}
 use Rattle.places.specs.{levelsOf}
-use Rattle.strips.specs.Asking.{numberOf}
-use Rattle.strips.proofs.tell.Tells.{Telling, telling-start, telling-long, telling-step}
-use Rattle.strips.proofs.tell.tell.Statement.{statement}
-use Rattle.strips.proofs.tell.tell.Tie as tie
+use Rattle.misses.specs.Finding.{numberOf}
+use Rattle.misses.proofs.tell.Tells.{Telling, telling-start, telling-long, telling-step}
+use Rattle.misses.proofs.tell.tell.Statement.{statement}
+use Rattle.misses.proofs.tell.tell.Tie as tie
 
 abbrev Inv-loop : tie.InvT-loop
 Inv-loop keys link best n s told₀ i₀ told i = Telling (levelsOf keys link) s (numberOf link best) n told₀ told i

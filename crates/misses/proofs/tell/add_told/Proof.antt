@@ -5,8 +5,8 @@ use native.Mathlib.Omega.{arith}
 use lib.ListN.{length}
 use denote.Ref.{now}
 use Rattle.places.specs.{placeOf}
-use Rattle.strips.specs.Telling.{toldOf}
-use Rattle.strips.proofs.settle.Settling.{
+use Rattle.misses.specs.Telling.{toldOf}
+use Rattle.misses.proofs.settle.Settling.{
   Settled,
   settled-start,
   settled-long,
@@ -14,9 +14,9 @@ use Rattle.strips.proofs.settle.Settling.{
   settled-step,
   settled-done,
 }
-use Rattle.strips.proofs.tell.Tells.{told-first}
-use Rattle.strips.proofs.tell.add_told.Statement.{statement}
-use Rattle.strips.proofs.tell.add_told.Tie as tie
+use Rattle.misses.proofs.tell.Tells.{told-first}
+use Rattle.misses.proofs.tell.add_told.Statement.{statement}
+use Rattle.misses.proofs.tell.add_told.Tie as tie
 
 abbrev Inv-loop : tie.InvT-loop
 Inv-loop which told index₀ n red₀ green₀ blue₀ i₀ index red green blue i =
