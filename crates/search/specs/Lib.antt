@@ -6,15 +6,8 @@
 --   Rows s k g          row p holds the packed distances from shade p to the k shades, rising
 --   Gaps s k g          row p holds the distances from shade p to the k shades, in the order of their numbers
 --   Ready, Close        what the shortened search asks, with rows that rise and with rows of gaps
---   pointAt             a point of those whose coordinates are laid out in three lists
---   RoomFor             three lists have room for the coordinates of so many points
---   PointsOnGrid        so many points are on the grid
---   lookedAt            the least packed number so far, with one shade more looked at
 pub mod Sorting
 pub mod Nearing
-pub mod Asking
 unfoldable pub use Sorting.{upTo, Distinct, rowOf}
-pub use Sorting.{Row, Rows}
+pub use Sorting.{Row, Rows, Ready}
 pub use Nearing.{Gaps, Close}
-pub use Asking.{Ready, RoomFor}
-unfoldable pub use Asking.{pointAt, PointsOnGrid, lookedAt}

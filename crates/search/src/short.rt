@@ -1,7 +1,7 @@
 // The shortened search: the former shade's row is walked until the shades are too far from it.
 ghost use mathlib.Core.Path.{_≡_};
 ghost use Rattle.shades.specs.{toShade, nearestShade, worked};
-ghost use Rattle.search.specs.Asking.{Ready};
+ghost use Rattle.search.specs.Sorting.{Ready};
 use super::Met;
 use colour::Point;
 use shades::lesser;

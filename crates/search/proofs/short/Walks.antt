@@ -18,8 +18,7 @@ use Rattle.colour.specs.{Point, distance}
 use Rattle.colour.proofs.Distances.{distance-self, farther, as-far}
 use Rattle.shades.specs.{mostShades, shadeAt, toShade, nearestShade, worked, pack}
 use Rattle.shades.proofs.Nearest.{packed-only, packed-found}
-use Rattle.search.specs.Asking.{Ready}
-use Rattle.search.specs.Sorting.{Row, rowOf}
+use Rattle.search.specs.Sorting.{Ready, Row, rowOf}
 use Rattle.search.proofs.Contents.{row-all, row-found}
 
 -- j places of the row of p are walked, and best is the least packed number of the shades met

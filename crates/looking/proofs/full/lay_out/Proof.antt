@@ -6,10 +6,10 @@ use lib.ListN.{length}
 use denote.Ref.{now}
 use borrow.Author.Needs.{needs}
 use Rattle.shades.specs.{colourAt}
-use Rattle.search.specs.Asking.{RoomFor}
-use Rattle.search.proofs.Layouts.{Fronts, fronts-start, fronts-room, fronts-step, fronts-long}
-use Rattle.search.proofs.full.lay_out.Statement.{statement}
-use Rattle.search.proofs.full.lay_out.Tie as tie
+use Rattle.looking.specs.Asking.{RoomFor}
+use Rattle.looking.proofs.Layouts.{Fronts, fronts-start, fronts-room, fronts-step, fronts-long}
+use Rattle.looking.proofs.full.lay_out.Statement.{statement}
+use Rattle.looking.proofs.full.lay_out.Tie as tie
 
 abbrev Inv-loop : tie.InvT-loop
 Inv-loop keys reds₀ greens₀ blues₀ n i₀ reds greens blues i =

@@ -1,18 +1,10 @@
--- What the two searches ask, and what one look of the plain one leaves.
+-- What the plain search asks, and what one look of it leaves.
 use Prim.Native.Nat.{ℕ, _+_, _*_, _≤_, _<_}
 use mathlib.Core.List.{List}
 use lib.ListN.{getD, length}
 use Rattle.number.specs.{lesserOf}
 use Rattle.colour.specs.{Point, Within, distance, mostCoordinate}
-use Rattle.shades.specs.{mostShades, Shades}
-use Rattle.search.specs.Sorting.{Rows}
-
--- k shades, their rows, a colour on the grid and its former shade p
-pub record Ready (s g : List ℕ) (k : ℕ) (c : Point) (p : ℕ) : Type 0 where
-  pub former : p < k
-  pub shades : Shades k s
-  pub rows : Rows s k g
-  pub inside : Within mostCoordinate c
+use Rattle.shades.specs.{mostShades}
 
 -- point i of those whose coordinates are laid out in three lists
 abbrev pub pointAt : List ℕ → List ℕ → List ℕ → ℕ → Point

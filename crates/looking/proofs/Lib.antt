@@ -1,0 +1,2 @@
+-- Points laid out in three lists, a coordinate each.
+pub mod Layouts
