@@ -6,7 +6,7 @@ ghost use lib.ListN.{length};
 ghost use Rattle.shades.specs.{mostShades, Shades};
 ghost use Rattle.rounds.specs.{stateOf, coloursOf, shortDistances};
 ghost use Rattle.sums.specs.{Summed, memberAt};
-ghost use Rattle.groups.specs.Grouping.{Groupable, Tracks, Grouped};
+ghost use Rattle.groups.specs.Grouping.{Groupable, Tracks, Grouped, covered};
 use super::Regrouped;
 use super::short::group_short;
 
@@ -24,8 +24,8 @@ fn track(s: &[u32], k: usize, few: bool, g: &mut [u32])
 
 // Groups the table from the former shades and leaves the grouping in the members, which stay past
 // the used entries, and the groups' sums in `t`. What `g` holds afterwards is not said. Requires a
-// table, some shades, a former shade for each entry, the sums of the former groups, and room for the
-// rows in `g`.
+// table, some shades, a former shade for each entry, in `t` the sums of the former groups or zeros
+// where they are taken anew, and room for the rows in `g`.
 pub fn regroup(
     keys: &[u32],
     weights: &[u32],
@@ -34,11 +34,12 @@ pub fn regroup(
     k: usize,
     g: &mut [u32],
     members: &mut [u32],
+    anew: bool,
     t: &mut [u64; 128],
 ) -> Regrouped
     requires { ⌜ Groupable used (now keys) (now weights) (now s) k (now members)
         × (mostShades * k ≤ length (now g))
-        × Summed (memberAt (now members)) (now keys) (now weights) used (now t) ⌝ }
+        × Summed (memberAt (now members)) (now keys) (now weights) (covered anew used 0) (now t) ⌝ }
     ensures grouped { λ r. ⌜ Grouped used (now (keys .entry)) (now (weights .entry))
         (now (s .entry)) k (now (members .entry)) (now (members .exit)) (r .total) (now (t .exit)) ⌝ }
     ensures count { λ r. ⌜ r .count
@@ -47,5 +48,5 @@ pub fn regroup(
 {
     let few = used <= k * k / 8;
     track(s, k, few, g);
-    group_short(keys, weights, used, s, g, k, few, members, t)
+    group_short(keys, weights, used, s, g, k, few, members, anew, t)
 }

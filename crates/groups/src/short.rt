@@ -1,11 +1,11 @@
 // The grouping by the shortened search, from the former shades in the members.
 ghost use mathlib.Core.Path.{_≡_};
-ghost use Prim.Native.Nat.{_<_};
+ghost use Prim.Native.Nat.{_+_, _<_};
 ghost use lib.ListN.{getD, set};
 ghost use Rattle.shades.specs.{mostShades, colourAt, toShade, nearestShade, worked};
 ghost use Rattle.rounds.specs.{Tabled, stateOf, coloursOf, shortDistances};
 ghost use Rattle.sums.specs.{Summed, Assigned, memberAt};
-ghost use Rattle.groups.specs.Grouping.{Groupable, Tracks, Grouped};
+ghost use Rattle.groups.specs.Grouping.{Groupable, Tracks, Grouped, covered};
 use super::Regrouped;
 use search::Met;
 use sums::lower;
@@ -44,10 +44,34 @@ fn rejoin(
     search::walk(s, g, k, c, p)
 }
 
-// Entry `i` joins group `q`. Where that is not its former one, what it gives goes along, from the
+// Entry `i` joins group `q`, and the sums over the entries before it, which are required, are then
+// over it too. Requires a table, a member for each entry, one of the entries and one of 64 groups.
+fn enter(
+    keys: &[u32],
+    weights: &[u32],
+    used: usize,
+    members: &mut [u32],
+    t: &mut [u64; 128],
+    i: usize,
+    q: u32,
+)
+    requires { ⌜ Tabled used (now keys) (now weights) × Assigned used (now members)
+        × Summed (memberAt (now members)) (now keys) (now weights) i (now t) × (i < used)
+        × (q < mostShades) ⌝ }
+    ensures members { λ _. ⌜ now (members .exit) ≡ set (now (members .entry)) i q ⌝ }
+    ensures sums { λ _. ⌜ Summed (memberAt (now (members .exit))) (now (keys .entry))
+        (now (weights .entry)) (i + 1) (now (t .exit)) ⌝ }
+{
+    let two = two_of(weights[i], keys[i]);
+    let one = one_of(weights[i], keys[i]);
+    raise(t, q as usize, two, one);
+    members[i] = q;
+}
+
+// Entry `i` goes to group `q`. Where that is not its former one, what it gives goes along, from the
 // former group's sums to those of q; most entries of a late round stay, and touch no sums. Requires a
 // table, a group for each entry and the groups' sums, one of the entries and one of 64 groups.
-fn join(
+fn go_over(
     keys: &[u32],
     weights: &[u32],
     used: usize,
@@ -76,9 +100,35 @@ fn join(
     members[i] = q;
 }
 
+// Entry `i` joins group `q`, and the sums follow: over one entry more where they are taken anew, else
+// from the former group. Requires what both ways do.
+fn join(
+    keys: &[u32],
+    weights: &[u32],
+    used: usize,
+    members: &mut [u32],
+    anew: bool,
+    t: &mut [u64; 128],
+    i: usize,
+    q: u32,
+)
+    requires { ⌜ Tabled used (now keys) (now weights) × Assigned used (now members)
+        × Summed (memberAt (now members)) (now keys) (now weights) (covered anew used i) (now t)
+        × (i < used) × (q < mostShades) ⌝ }
+    ensures members { λ _. ⌜ now (members .exit) ≡ set (now (members .entry)) i q ⌝ }
+    ensures sums { λ _. ⌜ Summed (memberAt (now (members .exit))) (now (keys .entry))
+        (now (weights .entry)) (covered anew used (i + 1)) (now (t .exit)) ⌝ }
+{
+    if anew {
+        enter(keys, weights, used, members, t, i, q);
+        return;
+    }
+    go_over(keys, weights, used, members, t, i, q);
+}
+
 // Groups the table by the shortened search and leaves the grouping in the members, which stay past
 // the used entries, and the groups' sums in `t`. Requires a table, shades with their rows, a former
-// shade for each entry, and the sums of the former groups.
+// shade for each entry, and in `t` the sums of the former groups, or zeros where they are taken anew.
 pub fn group_short(
     keys: &[u32],
     weights: &[u32],
@@ -88,11 +138,12 @@ pub fn group_short(
     k: usize,
     few: bool,
     members: &mut [u32],
+    anew: bool,
     t: &mut [u64; 128],
 ) -> Regrouped
     requires { ⌜ Groupable used (now keys) (now weights) (now s) k (now members)
         × Tracks few (now s) k (now g)
-        × Summed (memberAt (now members)) (now keys) (now weights) used (now t) ⌝ }
+        × Summed (memberAt (now members)) (now keys) (now weights) (covered anew used 0) (now t) ⌝ }
     ensures grouped { λ r. ⌜ Grouped used (now (keys .entry)) (now (weights .entry))
         (now (s .entry)) k (now (members .entry)) (now (members .exit)) (r .total) (now (t .exit)) ⌝ }
     ensures count { λ r. ⌜ r .count
@@ -106,7 +157,7 @@ pub fn group_short(
         let met = rejoin(keys, weights, used, s, g, k, few, members, i);
         total += shades::cost(weights[i], met.distance);
         count += met.count;
-        join(keys, weights, used, members, t, i, met.number);
+        join(keys, weights, used, members, anew, t, i, met.number);
         i += 1;
     }
     Regrouped { total, count }

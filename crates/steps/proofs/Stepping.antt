@@ -9,7 +9,7 @@ use Rattle.number.specs.{fill, howMany}
 use Rattle.number.proofs.Fills.{fill-at}
 use Rattle.shades.specs.{mostShades}
 use Rattle.rounds.specs.{State, stateOf, coloursOf, joins}
-use Rattle.sums.specs.{Summed, Assigned, memberAt}
+use Rattle.sums.specs.{Summed, memberAt}
 use Rattle.sums.proofs.Moving.{summed-same}
 use Rattle.groups.specs.{Grouped}
 use Rattle.moves.specs.{Measured, goes, stays}
@@ -47,11 +47,3 @@ module _ {used : ℕ} {ks ws s : List ℕ} {k : ℕ} {before after t : List ℕ}
       let m = joins (coloursOf used ks ws) k s in
       summed-same m (memberAt after) ks ws used t
       (λ i l. sym (rw (g .members) (fill-at used i m before l (omega (arith, p .fit .room))))) (g .sums)
-
--- the members that a shortened round reads tell one of 64 groups for each entry
-pub walk-assigned : {used : ℕ} {ks ws : List ℕ} {k : ℕ} {a : State} → Walkable used ks ws k a
-    → Assigned used (a .members)
-walk-assigned p = record {
-  room = p .steppable .fit .room;
-  below = λ i h. omega (arith, p .joined i h, p .steppable .fit .shades .few);
-}

@@ -27,9 +27,9 @@ fn bound(moved: u32, r: usize, limit: usize) -> usize
     limit
 }
 
-// Makes rounds to the first that moves no shade, or to the limit, and stores each total. The groups'
-// sums are taken once, and go on from round to round. Requires what a shortened round does, a limit
-// of 1 to 200, and room for as many totals.
+// Makes rounds to the first that moves no shade, or to the limit, and stores each total. The first
+// takes the groups' sums anew, and they go on from round to round. Requires what a shortened round
+// does, a limit of 1 to 200, and room for as many totals.
 pub fn make_rounds(
     keys: &[u32],
     weights: &[u32],
@@ -47,13 +47,15 @@ pub fn make_rounds(
         (stateOf (now (s .exit)) (now (members .exit)))
         (now (totals .entry)) (now (totals .exit)) (r .rounds) (r .settled) (r .distances) ⌝ }
 {
-    let mut t = sums::sums_of(keys, weights, used, members);
+    let mut t = [0u64; 128];
+    let mut anew = true;
     let mut r = 0;
     let mut go = limit;
     let mut moved: u32 = 1;
     let mut distances: u64 = 0;
     while r < go {
-        let a = next_step(keys, weights, used, k, s, members, &mut t);
+        let a = next_step(keys, weights, used, k, s, members, anew, &mut t);
+        anew = false;
         totals[r] = a.total;
         distances += a.count;
         moved = a.moved;

@@ -1,6 +1,7 @@
 // One round: the grouping, by either search, and then the move.
 ghost use Rattle.rounds.specs.{stateOf, coloursOf, plainDistances, shortDistances};
 ghost use Rattle.sums.specs.{Summed, memberAt};
+ghost use Rattle.groups.specs.{covered};
 ghost use Rattle.steps.specs.Meeting.{Steppable, Walkable, StepMeets};
 use super::Stepped;
 use groups::Regrouped;
@@ -32,8 +33,9 @@ pub fn plain_step(
     }
 }
 
-// One round by the shortened search, with the sums of the former groups in `t`, in which it leaves
-// those of its own. Requires the same, that each member is a shade's number, and the sums.
+// One round by the shortened search, which leaves the sums of its groups in `t`. Requires the same,
+// that each member is a shade's number, and in `t` the sums of the former groups, or zeros where the
+// sums are taken anew.
 pub fn next_step(
     keys: &[u32],
     weights: &[u32],
@@ -41,10 +43,11 @@ pub fn next_step(
     k: usize,
     s: &mut [u32],
     members: &mut [u32],
+    anew: bool,
     t: &mut [u64; 128],
 ) -> Stepped
     requires { ⌜ Walkable used (now keys) (now weights) k (stateOf (now s) (now members))
-        × Summed (memberAt (now members)) (now keys) (now weights) used (now t) ⌝ }
+        × Summed (memberAt (now members)) (now keys) (now weights) (covered anew used 0) (now t) ⌝ }
     ensures step { λ r. ⌜ StepMeets (coloursOf used (now (keys .entry)) (now (weights .entry))) k
         (shortDistances (coloursOf used (now (keys .entry)) (now (weights .entry))) k)
         (stateOf (now (s .entry)) (now (members .entry)))
@@ -54,7 +57,7 @@ pub fn next_step(
         (now (weights .entry)) used (now (t .exit)) ⌝ }
 {
     let mut g = [0u32; 4096];
-    let a = groups::regroup(keys, weights, used, s, k, &mut g, members, t);
+    let a = groups::regroup(keys, weights, used, s, k, &mut g, members, anew, t);
     let moved = moves::count_movers(t, k, s);
     moves::move_shades(t, k, s);
     Stepped {
@@ -80,6 +83,6 @@ pub fn short_step(
         (stateOf (now (s .exit)) (now (members .exit)))
         (r .total) (r .moved) (r .count) ⌝ }
 {
-    let mut t = sums::sums_of(keys, weights, used, members);
-    next_step(keys, weights, used, k, s, members, &mut t)
+    let mut t = [0u64; 128];
+    next_step(keys, weights, used, k, s, members, true, &mut t)
 }

@@ -10,10 +10,11 @@ use lib.ListN.{getD}
 use Rattle.number.specs.{sum}
 use Rattle.number.proofs.Sums.{sum-more, sum-part, sum-le, sum-mul}
 use Rattle.colour.specs.{mostLevel, mostPixels}
+use Rattle.shades.specs.{mostShades}
 use Rattle.rounds.specs.{Tabled, coloursOf}
 use Rattle.rounds.proofs.Sizes as sizes
 use Rattle.rounds.proofs.Sizes.{fair-of-table}
-use Rattle.sums.specs.Summing.{twoOf, oneOf, weighed, given}
+use Rattle.sums.specs.Summing.{twoOf, oneOf, weighed, given, Summed}
 use Rattle.sums.proofs.Summing.{given-own}
 
 -- two levels of 255 in one number
@@ -87,3 +88,12 @@ module _ (used : ℕ) (ks ws : List ℕ) (t : Tabled used ks ws) where
           part-fits (given m (weighed f ks ws) (m i)) (given-low m (m i)) i h,
           given-own m (weighed f ks ws) (m i) i refl,
         )
+
+  -- the sums of a group with what its next entry gives fit
+  pub raises-fit : (m : ℕ → ℕ) (i : ℕ) {a : List ℕ} → i < used → m i < mostShades → Summed m ks ws i a
+      → (getD a (2 * m i) 0 + weighed twoOf ks ws i ≤ 18446744073709551615)
+      × (getD a (2 * m i + 1) 0 + weighed oneOf ks ws i ≤ 18446744073709551615)
+  raises-fit m i h few s = (
+    rw (s .two (m i) few) (adds-fit twoOf two-at-most m i h),
+    rw (s .one (m i) few) (adds-fit oneOf one-at-most m i h),
+  )

@@ -7,19 +7,16 @@
 //   gift_of   what an entry gives to its group
 //   raise     adds to the two sums of a group
 //   lower     takes from them
-//   sums_of   the sums of the groups that members tell      whole.rt
 //
 // Read next: specs/Lib.antt (what the words mean), proofs/Lib.antt (what is shown).
 
 mod give;
-mod whole;
 
 pub use give::gift_of;
 pub use give::lower;
 pub use give::one_of;
 pub use give::raise;
 pub use give::two_of;
-pub use whole::sums_of;
 
 // What an entry joins, what that costs, and what it gives to its group's sums.
 pub struct Gift {

@@ -9,7 +9,7 @@ use Rattle.shades.specs.{mostShades, colourAt, packedNearest}
 use Rattle.shades.proofs.Nearest.{packed-found}
 use Rattle.rounds.specs.{coloursOf, joins}
 use Rattle.sums.specs.{twoOf, oneOf, weighed, raised, Summed}
-use Rattle.sums.proofs.Bounds.{two-at-most, one-at-most, adds-fit}
+use Rattle.sums.proofs.Bounds.{raises-fit}
 use Rattle.sums.proofs.Summing.{summed-more}
 use Rattle.groups.proofs.Turns.{Turned, Finds, turned-some, turned-low, number-below}
 
@@ -34,13 +34,8 @@ module _ {used : ℕ} {ks ws s : List ℕ} {k : ℕ} {works : ℕ → ℕ} {befo
     pub raised-fit : (number < mostShades) × (getD t (2 * number) 0 + two ≤ 18446744073709551615)
         × (getD t (2 * number + 1) 0 + one ≤ 18446744073709551615)
     raised-fit =
-        let m = joins (coloursOf used ks ws) k s in
-        let tab = x .fitted .table in
-        rw (g .number-is, p, q) (
-          number-below x l,
-          rw (sums .two (m i) (number-below x l)) (adds-fit used ks ws tab twoOf two-at-most m i l),
-          rw (sums .one (m i) (number-below x l)) (adds-fit used ks ws tab oneOf one-at-most m i l),
-        )
+        let f = raises-fit used ks ws (x .fitted .table) (joins (coloursOf used ks ws) k s) i l (number-below x l) sums in
+        rw (g .number-is, p, q) (number-below x l, f .0, f .1)
 
     -- and are raised
     pub raised-step : (after : List ℕ) → after ≡ raised t number two one

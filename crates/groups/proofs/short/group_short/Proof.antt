@@ -7,6 +7,7 @@ use lib.ListN.{getD}
 use denote.Ref.{now}
 use borrow.Author.Needs.{needs}
 use Rattle.sums.specs.{Summed, memberAt}
+use Rattle.groups.specs.Grouping.{covered}
 use Rattle.groups.proofs.Turns.{
   Turned,
   Finds,
@@ -26,12 +27,12 @@ use Rattle.groups.proofs.short.group_short.Statement.{statement}
 use Rattle.groups.proofs.short.group_short.Tie as tie
 
 abbrev Inv-loop : tie.InvT-loop
-Inv-loop keys weights used s g k few members₀ t₀ total₀ count₀ i₀ members t total count i =
+Inv-loop keys weights used s g k few members₀ anew t₀ total₀ count₀ i₀ members t total count i =
     Turned used keys weights s k (shortWorks keys s k members₀) members₀ members total count i
-    × Summed (memberAt members) keys weights used t
+    × Summed (memberAt members) keys weights (covered anew used i) t
 
 abbrev μ-loop : tie.MeasureT-loop
-μ-loop keys weights used s g k few members₀ t₀ total₀ count₀ i₀ members t total count i = used - i
+μ-loop keys weights used s g k few members₀ anew t₀ total₀ count₀ i₀ members t total count i = used - i
 
 -- where the grouping begins
 abbrev st : tie.At-loop Inv-loop μ-loop → tie.Start Inv-loop μ-loop
@@ -111,7 +112,7 @@ returns : tie.Need-returns Inv-loop μ-loop
 returns c =
     let x = c .before .loop .inv .0 in
     let h = c .loop-test .left in
-    (turned-done x h (joined-sums x h (c .before .loop .inv .1)), turned-counted x h)
+    (turned-done x h (joined-sums (st (c .before) .args .anew) x h (c .before .loop .inv .1)), turned-counted x h)
 
 pub group-short-spec : {M : Type 1} → statement M
 group-short-spec =

@@ -1,131 +1,31 @@
--- `join` meets its contract: an entry that stays leaves all as it was, and one that goes takes what it gives along.
-use Prim.Native.Nat.{_<_}
-use mathlib.Core.Path.{_≡_, refl}
-use native.Mathlib.Omega.{arith}
-use denote.Ref.{now}
-use lib.ListN.{length, set}
+-- `join` meets its contract: the sums are over the entries before, or over all, and the way for that is taken.
 use borrow.Author.Needs.{needs}
-use Rattle.sums.specs.{memberAt}
-use Rattle.sums.proofs.Bounds.{weight-at-most}
-use Rattle.sums.proofs.Moving.{Goes, leaves-fit, joins-fit, summed-moved}
-use Rattle.groups.proofs.short.Joining.{joined-at, joined-goes, joined-same}
 use Rattle.groups.proofs.short.join.Statement.{statement}
 use Rattle.groups.proofs.short.join.Tie as tie
 
--- the entry's place is one of the members
-inside : (st : tie.Start) → st .args .i < length (now (st .args .members))
-inside st = omega (arith, st .pre .1 .room, st .pre .3)
-
--- the entry is in the group that it joins, once its member is set
-there : (st : tie.Start) → memberAt (set (now (st .args .members)) (st .args .i) (st .args .q)) (st .args .i) ≡ st .args .q
-there st = joined-at (now (st .args .members)) (st .args .i) (st .args .q) (inside st)
-
--- and goes there from another
-goes-there : (st : tie.Start) → (memberAt (now (st .args .members)) (st .args .i) ≡ st .args .q → ⊥)
-    → Goes (memberAt (now (st .args .members)))
-    (memberAt (set (now (st .args .members)) (st .args .i) (st .args .q))) (st .args .i)
-goes-there st d = joined-goes (now (st .args .members)) (st .args .i) (st .args .q) (inside st) d
-
-mul-p : tie.Need-mul-p
-mul-p c = search needs
-
-slice-read-p : tie.Need-slice-read-p
-slice-read-p c = search needs
-
-returns : tie.Need-returns
-returns c =
-    let st = c .before .before .before .before .before in
-    let e = joined-same (now (st .args .members)) (st .args .i) (st .args .q) (c .if1 .taken) in
-    (e, st .pre .2)
-
-cast-from : tie.Need-cast-from
-cast-from c = let p = c .before .before .before .before .before .pre in omega (arith, p .1 .below _ (p .3))
-
-mul-two-of : tie.Need-mul-two-of
-mul-two-of c = search needs
-
-shared-slice-read-two-of : tie.Need-shared-slice-read-two-of
-shared-slice-read-two-of c = search needs
-
-mul-two-of-2 : tie.Need-mul-two-of-2
-mul-two-of-2 c = search needs
-
-shared-slice-read-two-of-2 : tie.Need-shared-slice-read-two-of-2
-shared-slice-read-two-of-2 c = search needs
-
-two-of-requires : tie.Need-two-of-requires
-two-of-requires c κs = let p = c .before .before .before .before .before .before .before .pre in weight-at-most _ _ _ (p .0) _ (p .3)
-
-mul-one-of : tie.Need-mul-one-of
-mul-one-of c = search needs
-
-shared-slice-read-one-of : tie.Need-shared-slice-read-one-of
-shared-slice-read-one-of c = search needs
-
-mul-one-of-2 : tie.Need-mul-one-of-2
-mul-one-of-2 c = search needs
-
-shared-slice-read-one-of-2 : tie.Need-shared-slice-read-one-of-2
-shared-slice-read-one-of-2 c = search needs
-
-one-of-requires : tie.Need-one-of-requires
-one-of-requires c κs = let p = c .before .before .before .before .before .before .before .before .before .before .pre in weight-at-most _ _ _ (p .0) _ (p .3)
-
-lower-requires : tie.Need-lower-requires
-lower-requires c κs =
-    let st = c .before .before .before .before .before .before .before .before .before .before .before .before in
-    let p = st .pre in
-    let few = p .1 .below _ (p .3) in
-    let f = leaves-fit (now (st .args .keys)) (now (st .args .weights)) (p .2) (goes-there st (c .before .before .before .before .before .before .before .if1 .left)) (p .3) few in
-    rw (c .before .before .before .before .two-of .ensures, c .before .one-of .ensures) (few, f .0, f .1)
-
-raise-requires : tie.Need-raise-requires
-raise-requires c κs =
-    let st = c .before .before .before .before .before .before .before .before .before .before .before .before .before .before in
-    let p = st .pre in
-    let e = there st in
-    let f = joins-fit (p .0) (p .2) (goes-there st (c .before .before .before .before .before .before .before .before .before .if1 .left)) (p .3) (rw e (p .4)) in
-    rw (c .before .lower .ensures, c .before .before .before .before .before .before .two-of .ensures, c .before .before .before .one-of .ensures) (p .4, rw e at (f .0), rw e at (f .1))
-
-mul-members : tie.Need-mul-members
-mul-members c = search needs
-
-slice-write-members : tie.Need-slice-write-members
-slice-write-members c = search needs
+enter-requires : tie.Need-enter-requires
+enter-requires c κs =
+    let p = c .before .before .before .before .before .before .pre in
+    (p .0, p .1, rw (c .before .before .if1 .taken) at (p .2), p .3, p .4)
 
 same-length : tie.Need-same-length
 same-length c = search needs
 
+returns : tie.Need-returns
+returns c = let f = c .before .before .enter .ensures in (f .0, rw (c .before .before .before .before .before .if1 .taken) (f .1))
+
+go-over-requires : tie.Need-go-over-requires
+go-over-requires c κs =
+    let p = c .before .before .before .before .before .before .pre in
+    (p .0, p .1, rw (c .before .before .if1 .left) at (p .2), p .3, p .4)
+
+same-length-2 : tie.Need-same-length-2
+same-length-2 c = search needs
+
 returns-2 : tie.Need-returns-2
-returns-2 c =
-    let st = c .before .before .before .before .before .before .before .before .before .before .before .before .before .before .before in
-    let p = st .pre in
-    let e = there st in
-    let f = summed-moved (now (st .args .keys)) (now (st .args .weights)) (p .2) (goes-there st (c .before .before .before .before .before .before .before .before .before .before .if1 .left)) (p .3)
-    (p .1 .below _ (p .3)) (rw e (p .4)) in
-    (refl, rw (c .raise .ensures, c .before .before .lower .ensures, c .before .before .before .before .before .before .before .two-of .ensures, c .before .before .before .before .one-of .ensures) (rw e at f))
+returns-2 c = let f = c .before .before .go-over .ensures in (f .0, rw (c .before .before .before .before .before .if1 .left) (f .1))
 
 pub join-spec : {M : Type 1} → statement M
 join-spec =
     tie.close
-    (tie.spec
-    mul-p
-    slice-read-p
-    returns
-    cast-from
-    mul-two-of
-    shared-slice-read-two-of
-    mul-two-of-2
-    shared-slice-read-two-of-2
-    two-of-requires
-    mul-one-of
-    shared-slice-read-one-of
-    mul-one-of-2
-    shared-slice-read-one-of-2
-    one-of-requires
-    lower-requires
-    raise-requires
-    mul-members
-    slice-write-members
-    same-length
-    returns-2)
+    (tie.spec enter-requires same-length returns go-over-requires same-length-2 returns-2)

@@ -1,4 +1,5 @@
--- `make_rounds` meets its contract: the loop's invariant is `Going`, with the sums of the groups that the members tell.
+-- `make_rounds` meets its contract: the loop's invariant is `Going`, with the sums of the groups that the members tell,
+-- or none yet.
 use Prim.Native.Nat.{_-_}
 use mathlib.Core.Path.{_≡_, refl}
 use native.Mathlib.Omega.{arith}
@@ -7,7 +8,8 @@ use borrow.Author.Needs.{needs}
 use Rattle.rounds.specs.{stateOf, coloursOf}
 use Rattle.rounds.proofs.Sizes.{fair-of-table}
 use Rattle.sums.specs.{Summed, memberAt}
-use Rattle.steps.proofs.Stepping.{walk-assigned}
+use Rattle.sums.proofs.Summing.{summed-none}
+use Rattle.groups.specs.{covered}
 use Rattle.steps.proofs.Turns.{
   Going,
   after-walkable,
@@ -22,25 +24,23 @@ use Rattle.steps.proofs.many.make_rounds.Statement.{statement}
 use Rattle.steps.proofs.many.make_rounds.Tie as tie
 
 abbrev Inv-loop : tie.InvT-loop
-Inv-loop keys weights used k limit s₀ members₀ totals₀ t₀ r₀ go₀ moved₀ distances₀ s members totals t r go moved
+Inv-loop keys weights used k limit s₀ members₀ totals₀ t₀ anew₀ r₀ go₀ moved₀ distances₀ s members totals t anew r go moved
     distances =
     Going (coloursOf used keys weights) k limit (stateOf s₀ members₀) totals₀ (stateOf s members) totals r go moved
     distances
-    × (length s ≡ length s₀) × (length members ≡ length members₀) × Summed (memberAt members) keys weights used t
+    × (length s ≡ length s₀) × (length members ≡ length members₀) × Summed (memberAt members) keys weights (covered anew used 0) t
 
 abbrev μ-loop : tie.MeasureT-loop
-μ-loop keys weights used k limit s₀ members₀ totals₀ t₀ r₀ go₀ moved₀ distances₀ s members totals t r go moved distances =
+μ-loop keys weights used k limit s₀ members₀ totals₀ t₀ anew₀ r₀ go₀ moved₀ distances₀ s members totals t anew r go moved
+    distances =
     limit - r
 
 -- where the rounds begin
 abbrev st : tie.At-loop Inv-loop μ-loop → tie.Start Inv-loop μ-loop
-st c = c .before .before .before .before .before .before .before .before
-
-sums-of-requires : tie.Need-sums-of-requires Inv-loop μ-loop
-sums-of-requires c κs = let p = c .before .before .before .before .before .before .pre .0 in (p .steppable .table, walk-assigned p)
+st c = c .before .before .before .before .before .before
 
 loop-holds : tie.Need-loop-holds Inv-loop μ-loop
-loop-holds c = (going-start _ _ _ _ _ (c .before .before .before .before .before .before .before .pre .1), refl, refl, c .sums-of .ensures)
+loop-holds c = (going-start _ _ _ _ _ (c .before .before .before .before .before .pre .1), refl, refl, summed-none _ _ _)
 
 next-step-requires : tie.Need-next-step-requires Inv-loop μ-loop
 next-step-requires c κs =
@@ -112,7 +112,6 @@ make-rounds-spec =
     (tie.spec
     Inv-loop
     μ-loop
-    sums-of-requires
     loop-holds
     next-step-requires
     mul-totals

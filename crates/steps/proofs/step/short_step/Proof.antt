@@ -1,14 +1,11 @@
--- `short_step` meets its contract: the sums of the former groups are taken from the members.
+-- `short_step` meets its contract: zeros are the sums over no entry.
 use borrow.Author.Needs.{needs}
-use Rattle.steps.proofs.Stepping.{walk-assigned}
+use Rattle.sums.proofs.Summing.{summed-none}
 use Rattle.steps.proofs.step.short_step.Statement.{statement}
 use Rattle.steps.proofs.step.short_step.Tie as tie
 
-sums-of-requires : tie.Need-sums-of-requires
-sums-of-requires c κs = let p = c .before .before .before .before .before .pre in (p .steppable .table, walk-assigned p)
-
 next-step-requires : tie.Need-next-step-requires
-next-step-requires c κs = (c .before .before .before .before .before .before .before .before .before .pre, c .before .before .before .sums-of .ensures)
+next-step-requires c κs = (c .before .before .before .before .before .before .before .pre, summed-none _ _ _)
 
 same-length : tie.Need-same-length
 same-length c = search needs
@@ -23,7 +20,6 @@ pub short-step-spec : {M : Type 1} → statement M
 short-step-spec =
     tie.close
     (tie.spec
-    sums-of-requires
     next-step-requires
     same-length
     same-length-2
