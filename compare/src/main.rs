@@ -61,7 +61,7 @@ struct Compared {
 }
 
 /// Compares these subjects beside each other, each on a thread of its own; they come out in their order.
-fn compared(subjects: impl Iterator<Item = &'static Subject>, seed: u64, asked: &Asked) -> Vec<Compared> {
+fn compare_all(subjects: impl Iterator<Item = &'static Subject>, seed: u64, asked: &Asked) -> Vec<Compared> {
     let compare = |subject: &'static Subject| {
         let begun = Instant::now();
         let cases = if subject.cases == 1 { 1 } else { asked.cases.unwrap_or(subject.cases) };
@@ -102,10 +102,11 @@ fn main() -> ExitCode {
             return ExitCode::from(2);
         }
     };
-    let named = |subject: &&Subject| asked.subjects.is_empty() || asked.subjects.iter().any(|name| name == subject.name);
+    let named =
+        |subject: &&Subject| asked.subjects.is_empty() || asked.subjects.iter().any(|name| name == subject.name);
     let (mut passed, mut failed) = (0, 0);
     for &seed in &asked.seeds {
-        for compared in compared(SUBJECTS.iter().filter(named), seed, &asked) {
+        for compared in compare_all(SUBJECTS.iter().filter(named), seed, &asked) {
             println!("{}", line(&compared, seed));
             if asked.edges {
                 compared.bench.model.met.iter().for_each(|(what, times)| println!("  {what}: {times}"));

@@ -45,7 +45,7 @@ fn rejoin(
 }
 
 // Entry `i` joins group `q`, and the sums over the entries before it, which are required, are then
-// over it too. Requires a table, a member for each entry, one of the entries and one of 64 groups.
+// over it too. Requires a table, a group for each entry, one of the entries and one of 64 groups.
 fn enter(
     keys: &[u32],
     weights: &[u32],
