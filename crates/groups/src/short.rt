@@ -1,7 +1,7 @@
 // The grouping by the shortened search, from the former shades in the members.
 ghost use mathlib.Core.Path.{_≡_};
-ghost use Prim.Native.Nat.{_+_, _<_};
-ghost use lib.ListN.{getD, set};
+ghost use Prim.Native.Nat.{_+_, _≤_, _<_};
+ghost use lib.ListN.{length, getD, set};
 ghost use Rattle.shades.specs.{mostShades, colourAt, toShade, nearestShade, worked};
 ghost use Rattle.rounds.specs.{Tabled, stateOf, coloursOf, shortDistances};
 ghost use Rattle.sums.specs.{Summed, Assigned, memberAt};
@@ -45,7 +45,7 @@ fn rejoin(
 }
 
 // Entry `i` joins group `q`, and the sums over the entries before it, which are required, are then
-// over it too. Requires a table, a group for each entry, one of the entries and one of 64 groups.
+// over it too. Requires a table, a member for each entry, one of the entries and one of 64 groups.
 fn enter(
     keys: &[u32],
     weights: &[u32],
@@ -55,7 +55,7 @@ fn enter(
     i: usize,
     q: u32,
 )
-    requires { ⌜ Tabled used (now keys) (now weights) × Assigned used (now members)
+    requires { ⌜ Tabled used (now keys) (now weights) × (used ≤ length (now members))
         × Summed (memberAt (now members)) (now keys) (now weights) i (now t) × (i < used)
         × (q < mostShades) ⌝ }
     ensures members { λ _. ⌜ now (members .exit) ≡ set (now (members .entry)) i q ⌝ }

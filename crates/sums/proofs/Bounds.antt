@@ -80,7 +80,7 @@ module _ (used : ℕ) (ks ws : List ℕ) (t : Tabled used ks ws) where
     group-fits m q = sum-fits (given m (weighed f ks ws) q) (given-low m q)
 
     -- what entry i adds to the sum of its group fits
-    pub adds-fit : (m : ℕ → ℕ) (i : ℕ) → i < used
+    adds-fit : (m : ℕ → ℕ) (i : ℕ) → i < used
         → sum i (given m (weighed f ks ws) (m i)) + weighed f ks ws i ≤ 18446744073709551615
     adds-fit m i h =
         omega (

@@ -19,7 +19,7 @@ groups st = memberAt (set (now (st .args .members)) (st .args .i) (st .args .q))
 -- that of the entry is the one that it joins
 there : (st : tie.Start) → groups st (st .args .i) ≡ st .args .q
 there st =
-    joined-at (now (st .args .members)) (st .args .i) (st .args .q) (omega (arith, st .pre .1 .room, st .pre .3))
+    joined-at (now (st .args .members)) (st .args .i) (st .args .q) (omega (arith, st .pre .1, st .pre .3))
 
 -- the sums before are those of these groups
 before : (st : tie.Start)

@@ -6,7 +6,7 @@ use Rattle.groups.proofs.short.join.Tie as tie
 enter-requires : tie.Need-enter-requires
 enter-requires c κs =
     let p = c .before .before .before .before .before .before .pre in
-    (p .0, p .1, rw (c .before .before .if1 .taken) at (p .2), p .3, p .4)
+    (p .0, p .1 .room, rw (c .before .before .if1 .taken) at (p .2), p .3, p .4)
 
 same-length : tie.Need-same-length
 same-length c = search needs
