@@ -2,7 +2,7 @@
 use Prim.Native.Nat.{ℕ}
 use mathlib.Core.List.{List, [], _∷_}
 use mathlib.Core.Logic.{_↔_}
-use mathlib.Core.Path.{_≡_, refl, ap, subst}
+use mathlib.Core.Path.{_≡_, ap, subst}
 use native.Mathlib.Omega.{arith}
 use lib.ListN.{getD}
 use Rattle.refusal.specs.{numberOf, done, BAD-HEADER}
@@ -13,7 +13,7 @@ use Rattle.headers.specs.declared.Reading.the-variants.{Number, Failed}
 use Rattle.headers.specs.declared.Header.{Header}
 use Rattle.headers.specs.declared.Header.the-variants.{Read, Bad}
 use Rattle.headers.specs.Standing.{FieldFailed, FieldRead, HeaderIn, FirstWrong}
-use Rattle.headers.proofs.Fields.{Told, read, failed, field-told, read-agree, failed-agree}
+use Rattle.headers.proofs.Fields.{Told, read, failed, field-told, field-is-read, field-is-failed}
 use Rattle.headers.proofs.Wholes.{header-reads-exactly}
 use Rattle.headers.proofs.Wrongs.{header-fails-exactly}
 
@@ -33,14 +33,14 @@ meant (failed at f) = f
 pub field-reads-exactly : (s : List ℕ) (a b value : ℕ) → (fieldAt s a ≡ Number value b) ↔ FieldRead s a b value
 field-reads-exactly s a b value = (
   λ e. subst (Means s a) e (meant (field-told s a)),
-  λ f. read-agree s s a b value f (λ i h. refl),
+  λ f. field-is-read s a b value (f .field) (f .ended),
 )
 
 -- and fails exactly where it cannot be read
 pub field-fails-exactly : (s : List ℕ) (a at : ℕ) → (fieldAt s a ≡ Failed at) ↔ FieldFailed s a at
 field-fails-exactly s a at = (
   λ e. subst (Means s a) e (meant (field-told s a)),
-  λ f. failed-agree s s a at f (λ i h. refl),
+  λ f. field-is-failed s a at f,
 )
 
 -- ---- number and values tell the case

@@ -1,6 +1,6 @@
 -- A field, as it is read and as it stands: white bytes and a number after them, from one place to another.
-use Prim.Native.Nat.{ℕ, _+_, _-_, _≤_, _<_}
-use mathlib.Core.Bool.{Bool, true, false}
+use Prim.Native.Nat.{ℕ, _+_}
+use mathlib.Core.Bool.{true, false}
 use mathlib.Core.List.{List}
 use mathlib.Core.Logic.{inl, inr}
 use mathlib.Core.Path.{_≡_, refl, sym, ap, _∙_, subst}
@@ -10,31 +10,15 @@ use lib.ListN.{length}
 use borrow.Author.Tests.{ne-eqb}
 use Rattle.number.proofs.Cases.{bool, never}
 use Rattle.headers.specs.Bytes.{byteAt, isWhite, isDigit}
-use Rattle.headers.specs.Numbers.{mostDigits, whitesAt, digitsAt, AllOf, decimal, numberAt, fieldAt}
+use Rattle.headers.specs.Numbers.{mostDigits, whitesAt, digitsAt, decimal, numberAt, fieldAt}
 use Rattle.headers.specs.declared.Reading.{Reading}
 use Rattle.headers.specs.declared.Reading.the-variants.{Number, Failed}
 use Rattle.headers.specs.Standing.{DigitsEnd, Field, FieldFailed, FieldRead}
-use Rattle.headers.proofs.Spans.{
-  span-at-most,
-  span-all,
-  span-ends,
-  span-only,
-  whites-end,
-  whites-only,
-  white-inside,
-}
-use Rattle.headers.proofs.Decimals.{decimal-same, digit-range}
-use Rattle.headers.proofs.field.Readings.{digits-inside, number-reads, field-reads, number-fails, field-fails}
+use Rattle.headers.proofs.Spans.{span-at-most, span-all, span-ends, span-only, whites-end, whites-only}
+use Rattle.headers.proofs.Decimals.{digit-range}
+use Rattle.headers.proofs.field.Readings.{number-reads, field-reads, number-fails, field-fails}
 
--- ---- bytes of two inputs that agree
-
--- the first n bytes agree
-abbrev pub Agree : ℕ → List ℕ → List ℕ → Type 0
-Agree n s t = (i : ℕ) → i < n → byteAt t i ≡ byteAt s i
-
--- bytes of one kind stay so where they agree
-pub all-agree : (kind : ℕ → Bool) (s t : List ℕ) (at n : ℕ) → Agree (at + n) s t → AllOf kind s at n → AllOf kind t at n
-all-agree kind s t at n same all i h = ap kind (same (at + i) (omega arith)) ∙ all i h
+-- ---- white bytes and digits
 
 -- a digit is not white
 pub digit-not-white : (b : ℕ) → isDigit b ≡ true → isWhite b ≡ false
@@ -57,52 +41,11 @@ white-not-digit b h = elim (bool (isDigit b)) [
 
 -- ---- a field that is read
 
--- a field stands where it stood in an input that agrees up to its end
-pub field-agree : (s t : List ℕ) (a b value : ℕ) → Agree b s t → Field s a b value → Field t a b value
-field-agree s t a b value same f = record {
-  whites = f .whites;
-  digits = f .digits;
-  some-white = f .some-white;
-  some-digit = f .some-digit;
-  few-digits = f .few-digits;
-  white = all-agree isWhite s t a (f .whites) (λ i h. same i (omega (arith, f .ends))) (f .white);
-  digit = all-agree isDigit s t (a + f .whites) (f .digits) (λ i h. same i (omega (arith, f .ends))) (f .digit);
-  is = f .is ∙ decimal-same (f .digits) _ _ (λ i h. sym (same (a + f .whites + i) (omega (arith, f .ends))));
-  ends = f .ends;
-}
-
--- it begins with a white byte
+-- a field begins with a white byte
 pub field-white : (s : List ℕ) (a b value : ℕ) → Field s a b value → isWhite (byteAt s a) ≡ true
 field-white s a b value f =
     let z : a + 0 ≡ a = omega arith in
     ap (λ i. isWhite (byteAt s i)) (sym z) ∙ f .white 0 (f .some-white)
-
--- it ends after it begins
-pub field-after : (s : List ℕ) (a b value : ℕ) → Field s a b value → a + 2 ≤ b
-field-after s a b value f = omega (arith, f .ends, f .some-white, f .some-digit)
-
--- and inside the input
-pub field-inside : (s : List ℕ) (a b value : ℕ) → Field s a b value → b ≤ length s
-field-inside s a b value f =
-    omega (arith, f .ends, digits-inside s (a + f .whites) (f .digits) (f .digit) (f .some-digit))
-
--- white bytes and the digit 1 are a field
-pub one-field : (s : List ℕ) (a n : ℕ) → 0 < n → AllOf isWhite s a n → byteAt s (a + n) ≡ 49 → Field s a (a + n + 1) 1
-unfolding isDigit decimal
-one-field s a n some white one =
-    let here : (i : ℕ) → i < 1 → byteAt s (a + n + i) ≡ 49 =
-    λ i h. let z : a + n + i ≡ a + n = omega arith in rw z one in
-    record {
-      whites = n;
-      digits = 1;
-      some-white = some;
-      some-digit = omega arith;
-      few-digits = omega arith;
-      white = white;
-      digit = λ i h. rw (here i h);
-      is = rw (here 0 (omega arith));
-      ends = refl;
-    }
 
 -- a field that stands, with its digits ended, is read
 pub field-is-read : (s : List ℕ) (a b value : ℕ) (f : Field s a b value) → DigitsEnd s a b value f
@@ -185,49 +128,25 @@ field-told s a = go (ℕ-discrete (whitesAt s a) 0) (ℕ-discrete (digitsAt s (a
     go (no z) (yes n) = told-no-digit s a z n
     go (no z) (no n) = told-read s a z n
 
--- ---- a reading looks no further than the place where it ended or failed
+-- ---- a field that fails
 
--- what failed fails alike in an input that agrees up to that place and there
-pub failed-agree : (s t : List ℕ) (a at : ℕ) → FieldFailed s a at → Agree (at + 1) s t → fieldAt t a ≡ Failed at
-failed-agree s t a at f same = go (ℕ-discrete (f .whites) 0)
+-- a field that fails is not read
+pub field-is-failed : (s : List ℕ) (a at : ℕ) → FieldFailed s a at → fieldAt s a ≡ Failed at
+field-is-failed s a at f = go (ℕ-discrete (f .whites) 0)
   where
-    here : byteAt t (a + f .whites) ≡ byteAt s at
-    here = rw (← f .ends) (same at (omega arith))
+    here : byteAt s (a + f .whites) ≡ byteAt s at
+    here = rw (← f .ends) refl
 
-    whites : a + f .whites ≡ a + whitesAt t a
-    whites =
-        ap (λ n. a + n) (whites-only t a (f .whites)
-        (all-agree isWhite s t a (f .whites) (λ i h. same i (omega (arith, f .ends))) (f .white))
-        (ap isWhite here ∙ f .not-white))
+    whites : a + f .whites ≡ a + whitesAt s a
+    whites = ap (λ n. a + n) (whites-only s a (f .whites) (f .white) (ap isWhite here ∙ f .not-white))
 
-    go : Dec (f .whites ≡ 0) → fieldAt t a ≡ Failed at
-    go (yes z) = sym (field-fails t a (a + f .whites) whites (omega arith)) ∙ ap Failed (omega (arith, f .ends))
+    go : Dec (f .whites ≡ 0) → fieldAt s a ≡ Failed at
+    go (yes z) = sym (field-fails s a (a + f .whites) whites (omega arith)) ∙ ap Failed (omega (arith, f .ends))
     go (no z) =
-        let none : 0 ≡ digitsAt t (a + f .whites) =
-        span-only isDigit mostDigits t (a + f .whites) 0 (omega arith) (λ i h. absurd (omega arith))
+        let none : 0 ≡ digitsAt s (a + f .whites) =
+        span-only isDigit mostDigits s (a + f .whites) 0 (omega arith) (λ i h. absurd (omega arith))
         (λ l.
         let y : a + f .whites + 0 ≡ a + f .whites = omega arith in
         rw y (ap isDigit here ∙ f .not-digit (omega arith))) in
-        sym (field-reads t a (a + f .whites) whites (λ e. z (omega arith)))
-        ∙ sym (number-fails t (a + f .whites) 0 none refl) ∙ ap Failed (sym (f .ends))
-
--- what was read is read alike in an input that agrees up to its end, if no digit follows where none did
-pub read-on : (s t : List ℕ) (a b value : ℕ) → FieldRead s a b value → Agree b s t
-    → (isDigit (byteAt s b) ≡ false → isDigit (byteAt t b) ≡ false) → fieldAt t a ≡ Number value b
-unfolding field-agree
-read-on s t a b value f same ended =
-    field-is-read t a b value (field-agree s t a b value same (f .field)) (λ l. ended (f .ended l))
-
--- so in one that agrees there too
-pub read-agree : (s t : List ℕ) (a b value : ℕ) → FieldRead s a b value → Agree (b + 1) s t
-    → fieldAt t a ≡ Number value b
-read-agree s t a b value f same =
-    read-on s t a b value f (λ i h. same i (omega arith)) (λ none. ap isDigit (same b (omega arith)) ∙ none)
-
--- a field that begins inside the input fails inside it, or at its end
-pub failed-inside : (s : List ℕ) (a at : ℕ) → a ≤ length s → FieldFailed s a at → at ≤ length s
-failed-inside s a at h f = go (ℕ-discrete (f .whites) 0)
-  where
-    go : Dec (f .whites ≡ 0) → at ≤ length s
-    go (yes z) = omega (arith, f .ends)
-    go (no z) = omega (arith, f .ends, white-inside s (a + (f .whites - 1)) (f .white (f .whites - 1) (omega arith)))
+        sym (field-reads s a (a + f .whites) whites (λ e. z (omega arith)))
+        ∙ sym (number-fails s (a + f .whites) 0 none refl) ∙ ap Failed (sym (f .ends))

@@ -6,8 +6,10 @@ pub mod Spans
 pub mod Decimals
 -- A field, as it is read and as it stands.
 pub mod Fields
--- The rest of a header, from a place on: what it looked at, and how it can be gone on with.
-pub mod Rests
+-- A header as a machine that reads byte by byte.
+pub mod Items
+-- What is read is what the machine says.
+pub mod Walks
 -- A header is read exactly where one stands.
 pub mod Wholes
 -- A header fails exactly at the first byte that cannot stand there, or at the end of an input that ends early.

@@ -9,26 +9,26 @@ use lib.ListN.{length}
 use Rattle.number.proofs.Cases.{bool}
 use Rattle.headers.specs.Bytes.{byteAt, isWhite, letterP, figureSix}
 use Rattle.headers.specs.Numbers.{fieldAt}
-use Rattle.headers.specs.Headers.{andThen, lastWhite, fieldsOf, headerOf}
+use Rattle.headers.specs.Headers.{andThen, lastWhite, fieldsOf, headerOf, headerNumber}
 use Rattle.headers.specs.declared.Reading.{Reading}
 use Rattle.headers.specs.declared.Header.{Header}
 use Rattle.headers.specs.declared.Header.the-variants.{Read, Bad}
 use Rattle.headers.specs.Standing.{Field, HeaderIn}
 use Rattle.headers.proofs.Spans.{white-inside}
 use Rattle.headers.proofs.Fields.{
-  Agree,
   white-not-digit,
-  field-agree,
   field-white,
-  field-after,
   field-is-read,
   Told,
   read,
   failed,
   field-told,
 }
-use Rattle.headers.proofs.Rests.{Rest, bad-not-read, last-rest, then-rest}
 use Rattle.headers.proofs.whole.Ways.{letter-fails, figure-fails, letters-pass}
+
+-- a header that failed was not read
+pub bad-not-read : {X : Type 0} (at w h d n : ℕ) → Bad at ≡ Read w h d n → X
+bad-not-read at w h d n e = absurd (let z = ap headerNumber e in omega arith)
 
 -- ---- how an input begins
 
@@ -50,10 +50,6 @@ begins s = go (ℕ-discrete (byteAt s 0) letterP) (ℕ-discrete (byteAt s 1) fig
     go (no l) f = no-letter l (sym (letter-fails s _ refl l))
     go (yes l) (no f) = no-figure l f (sym (figure-fails s _ _ refl l refl f))
     go (yes l) (yes f) = fields l f (header-fields s l f)
-
--- the three fields and the white byte after them are the rest of a header from place 2 on
-pub fields-rest : Rest fieldsOf 2
-fields-rest = then-rest 2 _ (λ w a. then-rest a _ (λ h b. then-rest b _ (λ d e. last-rest w h d e)))
 
 -- ---- what is read stands
 
@@ -132,23 +128,3 @@ header-inside s w h d n H = omega (arith, H .ends, white-inside s (H .after-dept
 -- so the place after one that is read is inside it, or its end
 pub start-inside : (s : List ℕ) (w h d n : ℕ) → headerOf s ≡ Read w h d n → n ≤ length s
 start-inside s w h d n e = header-inside s w h d n (header-stands s w h d n e)
-
--- a header stands in every input that agrees up to its end
-pub header-agree : (s t : List ℕ) (w h d n : ℕ) → Agree n s t → HeaderIn s w h d n → HeaderIn t w h d n
-header-agree s t w h d n same H =
-    let end = H .ends in
-    let one = field-after s _ _ w (H .width-is) in
-    let two = field-after s _ _ h (H .height-is) in
-    let three = field-after s _ _ d (H .depth-is) in
-    record {
-      after-width = H .after-width;
-      after-height = H .after-height;
-      after-depth = H .after-depth;
-      letter = same 0 (omega arith) ∙ H .letter;
-      figure = same 1 (omega arith) ∙ H .figure;
-      width-is = field-agree s t _ _ w (λ i l. same i (omega arith)) (H .width-is);
-      height-is = field-agree s t _ _ h (λ i l. same i (omega arith)) (H .height-is);
-      depth-is = field-agree s t _ _ d (λ i l. same i (omega arith)) (H .depth-is);
-      last = ap isWhite (same (H .after-depth) (omega arith)) ∙ H .last;
-      ends = H .ends;
-    }

@@ -23,8 +23,7 @@
 --   FieldRead            a field stands, and its digits end
 --   FieldFailed          a field fails, with no white byte or no digit where one must stand
 --   HeaderIn             so many first bytes are a header with these numbers
---   IsHeader             a list of bytes is a header
---   HasFirst             a list has the first n bytes of another
+--   AtFront              a header stands at the front of an input
 --   FirstWrong s at      the first byte that cannot stand there, or the end of an input that ends early
 pub mod Bytes
 pub mod Numbers
@@ -70,5 +69,5 @@ unfoldable pub use Headers.{
   HeaderSays,
   offsetIn,
 }
-unfoldable pub use Standing.{DigitsEnd}
-pub use Standing.{Field, FieldRead, FieldFailed, HeaderIn, IsHeader, HasFirst, FirstWrong}
+unfoldable pub use Standing.{DigitsEnd, FirstWrong}
+pub use Standing.{Field, FieldRead, FieldFailed, HeaderIn, AtFront}

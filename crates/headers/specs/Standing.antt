@@ -3,7 +3,7 @@ use Prim.Native.Nat.{ℕ, _+_, _≤_, _<_}
 use mathlib.Core.Bool.{true, false}
 use mathlib.Core.List.{List}
 use mathlib.Core.Path.{_≡_}
-use lib.ListN.{length}
+use Rattle.grammar.specs as grammar
 use Rattle.headers.specs.Bytes.{byteAt, isWhite, isDigit, letterP, figureSix}
 use Rattle.headers.specs.Numbers.{AllOf, Digits, mostDigits, decimal}
 
@@ -54,24 +54,15 @@ pub record HeaderIn (s : List ℕ) (width height depth n : ℕ) : Type 0 where
   pub last : isWhite (byteAt s after-depth) ≡ true
   pub ends : n ≡ after-depth + 1
 
--- a list of bytes is a header, whatever its numbers are
-pub record IsHeader (h : List ℕ) : Type 0 where
+-- a header stands at the front of s, whatever its numbers are and whatever follows it
+pub record AtFront (s : List ℕ) : Type 0 where
   pub width : ℕ
   pub height : ℕ
   pub depth : ℕ
-  pub is : HeaderIn h width height depth (length h)
+  pub size : ℕ
+  pub is : HeaderIn s width height depth size
 
--- h has the first n bytes of s
-pub record HasFirst (n : ℕ) (s h : List ℕ) : Type 0 where
-  pub long : n ≤ length h
-  pub same : (i : ℕ) → i < n → byteAt h i ≡ byteAt s i
-
--- place `at` of s is that of the first byte that cannot stand there, or the end of an input that ends early: the bytes
--- before it begin a header that goes on, and no header has these and the byte at that place too
-pub record FirstWrong (s : List ℕ) (at : ℕ) : Type 0 where
-  pub inside : at ≤ length s
-  pub header : List ℕ
-  pub is-header : IsHeader header
-  pub begins : HasFirst at s header
-  pub goes-on : at < length header
-  pub stops : at < length s → (h : List ℕ) → IsHeader h → ¬ HasFirst (at + 1) s h
+-- place `at` of s is that of the first byte that cannot stand there, or the end of an input that ends early: some input
+-- with a header at its front begins with the bytes before it, and none with these and the byte at that place too
+abbrev pub FirstWrong : List ℕ → ℕ → Type 0
+FirstWrong s at = grammar.FirstWrong AtFront s at

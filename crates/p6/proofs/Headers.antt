@@ -22,7 +22,7 @@ use Rattle.headers.proofs.Wholes.{header-reads-exactly}
 use Rattle.headers.proofs.Wrongs.{header-fails-exactly}
 use Rattle.p6.specs.Refusals.{theDepth, isBad, pictureRows}
 use Rattle.p6.specs.Outcomes.{readPicture}
-use Rattle.p6.proofs.Meaning.{picture-refused-exactly, picture-refused-answers, accepted-header}
+use Rattle.p6.proofs.Meaning.{picture-refuses, accepted-header}
 use Rattle.p6.proofs.Ways.{picture-bad-header}
 use Rattle.p6.specs.declared.Picture.{Picture}
 
@@ -43,9 +43,9 @@ bad-header-first s (inr (f, inr (g, inr (h, inr (i, none))))) = absurd none
 pub bad-header-offset : (s : List ℕ) → readPicture s .refusal ≡ numberOf BAD-HEADER
     → FirstWrong s (readPicture s .offset)
 bad-header-offset s e =
-    let bad : isBad (headerOf s) ≡ true = bad-header-first s (picture-refused-exactly s BAD-HEADER .0 e) in
+    let bad : isBad (headerOf s) ≡ true = bad-header-first s (picture-refuses s .refused-exactly BAD-HEADER .0 e) in
     let at : headerOf s ≡ Bad (offsetIn (headerOf s)) = failed-at (headerOf s) bad in
-    rw (picture-refused-answers s BAD-HEADER e) (header-fails-exactly s _ .0 at)
+    rw (picture-refuses s .refused-is BAD-HEADER e) (header-fails-exactly s _ .0 at)
 
 -- and is given wherever there is one
 pub bad-header-given : (s : List ℕ) (at : ℕ) → FirstWrong s at
