@@ -2,40 +2,28 @@
 use Prim.Native.Nat.{ℕ, _*_, _/_, _%_, _≤_, _<_}
 use mathlib.Core.Bool.{true, false}
 use mathlib.Core.List.{List}
-use mathlib.Core.Path.{_≡_, refl, _∙_}
+use mathlib.Core.Path.{_≡_, _∙_}
 use native.Mathlib.Omega.{arith}
 use lib.ListN.{length}
 use borrow.Author.Tests.{lt-ltb, le-ltb, ltb-false}
 use Rattle.number.proofs.Cases.{neither}
 use Rattle.refusal.specs.{numberOf, done, firstOf, BAD-HEADER, BAD-SIZE}
 use Rattle.refusal.proofs.Order.{none-of-first}
-use Rattle.refusal.proofs.Outcomes.{outcome-number}
-use Rattle.headers.specs.{headerOf, offsetIn}
+use Rattle.headers.specs.{headerOf}
 use Rattle.headers.specs.declared.Header.the-variants.{Read, Bad}
 use Rattle.p6.specs.{
-  Picture,
   widthIn,
   heightIn,
   badSize,
-  pictureRows,
-  refusedPicture,
-  madePicture,
   readPicture,
   rasterOf,
 }
-use Rattle.p6.proofs.Meaning.{picture-accepted-exactly, picture-accepted-answers, raster-length}
+use Rattle.p6.proofs.Meaning.{picture-refuses, raster-length}
 use Rattle.listing.specs.Refusals.{mostListed, smallRows}
 
 -- a header that fails is BAD HEADER
 pub small-bad-header : (p : List ℕ) (at : ℕ) → headerOf p ≡ Bad at → firstOf (smallRows p) ≡ numberOf BAD-HEADER
 small-bad-header p at e = rw e
-
--- the number that p6 answers is that of its rows
-picture-number : (p : List ℕ) → readPicture p .refusal ≡ firstOf (pictureRows p)
-unfolding readPicture
-picture-number p =
-    outcome-number {A = Picture} (pictureRows p) (madePicture p) (λ n. refusedPicture n (offsetIn (headerOf p)))
-    (λ (r : Picture). r .refusal) refl (λ n. refl)
 
 module _ (p : List ℕ) (w h d n : ℕ) (e : headerOf p ≡ Read w h d n) where
   -- a size out of range is BAD SIZE
@@ -48,7 +36,7 @@ module _ (p : List ℕ) (w h d n : ℕ) (e : headerOf p ≡ Read w h d n) where
 
   -- else it is as p6 answers
   pub small-rest : badSize w h ≡ false → w * h ≤ mostListed → readPicture p .refusal ≡ firstOf (smallRows p)
-  small-rest t few = picture-number p ∙ rw (e, t, le-ltb mostListed (w * h) few)
+  small-rest t few = picture-refuses p .number-is ∙ rw (e, t, le-ltb mostListed (w * h) few)
 
 module _ (p : List ℕ) (e : firstOf (smallRows p) ≡ done) where
   -- a picture that passes is accepted, and its raster has three bytes for each pixel, which are at most 8,192
@@ -59,8 +47,8 @@ module _ (p : List ℕ) (e : firstOf (smallRows p) ≡ done) where
       let h = headerOf p in
       let size = neither (badSize (widthIn h) (heightIn h)) _ (none .1 .0) in
       let ok : readPicture p .refusal ≡ done =
-      picture-accepted-exactly p .1 (none .0, (size .0, (none .1 .1 .0, (none .1 .1 .1 .0, tt)))) in (
-        rw (picture-accepted-answers p ok) at (raster-length p ok),
+      picture-refuses p .accepted-exactly .1 (none .0, (size .0, (none .1 .1 .0, (none .1 .1 .1 .0, tt)))) in (
+        rw (picture-refuses p .accepted-is ok) at (raster-length p ok),
         ltb-false mostListed (widthIn h * heightIn h) (size .1),
       )
 

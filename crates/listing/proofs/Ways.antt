@@ -21,17 +21,15 @@ use Rattle.refusal.specs.{
   BAD-COUNT,
   BAD-SIZE,
 }
-use Rattle.refusal.proofs.Outcomes.{outcome-number, outcome-made, outcome-refused}
+use Rattle.refusal.proofs.Outcomes.{outcome-made, outcome-refused}
 use Rattle.refusal.proofs.Promises.{first-exactly, done-exactly}
 use Rattle.refusal.proofs.Numbers.{number-not-done}
 use Rattle.refusal.proofs.Order.{none-of-first}
 use Rattle.headers.specs.{byteAt, lineFeed, digitsAt, numberAt, readingNumber, readingValues, placeIn}
 use Rattle.headers.specs.declared.Reading.the-variants.{Number, Failed}
-use Rattle.table.specs.{Record}
-use Rattle.rounds.specs.{coloursOf, begin}
 use Rattle.shades.specs.{mostShades}
 use Rattle.lloyd.proofs.Promises.{bad-count-exactly}
-use Rattle.lloyd.specs.{RunOutcome, limitOf, keptRun, madeRun, runOf, runRows}
+use Rattle.lloyd.proofs.Wholes.{run-refuses}
 use Rattle.texts.specs.{linesOf}
 use Rattle.listing.specs.Refusals.{mostInput, listedZeros, badLine, countIn, pictureIn, smallRows, inputRows}
 use Rattle.listing.specs.Texts.{refusedText}
@@ -49,23 +47,14 @@ outcome-of-none : (rows : List Row) (made : List ℕ) (refused : ℕ → List �
     → outcomeOf rows made refused ≡ made
 outcome-of-none rows made refused e = rw e
 
--- a run's number is that of its rows
-run-number : (rec : Record) (ks ws : List ℕ) (k limit : ℕ) (ms ts : List ℕ)
-    → runOf rec ks ws k limit ms ts .answer .refusal ≡ firstOf (runRows rec ks ws k limit ms ts)
-unfolding runOf
-run-number rec ks ws k limit ms ts =
-    outcome-number (runRows rec ks ws k limit ms ts)
-    (madeRun (coloursOf (rec .used) ks ws) k (limitOf limit) (begin (coloursOf (rec .used) ks ws) k ms) ts)
-    (keptRun ms ts)
-    (λ (o : RunOutcome). o .answer .refusal) refl (λ n. refl)
-
 -- ---- the picture's text
 
 module _ (p : List ℕ) (count : ℕ) where
   -- the run's number is that of its tests
   number-is : runOn p count .answer .refusal ≡ firstOf (runTests p count)
   number-is =
-      run-number (tableOf p .answer .rec) (tableOf p .keys) (tableOf p .weights) count 0 listedZeros (replicate 20 0)
+      run-refuses (tableOf p .answer .rec) (tableOf p .keys) (tableOf p .weights) count 0 listedZeros (replicate 20 0)
+      .number-is
 
   -- a run that is refused
   pub picture-refused : (n : ℕ) → runOn p count .answer .refusal ≡ n → ¬ (n ≡ done)

@@ -8,6 +8,8 @@ pub mod Tables
 pub mod Rounds
 -- The ways out of a single round.
 pub mod Ways
+-- A run by any rule from any given shades: refused or made.
+pub mod By
 -- The outcome of a run, and what the tests give.
 pub mod Wholes
 -- Where a run begins.

@@ -1,27 +1,33 @@
--- What a run that is made leaves and answers, from any state that is fit for a round.
+-- What a run that is made leaves and answers: from any state that is fit for a round, by any good rule. What
+-- more a law asks of the rule stands in front of it.
 use Prim.Native.Nat.{ℕ, _+_, _-_, _*_, _≤_, _<_}
-use mathlib.Core.Bool.{true}
+use mathlib.Core.Bool.{true, false}
 use mathlib.Core.List.{List}
 use mathlib.Core.Path.{_≡_, refl, sym, ap, _∙_}
 use native.Mathlib.Omega.{arith}
 use lib.ListN.{getD, length}
 use lib.Dec.{eqb}
 use borrow.Author.Tests.{eqb-true}
-use Rattle.number.specs.{sum}
-use Rattle.number.proofs.Fills.{fill-at}
+use Rattle.number.specs.{sum, sumOf}
+use Rattle.number.proofs.Fills.{fill-at, fill-kept}
 use Rattle.colour.specs.{Point, distance}
 use Rattle.shades.specs.{shadeAt, OnGrid}
 use Rattle.rounds.specs.{
+  Rule,
+  GoodRule,
+  Means,
   Colours,
   Fair,
   State,
   Fit,
   Bounded,
+  SumBounded,
+  leastSum,
+  From,
   groupAt,
   groupCost,
   pixelsIn,
   meanOf,
-  toMean,
   step,
   after,
   quiet,
@@ -31,7 +37,7 @@ use Rattle.rounds.specs.{
   joins,
   roundsMade,
 }
-use Rattle.rounds.proofs.Costs.{to-mean-keeps-grid, to-mean-no-dearer}
+use Rattle.rounds.proofs.Bounds.{sum-bounded}
 use Rattle.rounds.proofs.Ends.{
   shade-on-mean,
   shade-bounded,
@@ -40,125 +46,191 @@ use Rattle.rounds.proofs.Ends.{
   still-final,
   still-joined,
 }
-use Rattle.rounds.proofs.Falls.{after-more, after-fit, rounds-fall, rounds-end, grouped-below}
-use Rattle.rounds.proofs.Runs.{made-at-most, made-some, made-last}
-use Rattle.lloyd.specs.Outcomes.{madeRun, left}
+use Rattle.rounds.proofs.Falls.{
+  after-more,
+  after-fit,
+  after-past,
+  after-kept,
+  rounds-fall,
+  rounds-end,
+  grouped-below,
+}
+use Rattle.rounds.proofs.Runs.{made-at-most, made-some, made-last, made-before}
+use Rattle.lloyd.specs.Outcomes.{madeRun, left, RunMeets}
+use Rattle.lloyd.specs.declared.Ran.{Ran}
 
-module _ (C : Colours) (k limit : ℕ) (a : State) (ts : List ℕ) (fair : Fair C) (fit : Fit C k a) (some : 0 < limit)
-    (room : limit ≤ length ts) where
-  -- the rounds made
-  abbrev rounds : ℕ
-  rounds = roundsMade limit (quiet toMean C k a)
+-- answer and slices are those of a run that is made, and it can be made: from state a by the rule, to the limit
+pub record Making (rule : Rule) (C : Colours) (k limit : ℕ) (a : State) (ts : List ℕ) (r : Ran)
+    (members totals : List ℕ) : Type 0 where
+  pub meets : RunMeets (madeRun rule C k limit a ts) r members totals
+  pub good : GoodRule rule
+  pub fair : Fair C
+  pub fit : Fit C k a
+  pub some : 0 < limit
+  pub room : limit ≤ length ts
 
-  -- the state after some rounds
-  abbrev at : ℕ → State
-  at r = after toMean C k a r
+module _ {rule : Rule} {C : Colours} {k limit : ℕ} {a : State} {ts : List ℕ} {r : Ran} {members totals : List ℕ}
+    (m : Making rule C k limit a ts r members totals) where
+  -- ---- the rounds
 
-  -- the shades and the members that are left
-  abbrev ended : State
-  ended = left (madeRun C k limit a ts .answer) (madeRun C k limit a ts .members)
+  -- the rounds are those of the run
+  rounds-made : r .rounds ≡ roundsMade limit (quiet rule C k a)
+  rounds-made = ap (λ (x : Ran). x .rounds) (m .meets .answer)
 
-  -- at least one round is made
-  pub rounds-some : 0 < roundsMade limit (quiet toMean C k a)
-  rounds-some = made-some limit (quiet toMean C k a) some
+  -- they are 1 at least and the limit at most
+  pub rounds-within : (0 < r .rounds) × (r .rounds ≤ limit)
+  rounds-within =
+      rw rounds-made (made-some limit (quiet rule C k a) (m .some), made-at-most limit (quiet rule C k a))
 
-  -- what is left is what the last round makes of what the others left
-  pub left-by-last : ended
-      ≡ step toMean C k (after toMean C k a (roundsMade limit (quiet toMean C k a) - 1))
-  left-by-last =
-      let e : rounds - 1 + 1 ≡ rounds = omega (arith, rounds-some) in
-      ap at (sym e) ∙ after-more toMean C k a (rounds - 1)
+  -- no round before the last moves no shade
+  pub moved-before : (n : ℕ) → n + 1 < r .rounds → eqb (movedOf rule C k (after rule C k a n)) 0 ≡ false
+  moved-before n l = made-before limit (quiet rule C k a) n (rw rounds-made at l)
+
+  -- settled is said exactly when the last round moves no shade
+  pub settled-is : r .settled ≡ eqb (movedOf rule C k (after rule C k a (r .rounds - 1))) 0
+  settled-is =
+      ap (λ (x : Ran). x .settled) (m .meets .answer)
+      ∙ sym (made-last limit (quiet rule C k a) (r .rounds) (rounds-within .0) rounds-made)
 
   -- each state on the way is fit
-  fit-at : (r : ℕ) → Fit C k (after toMean C k a r)
-  fit-at = after-fit toMean C k a to-mean-keeps-grid fair fit
+  fit-at : (n : ℕ) → Fit C k (after rule C k a n)
+  fit-at = after-fit rule C k a (m .good) (m .fair) (m .fit)
 
-  -- each round's total is recorded
-  pub total-recorded : (r : ℕ) → r < roundsMade limit (quiet toMean C k a)
-      → getD (madeRun C k limit a ts .totals) r 0 ≡ totalOf C k (after toMean C k a r)
-  total-recorded r h =
-      fill-at rounds r (λ n. totalOf C k (at n)) ts h (omega (arith, made-at-most limit (quiet toMean C k a)))
+  -- ---- what the last round leaves
 
-  -- the recorded totals never rise
-  pub totals-never-rise : (r : ℕ) → r + 1 < roundsMade limit (quiet toMean C k a)
-      → getD (madeRun C k limit a ts .totals) (r + 1) 0 ≤ getD (madeRun C k limit a ts .totals) r 0
-  totals-never-rise r h =
-      omega (
-        arith,
-        total-recorded r (omega arith),
-        total-recorded (r + 1) h,
-        rounds-fall toMean C k a to-mean-keeps-grid fair fit to-mean-no-dearer r,
-      )
+  -- all rounds are the last one, of what the others leave
+  by-last : after rule C k a (roundsMade limit (quiet rule C k a)) ≡ step rule C k (after rule C k a (r .rounds - 1))
+  by-last =
+      let e : roundsMade limit (quiet rule C k a) ≡ r .rounds - 1 + 1 = omega (arith, rounds-made, rounds-within) in
+      ap (after rule C k a) e ∙ after-more rule C k a (r .rounds - 1)
 
-  -- the final total is not above the last
-  pub final-at-most-last : madeRun C k limit a ts .answer .total
-      ≤ getD (madeRun C k limit a ts .totals) (roundsMade limit (quiet toMean C k a) - 1) 0
-  final-at-most-last =
-      let e : rounds - 1 + 1 ≡ rounds = omega (arith, rounds-some) in
-      omega (
-        arith,
-        ap (λ n. finalOf C (at n)) e,
-        total-recorded (rounds - 1) (omega (arith, rounds-some)),
-        rounds-end toMean C k a to-mean-keeps-grid fair fit to-mean-no-dearer (rounds - 1),
-      )
+  -- the shades are its shades
+  shades-last : r .shades ≡ step rule C k (after rule C k a (r .rounds - 1)) .coordinates
+  shades-last = ap (λ (x : Ran). x .shades) (m .meets .answer) ∙ ap (λ (z : State). z .coordinates) by-last
 
-  -- no other shades give the last grouping a smaller total
-  pub final-is-least : (s : ℕ → Point)
-      → madeRun C k limit a ts .answer .total
-      ≤ sum (C .n) (λ i. C .w i * distance (C .c i) (s (getD (madeRun C k limit a ts .members) i 0)))
-  final-is-least s = rw left (final-least C k (at (rounds - 1)) (fit-at (rounds - 1)) s)
-    where
-      left : after toMean C k a (roundsMade limit (quiet toMean C k a))
-          ≡ step toMean C k (after toMean C k a (roundsMade limit (quiet toMean C k a) - 1))
-      left = left-by-last
+  -- the members are its members
+  members-last : members ≡ step rule C k (after rule C k a (r .rounds - 1)) .members
+  members-last = m .meets .members-are ∙ ap (λ (z : State). z .members) by-last
 
-  -- each group's cost is bounded by its least
-  pub group-bounded : (q : ℕ)
-      → Bounded (groupAt C ended q) (groupCost C ended q)
-  group-bounded q = rw left-by-last (shade-bounded C k (at (rounds - 1)) (fit-at (rounds - 1)) q)
+  -- and the final total is that of both
+  total-last : r .total ≡ finalOf C (step rule C k (after rule C k a (r .rounds - 1)))
+  total-last = ap (λ (x : Ran). x .total) (m .meets .answer) ∙ ap (finalOf C) by-last
 
   -- the final total is the sum of what the groups cost
-  pub total-is-groups :
-      madeRun C k limit a ts .answer .total ≡ sum k (groupCost C ended)
-  total-is-groups = rw left-by-last (final-by-groups C k (at (rounds - 1)) (fit-at (rounds - 1)))
-
-  -- a shade with a group stands on its rounded mean
-  pub stands-on-mean : (q : ℕ) → q < k → 0 < pixelsIn (groupAt C ended q)
-      → shadeAt (madeRun C k limit a ts .answer .shades) q
-      ≡ meanOf (groupAt C ended q)
-  stands-on-mean q h = rw left-by-last (shade-on-mean C k (at (rounds - 1)) (fit-at (rounds - 1)) q h)
+  pub total-is-groups : r .total ≡ sum k (groupCost C (left r members))
+  total-is-groups =
+      rw (total-last, shades-last, members-last)
+      (final-by-groups rule C k (after rule C k a (r .rounds - 1)) (fit-at (r .rounds - 1)))
 
   -- each used member is a shade's number
-  pub member-below : (i : ℕ) → i < C .n → getD (madeRun C k limit a ts .members) i 0 < k
-  member-below i h = rw left-by-last (grouped-below C k (at (rounds - 1)) (fit-at (rounds - 1)) i h)
+  pub member-below : (i : ℕ) → i < C .n → getD members i 0 < k
+  member-below i l =
+      rw members-last (grouped-below C k (after rule C k a (r .rounds - 1)) (fit-at (r .rounds - 1)) i l)
 
-  -- the shades are on the grid
-  pub shades-low : OnGrid (madeRun C k limit a ts .answer .shades)
-  shades-low = fit-at rounds .shades .low
+  -- the shades are on the grid, and there are so many of them
+  pub shades-fit : OnGrid (r .shades) × (3 * k ≤ length (r .shades))
+  shades-fit =
+      let f = fit-at (roundsMade limit (quiet rule C k a)) .shades in
+      rw (ap (λ (x : Ran). x .shades) (m .meets .answer)) (f .low, f .room)
 
-  -- and there are so many of them
-  pub shades-room : 3 * k ≤ length (madeRun C k limit a ts .answer .shades)
-  shades-room = fit-at rounds .shades .room
+  -- ---- what stays
 
-  -- settled is said exactly when the last round moved no shade
-  pub settled-is : madeRun C k limit a ts .answer .settled
-      ≡ eqb (movedOf toMean C k (after toMean C k a (roundsMade limit (quiet toMean C k a) - 1))) 0
-  settled-is = sym (made-last limit (quiet toMean C k a) rounds rounds-some refl)
+  -- coordinates past the shades
+  pub shades-past : (i : ℕ) → 3 * k ≤ i → getD (r .shades) i 0 ≡ getD (a .coordinates) i 0
+  shades-past i l =
+      rw (ap (λ (x : Ran). x .shades) (m .meets .answer))
+      (after-past rule C k a (roundsMade limit (quiet rule C k a)) i l)
 
-  module _ (settled : madeRun C k limit a ts .answer .settled ≡ true) where
+  -- members past the used entries
+  pub members-kept : (i : ℕ) → C .n ≤ i → getD members i 0 ≡ getD (a .members) i 0
+  members-kept i l = rw (m .meets .members-are) (after-kept rule C k a (roundsMade limit (quiet rule C k a)) i l)
+
+  -- totals past the rounds made
+  pub totals-kept : (i : ℕ) → r .rounds ≤ i → getD totals i 0 ≡ getD ts i 0
+  totals-kept i l =
+      rw (m .meets .totals-are)
+      (fill-kept (roundsMade limit (quiet rule C k a)) i (λ n. totalOf C k (after rule C k a n)) ts
+      (rw rounds-made at l))
+
+  -- ---- the totals
+
+  -- each round's total is recorded
+  pub total-recorded : (n : ℕ) → n < r .rounds → getD totals n 0 ≡ totalOf C k (after rule C k a n)
+  total-recorded n l =
+      rw (m .meets .totals-are)
+      (fill-at (roundsMade limit (quiet rule C k a)) n (λ n. totalOf C k (after rule C k a n)) ts
+      (rw rounds-made at l)
+      (omega (arith, rounds-within, m .room)))
+
+  -- the recorded totals never rise
+  pub totals-never-rise : (n : ℕ) → n + 1 < r .rounds → getD totals (n + 1) 0 ≤ getD totals n 0
+  totals-never-rise n l =
+      omega (
+        arith,
+        total-recorded n (omega arith),
+        total-recorded (n + 1) l,
+        rounds-fall rule C k a (m .good) (m .fair) (m .fit) n,
+      )
+
+  -- and the final total is not above the last
+  pub final-at-most-last : r .total ≤ getD totals (r .rounds - 1) 0
+  final-at-most-last =
+      omega (
+        arith,
+        total-last,
+        ap (finalOf C) (after-more rule C k a (r .rounds - 1)),
+        rounds-within,
+        total-recorded (r .rounds - 1) (omega (arith, rounds-within)),
+        rounds-end rule C k a (m .good) (m .fair) (m .fit) (r .rounds - 1),
+      )
+
+  -- ---- the shades from f on, of a rule that goes to the mean there
+
+  module _ (f : ℕ) (mean : Means f rule) where
+    -- with the others where they are, no other shades give the last grouping a smaller total
+    pub final-is-least : (s : ℕ → Point) → ((q : ℕ) → q < f → s q ≡ shadeAt (r .shades) q)
+        → r .total ≤ sum (C .n) (λ i. C .w i * distance (C .c i) (s (getD members i 0)))
+    final-is-least s fixed =
+        rw (total-last, members-last)
+        (final-least rule C k (after rule C k a (r .rounds - 1)) (fit-at (r .rounds - 1)) f mean s
+        (λ q l. fixed q l ∙ ap (λ c. shadeAt c q) shades-last))
+
+    -- the cost of each group from f on is bounded by its least
+    pub group-bounded : (q : ℕ) → f ≤ q → Bounded (groupAt C (left r members) q) (groupCost C (left r members) q)
+    group-bounded q free =
+        rw (shades-last, members-last)
+        (shade-bounded rule C k (after rule C k a (r .rounds - 1)) (fit-at (r .rounds - 1)) f mean q free)
+
+    -- and so is the sum over any of them
+    pub groups-bounded : (qs : List ℕ) → From f qs
+        → SumBounded (leastSum (groupAt C (left r members)) qs)
+        (sumOf (λ q. pixelsIn (groupAt C (left r members) q)) qs) (sumOf (groupCost C (left r members)) qs)
+    groups-bounded qs free =
+        sum-bounded f (groupAt C (left r members)) (groupCost C (left r members)) qs free group-bounded
+
+    -- a shade with a group stands on its rounded mean
+    pub stands-on-mean : (q : ℕ) → f ≤ q → q < k → 0 < pixelsIn (groupAt C (left r members) q)
+        → shadeAt (r .shades) q ≡ meanOf (groupAt C (left r members) q)
+    stands-on-mean q free l =
+        rw (shades-last, members-last)
+        (shade-on-mean rule C k (after rule C k a (r .rounds - 1)) (fit-at (r .rounds - 1)) f mean q free l)
+
+  -- ---- a settled run
+
+  module _ (settled : r .settled ≡ true) where
     -- the last round moves no shade
-    still : movedOf toMean C k (after toMean C k a (roundsMade limit (quiet toMean C k a) - 1)) ≡ 0
+    still : movedOf rule C k (after rule C k a (r .rounds - 1)) ≡ 0
     still = eqb-true _ 0 (sym settled-is ∙ settled)
 
     -- then the final total is the last recorded one
-    pub settled-final : madeRun C k limit a ts .answer .total
-        ≡ getD (madeRun C k limit a ts .totals) (roundsMade limit (quiet toMean C k a) - 1) 0
+    pub settled-final : r .total ≡ getD totals (r .rounds - 1) 0
     settled-final =
-        ap (finalOf C) left-by-last
-        ∙ still-final toMean C k (at (rounds - 1)) (fit-at (rounds - 1)) still
-        ∙ sym (total-recorded (rounds - 1) (omega (arith, rounds-some)))
+        total-last
+        ∙ still-final rule C k (after rule C k a (r .rounds - 1)) (fit-at (r .rounds - 1)) still
+        ∙ sym (total-recorded (r .rounds - 1) (omega (arith, rounds-within)))
 
-    -- and each member is the nearest of the final shades
-    pub settled-joined : (i : ℕ) → i < C .n
-        → getD (madeRun C k limit a ts .members) i 0 ≡ joins C k (madeRun C k limit a ts .answer .shades) i
-    settled-joined i h = rw left-by-last (still-joined toMean C k (at (rounds - 1)) (fit-at (rounds - 1)) still i h)
+    -- each member is the nearest of the final shades
+    pub settled-joined : (i : ℕ) → i < C .n → getD members i 0 ≡ joins C k (r .shades) i
+    settled-joined i l =
+        rw (members-last, shades-last)
+        (still-joined rule C k (after rule C k a (r .rounds - 1)) (fit-at (r .rounds - 1)) still i l)

@@ -1,72 +1,35 @@
 -- The outcomes of single rounds: refused or made, and what is left either way.
 use Prim.Native.Nat.{ℕ, _/_, _≤_, _<_}
 use mathlib.Core.Bool.{false}
-use mathlib.Core.List.{List}
-use mathlib.Core.Logic.{_↔_, inl, inr}
+use mathlib.Core.List.{List, [], _∷_}
 use mathlib.Core.Path.{_≡_, refl}
 use lib.ListN.{getD, length}
-use lib.Dec.{eqb}
 use borrow.Author.Tests.{ltb-false}
-use Rattle.number.proofs.Cases.{bool}
 use Rattle.number.proofs.Fills.{fill-kept}
-use Rattle.refusal.specs.{Row, Refusal, numberOf, done, firstOf, outcomeOf, Given, NoneHolds}
-use Rattle.refusal.proofs.Outcomes.{
-  outcome-made,
-  refused-exactly,
-  accepted-exactly,
-  accepted-is-made,
-  refused-is-so,
-}
+use Rattle.refusal.specs.{Row, done, firstOf, NoneHolds, Refuses}
+use Rattle.refusal.proofs.Order.{none-front}
+use Rattle.refusal.proofs.Outcomes.{refuses, refuses-all}
 use Rattle.table.specs.{Record, badTable}
 use Rattle.shades.specs.{colourAt, nearestShade, badCoordinates, badCentre}
 use Rattle.shades.proofs.Checks.{bad-coordinates-exactly, shades-of-tests}
-use Rattle.rounds.specs.{Colours, State, coloursOf, joins, plainDistances, shortDistances}
+use Rattle.rounds.specs.{Colours, State, coloursOf, toMean, joins, plainDistances, shortDistances}
 use Rattle.rounds.proofs.Falls.{member-joined}
 use Rattle.steps.specs.{Steppable, Walkable}
-use Rattle.lloyd.specs.Refusals.{shortMembers, badMember, plainRows, shortRows}
+use Rattle.lloyd.specs.Refusals.{shortMembers, badMember, plainRows, memberRow, shortRows}
 use Rattle.lloyd.specs.Outcomes.{RoundOutcome, madeRound, keptRound, plainRound, shortRound}
 use Rattle.lloyd.proofs.Checks.{bad-member-exactly}
 use Rattle.lloyd.proofs.Tables.{tabled-of-test}
 
 -- ---- a round of either kind
 
-module _ (rows : List Row) (C : Colours) (k : ℕ) (a : State) (distances : Colours → ℕ → State → ℕ) where
-  -- each refusal is given exactly when its row is the first that holds
-  round-refused-exactly : (n : Refusal)
-      → (outcomeOf rows (madeRound C k a distances) (keptRound a) .answer .refusal ≡ numberOf n) ↔ Given rows n
-  round-refused-exactly =
-      refused-exactly {A = RoundOutcome} rows (madeRound C k a distances) (keptRound a) (λ o. o .answer .refusal) refl
-      (λ n. refl)
-
-  -- and none exactly when no row holds
-  round-accepted-exactly :
-      (outcomeOf rows (madeRound C k a distances) (keptRound a) .answer .refusal ≡ done) ↔ NoneHolds rows
-  round-accepted-exactly =
-      accepted-exactly {A = RoundOutcome} rows (madeRound C k a distances) (keptRound a) (λ o. o .answer .refusal) refl
-      (λ n. refl)
-
-  -- a refused round answers its number and zeros, and no slice changes
-  round-refused : (n : Refusal)
-      → outcomeOf rows (madeRound C k a distances) (keptRound a) .answer .refusal ≡ numberOf n
-      → outcomeOf rows (madeRound C k a distances) (keptRound a) ≡ keptRound a (numberOf n)
-  round-refused =
-      refused-is-so {A = RoundOutcome} rows (madeRound C k a distances) (keptRound a) (λ o. o .answer .refusal) refl
-      (λ n. refl)
-
-  -- an accepted one is a round
-  round-accepted : outcomeOf rows (madeRound C k a distances) (keptRound a) .answer .refusal ≡ done
-      → outcomeOf rows (madeRound C k a distances) (keptRound a) ≡ madeRound C k a distances
-  round-accepted =
-      accepted-is-made {A = RoundOutcome} rows (madeRound C k a distances) (keptRound a) (λ o. o .answer .refusal) refl
-      (λ n. refl)
-
-  -- members past the used entries stay, on every input
-  outcome-kept : (i : ℕ) → C .n ≤ i
-      → getD (outcomeOf rows (madeRound C k a distances) (keptRound a) .state .members) i 0 ≡ getD (a .members) i 0
-  outcome-kept i h = elim (bool (eqb (firstOf rows) done)) [
-    | inl t ↦ rw t (fill-kept (C .n) i (joins C k (a .coordinates)) (a .members) h)
-    | inr t ↦ rw t
-  ]
+-- members past the used entries stay, on every input
+outcome-kept : {rows : List Row} {o : RoundOutcome} (C : Colours) (k : ℕ) (a : State)
+    (distances : Colours → ℕ → State → ℕ)
+    → Refuses rows o (λ o. o .answer .refusal) (madeRound toMean C k a distances) (keptRound a)
+    → (i : ℕ) → C .n ≤ i → getD (o .state .members) i 0 ≡ getD (a .members) i 0
+outcome-kept C k a distances r i h =
+    refuses-all r (λ o. getD (o .state .members) i 0 ≡ getD (a .members) i 0)
+    (fill-kept (C .n) i (joins C k (a .coordinates)) (a .members) h) (λ n. refl)
 
 -- ---- what the tests give
 
@@ -104,8 +67,7 @@ module _ (rec : Record) (ks ws : List ℕ) (a : State) where
   -- a shortened round that is accepted passes those of a plain one, and one more
   pub short-good : NoneHolds (shortRows rec ks ws a)
       → PlainGood × (badMember (rec .used) (length (a .coordinates) / 3) (a .members) ≡ false)
-  short-good h =
-      (record { table = h .0; count = h .1 .0; centre = h .1 .1 .0; room = h .1 .1 .1 .0 }, h .1 .1 .1 .1 .0)
+  short-good h = (plain-good (none-front (plainRows rec ks ws a) (memberRow rec a ∷ []) h), h .1 .1 .1 .1 .0)
 
   -- where the tests of a plain round fail, no row of it holds
   pub plain-none : PlainGood → firstOf (plainRows rec ks ws a) ≡ done
@@ -118,69 +80,17 @@ module _ (rec : Record) (ks ws : List ℕ) (a : State) where
 
   -- ---- the two calls
 
-  -- each refusal of a plain round is given exactly when its row is the first that holds
-  pub plain-refused-exactly : (n : Refusal)
-      → (plainRound rec ks ws a .answer .refusal ≡ numberOf n) ↔ Given (plainRows rec ks ws a) n
+  -- a plain round refuses by its rows: it is a round, or its number and zeros, and no slice changes
+  pub plain-refuses : Refuses (plainRows rec ks ws a) (plainRound rec ks ws a) (λ o. o .answer .refusal)
+      (madeRound toMean (coloursOf (rec .used) ks ws) (length (a .coordinates) / 3) a plainDistances) (keptRound a)
   unfolding plainRound
-  plain-refused-exactly =
-      round-refused-exactly (plainRows rec ks ws a) (coloursOf (rec .used) ks ws) (length (a .coordinates) / 3) a
-      plainDistances
+  plain-refuses = refuses _ _ _ _ refl (λ n. refl)
 
-  -- and none exactly when no row holds
-  pub plain-accepted-exactly : (plainRound rec ks ws a .answer .refusal ≡ done) ↔ NoneHolds (plainRows rec ks ws a)
-  unfolding plainRound
-  plain-accepted-exactly =
-      round-accepted-exactly (plainRows rec ks ws a) (coloursOf (rec .used) ks ws) (length (a .coordinates) / 3) a
-      plainDistances
-
-  -- a refused plain round answers its number and zeros, and no slice changes
-  pub plain-refused : (n : Refusal) → plainRound rec ks ws a .answer .refusal ≡ numberOf n
-      → plainRound rec ks ws a ≡ keptRound a (numberOf n)
-  unfolding plainRound
-  plain-refused =
-      round-refused (plainRows rec ks ws a) (coloursOf (rec .used) ks ws) (length (a .coordinates) / 3) a
-      plainDistances
-
-  -- an accepted one is a round
-  pub plain-accepted : plainRound rec ks ws a .answer .refusal ≡ done
-      → plainRound rec ks ws a
-      ≡ madeRound (coloursOf (rec .used) ks ws) (length (a .coordinates) / 3) a plainDistances
-  unfolding plainRound
-  plain-accepted =
-      round-accepted (plainRows rec ks ws a) (coloursOf (rec .used) ks ws) (length (a .coordinates) / 3) a
-      plainDistances
-
-  -- the same of a shortened round
-  pub short-refused-exactly : (n : Refusal)
-      → (shortRound rec ks ws a .answer .refusal ≡ numberOf n) ↔ Given (shortRows rec ks ws a) n
+  -- and so does a shortened one
+  pub short-refuses : Refuses (shortRows rec ks ws a) (shortRound rec ks ws a) (λ o. o .answer .refusal)
+      (madeRound toMean (coloursOf (rec .used) ks ws) (length (a .coordinates) / 3) a shortDistances) (keptRound a)
   unfolding shortRound
-  short-refused-exactly =
-      round-refused-exactly (shortRows rec ks ws a) (coloursOf (rec .used) ks ws) (length (a .coordinates) / 3) a
-      shortDistances
-
-  -- none exactly when no row holds
-  pub short-accepted-exactly : (shortRound rec ks ws a .answer .refusal ≡ done) ↔ NoneHolds (shortRows rec ks ws a)
-  unfolding shortRound
-  short-accepted-exactly =
-      round-accepted-exactly (shortRows rec ks ws a) (coloursOf (rec .used) ks ws) (length (a .coordinates) / 3) a
-      shortDistances
-
-  -- refused, its number and zeros
-  pub short-refused : (n : Refusal) → shortRound rec ks ws a .answer .refusal ≡ numberOf n
-      → shortRound rec ks ws a ≡ keptRound a (numberOf n)
-  unfolding shortRound
-  short-refused =
-      round-refused (shortRows rec ks ws a) (coloursOf (rec .used) ks ws) (length (a .coordinates) / 3) a
-      shortDistances
-
-  -- accepted, a round
-  pub short-accepted : shortRound rec ks ws a .answer .refusal ≡ done
-      → shortRound rec ks ws a
-      ≡ madeRound (coloursOf (rec .used) ks ws) (length (a .coordinates) / 3) a shortDistances
-  unfolding shortRound
-  short-accepted =
-      round-accepted (shortRows rec ks ws a) (coloursOf (rec .used) ks ws) (length (a .coordinates) / 3) a
-      shortDistances
+  short-refuses = refuses _ _ _ _ refl (λ n. refl)
 
   -- where a shortened round is accepted, a plain one is, and leaves the same
   pub short-leaves-plain : shortRound rec ks ws a .answer .refusal ≡ done
@@ -188,44 +98,36 @@ module _ (rec : Record) (ks ws : List ℕ) (a : State) where
       × (shortRound rec ks ws a .state ≡ plainRound rec ks ws a .state)
       × (shortRound rec ks ws a .answer .total ≡ plainRound rec ks ws a .answer .total)
       × (shortRound rec ks ws a .answer .moved ≡ plainRound rec ks ws a .answer .moved)
-  unfolding plainRound
   short-leaves-plain h =
-      let g = short-good (short-accepted-exactly .0 h) in
-      let p =
-      outcome-made (plainRows rec ks ws a)
-      (madeRound (coloursOf (rec .used) ks ws) (length (a .coordinates) / 3) a plainDistances) (keptRound a)
-      (plain-none (g .0)) in
-      let s = short-accepted h in
-      rw (p, s) (refl, refl, refl, refl)
+      let g = short-good (short-refuses .accepted-exactly .0 h) in
+      rw (plain-refuses .by-none (plain-none (g .0)), short-refuses .accepted-is h) (refl, refl, refl, refl)
 
   -- members past the used entries stay after a plain round
   pub plain-members-kept : (i : ℕ) → rec .used ≤ i
       → getD (plainRound rec ks ws a .state .members) i 0 ≡ getD (a .members) i 0
-  unfolding plainRound
   plain-members-kept =
-      outcome-kept (plainRows rec ks ws a) (coloursOf (rec .used) ks ws) (length (a .coordinates) / 3) a plainDistances
+      outcome-kept (coloursOf (rec .used) ks ws) (length (a .coordinates) / 3) a plainDistances plain-refuses
 
   -- and after a shortened one
   pub short-members-kept : (i : ℕ) → rec .used ≤ i
       → getD (shortRound rec ks ws a .state .members) i 0 ≡ getD (a .members) i 0
-  unfolding shortRound
   short-members-kept =
-      outcome-kept (shortRows rec ks ws a) (coloursOf (rec .used) ks ws) (length (a .coordinates) / 3) a shortDistances
+      outcome-kept (coloursOf (rec .used) ks ws) (length (a .coordinates) / 3) a shortDistances short-refuses
 
   -- in an accepted plain round each used member is the nearest shade, as the shades came
   pub plain-joined : plainRound rec ks ws a .answer .refusal ≡ done → (i : ℕ) → i < rec .used
       → getD (plainRound rec ks ws a .state .members) i 0
       ≡ nearestShade (a .coordinates) (length (a .coordinates) / 3) (colourAt ks i)
   plain-joined h i l =
-      rw (plain-accepted h)
+      rw (plain-refuses .accepted-is h)
       (member-joined (coloursOf (rec .used) ks ws) (length (a .coordinates) / 3) a
-      (plain-steppable (plain-good (plain-accepted-exactly .0 h)) .fit) i l)
+      (plain-steppable (plain-good (plain-refuses .accepted-exactly .0 h)) .fit) i l)
 
   -- and in an accepted shortened one
   pub short-joined : shortRound rec ks ws a .answer .refusal ≡ done → (i : ℕ) → i < rec .used
       → getD (shortRound rec ks ws a .state .members) i 0
       ≡ nearestShade (a .coordinates) (length (a .coordinates) / 3) (colourAt ks i)
   short-joined h i l =
-      rw (short-accepted h)
+      rw (short-refuses .accepted-is h)
       (member-joined (coloursOf (rec .used) ks ws) (length (a .coordinates) / 3) a
-      (plain-steppable (short-good (short-accepted-exactly .0 h) .0) .fit) i l)
+      (plain-steppable (short-good (short-refuses .accepted-exactly .0 h) .0) .fit) i l)

@@ -2,27 +2,19 @@
 use Prim.Native.Nat.{ℕ, _-_}
 use mathlib.Core.Bool.{Bool, false}
 use mathlib.Core.List.{List}
-use mathlib.Core.Logic.{_↔_}
-use mathlib.Core.Path.{_≡_, refl, ap, _∙_}
+use mathlib.Core.Path.{_≡_, refl}
 use native.Mathlib.Omega.{arith}
 use lib.ListN.{length}
 use borrow.Author.Tests.{ltb-false}
 use Rattle.number.proofs.Cases.{neither}
-use Rattle.refusal.specs.{Refusal, numberOf, done, firstOf, Given, NoneHolds}
-use Rattle.refusal.proofs.Outcomes.{
-  outcome-made,
-  outcome-refused,
-  refused-exactly,
-  accepted-exactly,
-  accepted-is-made,
-  refused-is-so,
-}
+use Rattle.refusal.specs.{Refusal, numberOf, done, firstOf, NoneHolds, Refuses}
 use Rattle.table.specs.{Record, badTable}
-use Rattle.rounds.specs.{Colours, State, coloursOf, finalOf, begin}
+use Rattle.rounds.specs.{Colours, State, coloursOf, toMean, onMean, finalOf, begin}
 use Rattle.steps.specs.{mostRounds, Runnable, SeriesMeets}
 use Rattle.lloyd.specs.Refusals.{limitOf, badCount, fewColours, badLimit, shortMembers, shortTotals, runRows}
-use Rattle.lloyd.specs.Outcomes.{RunOutcome, RunMeets, refusedRun, keptRun, madeRun, runOf}
+use Rattle.lloyd.specs.Outcomes.{RunMeets, refusedRun, keptRun, madeRun, runOf}
 use Rattle.lloyd.specs.declared.Ran.{Ran}
+use Rattle.lloyd.proofs.By.{by-refuses, by-meets-refused, by-meets-made}
 use Rattle.lloyd.proofs.Checks.{bad-count-exactly, limit-some, limit-most}
 use Rattle.lloyd.proofs.Tables.{tabled-of-test, pixels-of-test}
 
@@ -31,62 +23,29 @@ module _ (rec : Record) (ks ws : List ℕ) (k limit : ℕ) (ms ts : List ℕ) wh
   abbrev C : Colours
   C = coloursOf (rec .used) ks ws
 
-  -- the state in which the run begins
-  abbrev a : State
-  a = begin (coloursOf (rec .used) ks ws) k ms
-
-  -- what it makes
-  abbrev made : RunOutcome
-  made = madeRun (coloursOf (rec .used) ks ws) k (limitOf limit) (begin (coloursOf (rec .used) ks ws) k ms) ts
-
   -- ---- refused or made
 
-  -- each refusal is given exactly when its row is the first that holds
-  pub run-refused-exactly : (n : Refusal)
-      → (runOf rec ks ws k limit ms ts .answer .refusal ≡ numberOf n) ↔ Given (runRows rec ks ws k limit ms ts) n
+  -- a run refuses by its rows: it is made, or its number and zeros, and no slice changes
+  pub run-refuses : Refuses (runRows rec ks ws k limit ms ts) (runOf rec ks ws k limit ms ts)
+      (λ o. o .answer .refusal)
+      (madeRun toMean (coloursOf (rec .used) ks ws) k (limitOf limit) (begin (coloursOf (rec .used) ks ws) k ms) ts)
+      (keptRun ms ts)
   unfolding runOf
-  run-refused-exactly =
-      refused-exactly {A = RunOutcome} (runRows rec ks ws k limit ms ts) made (keptRun ms ts) (λ o. o .answer .refusal)
-      refl (λ n. refl)
-
-  -- and none exactly when no row holds
-  pub run-accepted-exactly :
-      (runOf rec ks ws k limit ms ts .answer .refusal ≡ done) ↔ NoneHolds (runRows rec ks ws k limit ms ts)
-  unfolding runOf
-  run-accepted-exactly =
-      accepted-exactly {A = RunOutcome} (runRows rec ks ws k limit ms ts) made (keptRun ms ts) (λ o. o .answer .refusal)
-      refl (λ n. refl)
-
-  -- a refused run answers its number and zeros, and no slice changes
-  pub run-refused : (n : Refusal) → runOf rec ks ws k limit ms ts .answer .refusal ≡ numberOf n
-      → runOf rec ks ws k limit ms ts ≡ keptRun ms ts (numberOf n)
-  unfolding runOf
-  run-refused =
-      refused-is-so {A = RunOutcome} (runRows rec ks ws k limit ms ts) made (keptRun ms ts) (λ o. o .answer .refusal)
-      refl (λ n. refl)
-
-  -- an accepted one is made
-  pub run-accepted : runOf rec ks ws k limit ms ts .answer .refusal ≡ done
-      → runOf rec ks ws k limit ms ts
-      ≡ madeRun (coloursOf (rec .used) ks ws) k (limitOf limit) (begin (coloursOf (rec .used) ks ws) k ms) ts
-  unfolding runOf
-  run-accepted =
-      accepted-is-made {A = RunOutcome} (runRows rec ks ws k limit ms ts) made (keptRun ms ts) (λ o. o .answer .refusal)
-      refl (λ n. refl)
+  run-refuses = by-refuses (runRows rec ks ws k limit ms ts) toMean (onMean C) C k limit ms ts
 
   -- the contract where it is refused
   pub run-meets-refused : (n : Refusal) (r : Ran) → firstOf (runRows rec ks ws k limit ms ts) ≡ numberOf n
       → r ≡ refusedRun (numberOf n) → RunMeets (runOf rec ks ws k limit ms ts) r ms ts
   unfolding runOf
-  run-meets-refused n r e is =
-      rw (outcome-refused (runRows rec ks ws k limit ms ts) made (keptRun ms ts) n e)
-      (record { answer = is; members-are = refl; totals-are = refl })
+  run-meets-refused =
+      by-meets-refused (runRows rec ks ws k limit ms ts) toMean (onMean C) C k limit ms ts
 
   -- the contract where it is made
-  pub run-meets-made : (z : State) (totals : List ℕ) (rounds : ℕ) (settled : Bool) (distances total : ℕ) (r : Ran)
+  pub run-meets-made : (z : State) (totals : List ℕ) (rounds : ℕ) (settled : Bool) (distances total : ℕ)
+      (r : Ran)
       → firstOf (runRows rec ks ws k limit ms ts) ≡ done
-      → SeriesMeets (coloursOf (rec .used) ks ws) k (limitOf limit) (begin (coloursOf (rec .used) ks ws) k ms) z ts
-      totals rounds settled distances
+      → SeriesMeets toMean (coloursOf (rec .used) ks ws) k (limitOf limit)
+      (begin (coloursOf (rec .used) ks ws) k ms) z ts totals rounds settled distances
       → total ≡ finalOf (coloursOf (rec .used) ks ws) z
       → r ≡ record {
         refusal = done;
@@ -98,13 +57,7 @@ module _ (rec : Record) (ks ws : List ℕ) (k limit : ℕ) (ms ts : List ℕ) wh
       }
       → RunMeets (runOf rec ks ws k limit ms ts) r (z .members) totals
   unfolding runOf
-  run-meets-made z totals rounds settled distances total r e m t is =
-      rw (outcome-made (runRows rec ks ws k limit ms ts) made (keptRun ms ts) e)
-      (record {
-        answer = is ∙ rw (t, m .state, m .rounds-is, m .settled-is, m .distances-is);
-        members-are = ap (λ (y : State). y .members) (m .state);
-        totals-are = m .totals-is;
-      })
+  run-meets-made = by-meets-made (runRows rec ks ws k limit ms ts) toMean (onMean C) C k limit ms ts
 
   -- ---- what the tests give
 
@@ -127,7 +80,7 @@ module _ (rec : Record) (ks ws : List ℕ) (k limit : ℕ) (ms ts : List ℕ) wh
         pixels = pixels-of-test rec ks ws (g .table) (omega (arith, some .0));
         some = some .0;
         few = some .1;
-        colours = colours;
+        colours = omega (arith, some .0);
         limit-some = limit-some limit;
         limit-most = limit-most limit mostRounds (omega arith) (ltb-false mostRounds limit (g .limited));
         members-room = ltb-false (length ms) (rec .used) (g .members);

@@ -8,15 +8,18 @@
 --   shortMembers, shortTotals   the two parts of 7 SHORT ROOM
 --   badMember              the test of 9 BAD MEMBER
 --   plainRows, shortRows, runRows   the tests of each call in its order, with their refusals
+--   memberRow              the row that a shortened round has besides those of a plain one
 --   RoundOutcome, RunOutcome   the answer and both lent slices at exit
 --   flagOf                 settled as 1 or 0
 --   refusedRound, refusedRun   the answer of a refusal: its number and zeros
 --   keptRound, keptRun     that answer, and no slice changes
---   madeRound, madeRun     the outcome where nothing is refused
+--   madeRound rule, madeRun rule   the outcome where nothing is refused, by a rule
 --   plainRound, shortRound, runOf   the outcome of each call
 --   RoundMeets, RunMeets   the contracts: answer and slices are those of the outcome
 --   AcceptedRun            answer and slices are those of a run that is accepted
 --   FarthestColour         a table colour is the farthest from its nearest shade, lowest key at a tie
+--   runBy                  the outcome of a run by any rows, rule and given shades
+--   AcceptedBy o           answer and slices are those of an accepted run of this outcome
 --   left r members         the shades and the members that a run leaves
 pub mod Refusals
 pub mod Outcomes
@@ -34,10 +37,11 @@ unfoldable pub use Refusals.{
   memberOff,
   badMember,
   plainRows,
+  memberRow,
   shortRows,
   runRows,
 }
-pub use Outcomes.{RoundOutcome, RunOutcome, RoundMeets, RunMeets, AcceptedRun}
+pub use Outcomes.{RoundOutcome, RunOutcome, RoundMeets, RunMeets, AcceptedBy, AcceptedRun}
 unfoldable pub use Outcomes.{
   refusedRound,
   keptRound,
@@ -46,6 +50,7 @@ unfoldable pub use Outcomes.{
   refusedRun,
   keptRun,
   madeRun,
+  runBy,
   plainRound,
   shortRound,
   runOf,

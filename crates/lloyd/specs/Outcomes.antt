@@ -6,10 +6,12 @@ use mathlib.Core.Path.{_≡_}
 use lib.Dec.{ltb}
 use lib.ListN.{length, replicate}
 use Rattle.number.specs.{sum, fill, firstThat}
-use Rattle.refusal.specs.{done, outcomeOf}
+use Rattle.refusal.specs.{Row, done, outcomeOf}
 use Rattle.table.specs.{Record}
 use Rattle.shades.specs.{mostCoordinates}
 use Rattle.rounds.specs.{
+  Rule,
+  Base,
   Colours,
   State,
   coloursOf,
@@ -22,7 +24,8 @@ use Rattle.rounds.specs.{
   finalOf,
   plainDistances,
   shortDistances,
-  begin,
+  onMean,
+  beginFrom,
   roundsMade,
 }
 use Rattle.lloyd.specs.Refusals.{limitOf, plainRows, shortRows, runRows}
@@ -40,16 +43,16 @@ pub record RoundOutcome : Type 0 where
 abbrev pub refusedRound : ℕ → Rounded
 refusedRound n = record { refusal = n; total = 0; moved = 0; distances = 0 }
 
--- a round of Lloyd's rule on k shades, with the distances that a round of its kind works out
-abbrev pub madeRound : Colours → ℕ → State → (Colours → ℕ → State → ℕ) → RoundOutcome
-madeRound C k a distances = record {
+-- a round of the rule on k shades, with the distances that a round of its kind works out
+abbrev pub madeRound : Rule → Colours → ℕ → State → (Colours → ℕ → State → ℕ) → RoundOutcome
+madeRound rule C k a distances = record {
   answer = record {
     refusal = done;
     total = totalOf C k a;
-    moved = movedOf toMean C k a;
+    moved = movedOf rule C k a;
     distances = distances C k a;
   };
-  state = step toMean C k a;
+  state = step rule C k a;
 }
 
 -- that of a refusal: its answer, and no slice changes
@@ -60,13 +63,13 @@ keptRound a n = record { answer = refusedRound n; state = a }
 unfoldable pub plainRound : Record → List ℕ → List ℕ → State → RoundOutcome
 plainRound rec ks ws a =
     outcomeOf (plainRows rec ks ws a)
-    (madeRound (coloursOf (rec .used) ks ws) (length (a .coordinates) / 3) a plainDistances) (keptRound a)
+    (madeRound toMean (coloursOf (rec .used) ks ws) (length (a .coordinates) / 3) a plainDistances) (keptRound a)
 
 -- the whole outcome of a shortened round
 unfoldable pub shortRound : Record → List ℕ → List ℕ → State → RoundOutcome
 shortRound rec ks ws a =
     outcomeOf (shortRows rec ks ws a)
-    (madeRound (coloursOf (rec .used) ks ws) (length (a .coordinates) / 3) a shortDistances) (keptRound a)
+    (madeRound toMean (coloursOf (rec .used) ks ws) (length (a .coordinates) / 3) a shortDistances) (keptRound a)
 
 -- the contract: answer and slices are those of the outcome
 pub record RoundMeets (o : RoundOutcome) (r : Rounded) (coordinates members : List ℕ) : Type 0 where
@@ -101,35 +104,45 @@ refusedRun n = record {
 abbrev pub keptRun : List ℕ → List ℕ → ℕ → RunOutcome
 keptRun ms ts n = record { answer = refusedRun n; members = ms; totals = ts }
 
--- rounds of Lloyd's rule from state a, to the first quiet one or the limit: the shades and the members they leave, each
+-- rounds of the rule from state a, to the first quiet one or the limit: the shades and the members they leave, each
 -- round's total over the front of the totals, the rounds made, settled or not, the summed distances, and the last
 -- grouping against the final shades
-abbrev pub madeRun : Colours → ℕ → ℕ → State → List ℕ → RunOutcome
-madeRun C k limit a totals = record {
+abbrev pub madeRun : Rule → Colours → ℕ → ℕ → State → List ℕ → RunOutcome
+madeRun rule C k limit a totals = record {
   answer = record {
     refusal = done;
-    shades = after toMean C k a (roundsMade limit (quiet toMean C k a)) .coordinates;
-    rounds = roundsMade limit (quiet toMean C k a);
-    settled = ltb (firstThat limit (quiet toMean C k a)) limit;
-    distances = sum (roundsMade limit (quiet toMean C k a)) (λ r. shortDistances C k (after toMean C k a r));
-    total = finalOf C (after toMean C k a (roundsMade limit (quiet toMean C k a)));
+    shades = after rule C k a (roundsMade limit (quiet rule C k a)) .coordinates;
+    rounds = roundsMade limit (quiet rule C k a);
+    settled = ltb (firstThat limit (quiet rule C k a)) limit;
+    distances = sum (roundsMade limit (quiet rule C k a)) (λ r. shortDistances C k (after rule C k a r));
+    total = finalOf C (after rule C k a (roundsMade limit (quiet rule C k a)));
   };
-  members = after toMean C k a (roundsMade limit (quiet toMean C k a)) .members;
-  totals = fill (roundsMade limit (quiet toMean C k a)) (λ r. totalOf C k (after toMean C k a r)) totals;
+  members = after rule C k a (roundsMade limit (quiet rule C k a)) .members;
+  totals = fill (roundsMade limit (quiet rule C k a)) (λ r. totalOf C k (after rule C k a r)) totals;
 }
 
--- the whole outcome of a run: it begins with the starting shades and every colour in shade 0
+-- the whole outcome of a run by a rule from given shades, where the rows say what refuses it: it begins with the
+-- starting shades and every colour in shade 0
+abbrev pub runBy : List Row → Rule → Base → Colours → ℕ → ℕ → List ℕ → List ℕ → RunOutcome
+runBy rows rule B C k limit ms ts =
+    outcomeOf rows (madeRun rule C k (limitOf limit) (beginFrom B C k ms) ts) (keptRun ms ts)
+
+-- the whole outcome of a run: by Lloyd's rule from the table's mean
 unfoldable pub runOf : Record → List ℕ → List ℕ → ℕ → ℕ → List ℕ → List ℕ → RunOutcome
 runOf rec ks ws k limit ms ts =
-    outcomeOf (runRows rec ks ws k limit ms ts)
-    (madeRun (coloursOf (rec .used) ks ws) k (limitOf limit) (begin (coloursOf (rec .used) ks ws) k ms) ts)
-    (keptRun ms ts)
+    runBy (runRows rec ks ws k limit ms ts) toMean (onMean (coloursOf (rec .used) ks ws)) (coloursOf (rec .used) ks ws)
+    k limit ms ts
 
 -- the contract: answer and slices are those of the outcome
 pub record RunMeets (o : RunOutcome) (r : Ran) (members totals : List ℕ) : Type 0 where
   pub answer : r ≡ o .answer
   pub members-are : members ≡ o .members
   pub totals-are : totals ≡ o .totals
+
+-- this answer and these slices are those of a run of this outcome, and it is accepted
+pub record AcceptedBy (o : RunOutcome) (r : Ran) (members totals : List ℕ) : Type 0 where
+  pub meets : RunMeets o r members totals
+  pub accepted : r .refusal ≡ done
 
 -- this answer and these slices are those of a run that is accepted
 pub record AcceptedRun (rec : Record) (ks ws : List ℕ) (k limit : ℕ) (ms ts : List ℕ) (r : Ran)

@@ -1,7 +1,7 @@
 -- When a round or a run is refused: one test a row of document 01's table, and the order of the rows of each call.
 use Prim.Native.Nat.{ℕ, _/_}
 use mathlib.Core.Bool.{Bool, cond, _||_}
-use mathlib.Core.List.{List, [], _∷_}
+use mathlib.Core.List.{List, [], _∷_, _++_}
 use lib.ListN.{getD, length}
 use lib.Dec.{ltb, leb, eqb}
 use Rattle.number.specs.{howMany}
@@ -66,15 +66,13 @@ plainRows rec ks ws a =
     ∷ row (shortMembers rec (a .members)) SHORT-ROOM
     ∷ []
 
--- the order of a shortened round: 2, 4, 8, 7, 9
+-- the row that a shortened round has besides: 9
+abbrev pub memberRow : Record → State → Row
+memberRow rec a = row (badMember (rec .used) (length (a .coordinates) / 3) (a .members)) BAD-MEMBER
+
+-- the order of a shortened round: that of a plain one, and then 9
 abbrev pub shortRows : Record → List ℕ → List ℕ → State → List Row
-shortRows rec ks ws a =
-    row (badTable rec ks ws) BAD-TABLE
-    ∷ row (badCoordinates (length (a .coordinates))) BAD-COUNT
-    ∷ row (badCentre (a .coordinates)) BAD-CENTRE
-    ∷ row (shortMembers rec (a .members)) SHORT-ROOM
-    ∷ row (badMember (rec .used) (length (a .coordinates) / 3) (a .members)) BAD-MEMBER
-    ∷ []
+shortRows rec ks ws a = plainRows rec ks ws a ++ (memberRow rec a ∷ [])
 
 -- the order of a run: 2, 4, 5, 6, 7
 abbrev pub runRows : Record → List ℕ → List ℕ → ℕ → ℕ → List ℕ → List ℕ → List Row

@@ -19,7 +19,7 @@ use Rattle.strips.proofs.Promises as strips
 use Rattle.strips.proofs.Totals.{errors-most}
 use Rattle.mapping.specs.Outcomes.{MapOutcome, mapRows, madeMap, keptMap, mapStrip, OfEachError}
 use Rattle.mapping.specs.declared.Mapped.{Mapped}
-use Rattle.mapping.proofs.Meaning.{map-accepted-exactly, map-accepted-made, index-at}
+use Rattle.mapping.proofs.Meaning.{map-refuses, index-at}
 
 module _ (s p d : List ℕ) (a : ℕ) where
   -- the answer
@@ -38,7 +38,7 @@ module _ (s p d : List ℕ) (a : ℕ) where
   module _ (ok : r .refusal ≡ done) where
     -- an accepted answer is that of the strip
     answer-made : r ≡ madeMap s p d a .answer
-    answer-made = ap (λ (o : MapOutcome). o .answer) (map-accepted-made s p d a ok)
+    answer-made = ap (λ (o : MapOutcome). o .answer) (map-refuses s p d a .accepted-is ok)
 
     -- its error and its channel errors
     pub error-is : (r .error ≡ errorOf p s (pixelCount s)) × (r .errors ≡ errorsOf p s (pixelCount s))
@@ -48,7 +48,7 @@ module _ (s p d : List ℕ) (a : ℕ) where
     pub index-is-nearest : (i : ℕ) → i < pixelCount s
         → NearestEntry p s i (getD (mapStrip s p d a .index) (a + i) 0)
     index-is-nearest i h =
-        let none = map-accepted-exactly s p d a .0 ok in
+        let none = map-refuses s p d a .accepted-exactly .0 ok in
         let palette = bad-coordinates-exactly (length p) .0 (none .1 .0) in
         subst (NearestEntry p s i) (sym (index-at s p d a ok i h)) (strips.entry-is-nearest p s i (palette .0))
 
@@ -79,7 +79,7 @@ module _ (s p d : List ℕ) (a : ℕ) where
 
     -- an accepted strip has at most 16,777,216 pixels
     few : pixelCount s ≤ mostPixels
-    few = let none = map-accepted-exactly s p d a .0 ok in ltb-false mostPixels (pixelCount s) (none .1 .1 .0)
+    few = let none = map-refuses s p d a .accepted-exactly .0 ok in ltb-false mostPixels (pixelCount s) (none .1 .1 .0)
 
     -- so each of the four errors is converted without loss
     errors-convert : Bytes s → Bytes p → (F : ℕ → Type 0) → ((e : ℕ) → e < mostExact → F e) → OfEachError r F

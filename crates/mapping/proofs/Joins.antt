@@ -18,8 +18,7 @@ use Rattle.strips.proofs.Totals.{entry-first, entry-second, error-joined, error
 use Rattle.mapping.specs.Outcomes.{MapOutcome, mapStrip}
 use Rattle.mapping.specs.Pieces.{joined, EachWhole, Pieced, leftBy, inStrips, EachAccepted}
 use Rattle.mapping.proofs.Meaning.{
-  map-accepted-exactly,
-  map-accepted-made,
+  map-refuses,
   stretch-within,
   index-length,
 }
@@ -33,7 +32,7 @@ module _ (s t p d : List ℕ) (a : ℕ) (whole : badStrip s ≡ false)
   -- the tests of the whole
   none : (badStrip (s ++ t) ≡ false) × (badPalette p ≡ false) × (pixelCount (s ++ t) ≤ mostPixels)
   none =
-      let n = map-accepted-exactly (s ++ t) p d a .0 ok in
+      let n = map-refuses (s ++ t) p d a .accepted-exactly .0 ok in
       (n .0, n .1 .0, ltb-false mostPixels (pixelCount (s ++ t)) (n .1 .1 .0))
 
   -- its pixels are those of both
@@ -52,7 +51,7 @@ module _ (s t p d : List ℕ) (a : ℕ) (whole : badStrip s ≡ false)
   first-accepted =
       let few : pixelCount s ≤ mostPixels = omega (arith, none .2, pixels-joined) in
       let room : a + pixelCount s ≤ length d = omega (arith, stretch-within (s ++ t) p d a ok, pixels-joined) in
-      map-accepted-exactly s p d a .1 (whole, (none .1, (le-ltb _ _ few, (le-ltb _ _ room, tt))))
+      map-refuses s p d a .accepted-exactly .1 (whole, (none .1, (le-ltb _ _ few, (le-ltb _ _ room, tt))))
 
   -- and so is the second, behind it
   pub second-accepted : mapStrip t p (mapStrip s p d a .index) (a + pixelCount s) .answer .refusal ≡ done
@@ -66,7 +65,7 @@ module _ (s t p d : List ℕ) (a : ℕ) (whole : badStrip s ≡ false)
         pixels-joined,
         index-length s p d a first-accepted,
       ) in
-      map-accepted-exactly t p e (a + pixelCount s) .1
+      map-refuses t p e (a + pixelCount s) .accepted-exactly .1
       (second-whole, (none .1, (le-ltb _ _ few, (le-ltb _ _ room, tt))))
 
   -- the index picture after both is that of the whole
@@ -76,13 +75,13 @@ module _ (s t p d : List ℕ) (a : ℕ) (whole : badStrip s ≡ false)
       let m = pixelCount t in
       let long = whole-length s whole in
       let f = entryFor p (s ++ t) in
-      ap (λ (o : MapOutcome). o .index) (map-accepted-made t p _ (a + n) second-accepted)
+      ap (λ (o : MapOutcome). o .index) (map-refuses t p _ (a + n) .accepted-is second-accepted)
       ∙ ap (fillFrom (a + n) m (entryFor p t))
-      (ap (λ (o : MapOutcome). o .index) (map-accepted-made s p d a first-accepted)
+      (ap (λ (o : MapOutcome). o .index) (map-refuses s p d a .accepted-is first-accepted)
       ∙ from-same a n (entryFor p s) f d (λ i h. sym (entry-first p s t n long i h)))
       ∙ from-joined a n m f (entryFor p t) d (λ i h. sym (entry-second p s t n long i))
       ∙ ap (λ k. fillFrom a k f d) (sym pixels-joined)
-      ∙ sym (ap (λ (o : MapOutcome). o .index) (map-accepted-made (s ++ t) p d a ok))
+      ∙ sym (ap (λ (o : MapOutcome). o .index) (map-refuses (s ++ t) p d a .accepted-is ok))
 
   -- the call for the whole
   abbrev whole-call : MapOutcome
@@ -99,12 +98,12 @@ module _ (s t p d : List ℕ) (a : ℕ) (whole : badStrip s ≡ false)
   -- the error of an accepted call is that of its strip
   error-is : (u : List ℕ) (e : List ℕ) (b : ℕ) → mapStrip u p e b .answer .refusal ≡ done
       → mapStrip u p e b .answer .error ≡ errorOf p u (pixelCount u)
-  error-is u e b k = ap (λ (o : MapOutcome). o .answer .error) (map-accepted-made u p e b k)
+  error-is u e b k = ap (λ (o : MapOutcome). o .answer .error) (map-refuses u p e b .accepted-is k)
 
   -- and so on each channel
   errors-are : (u : List ℕ) (e : List ℕ) (b : ℕ) → mapStrip u p e b .answer .refusal ≡ done
       → mapStrip u p e b .answer .errors ≡ errorsOf p u (pixelCount u)
-  errors-are u e b k = ap (λ (o : MapOutcome). o .answer .errors) (map-accepted-made u p e b k)
+  errors-are u e b k = ap (λ (o : MapOutcome). o .answer .errors) (map-refuses u p e b .accepted-is k)
 
   -- the errors of both add up to that of the whole
   pub error-of-both : first-call .answer .error + second-call .answer .error ≡ whole-call .answer .error
@@ -130,7 +129,7 @@ unfolding fillFrom fill sum
 none-joined p d a ok =
     ap (λ (x : List ℕ). record { index = x; error = 0; errors = record { red = 0; green = 0; blue = 0 } })
     (sym (take-append-drop a d))
-    ∙ ap leftBy (sym (map-accepted-made [] p d a ok))
+    ∙ ap leftBy (sym (map-refuses [] p d a .accepted-is ok))
 
 -- a picture that is accepted whole is accepted strip by strip
 pub each-accepted : (ss : List (List ℕ)) (p d : List ℕ) (a : ℕ) → EachWhole ss

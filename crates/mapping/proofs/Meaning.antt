@@ -9,8 +9,8 @@ use lib.ListN.{length, getD}
 use borrow.Author.Tests.{ltb-true, lt-ltb, ltb-false}
 use Rattle.number.specs.{fillFrom}
 use Rattle.number.proofs.Parts.{from-at, from-before, from-behind, from-length}
-use Rattle.refusal.specs.{Refusal, numberOf, done, Given, NoneHolds}
-use Rattle.refusal.proofs.Outcomes.{refused-exactly, accepted-exactly, accepted-is-made, refused-is-so}
+use Rattle.refusal.specs.{done, Refuses}
+use Rattle.refusal.proofs.Outcomes.{refuses}
 use Rattle.colour.specs.{mostPixels}
 use Rattle.strips.specs.{pixelCount, entryFor}
 use Rattle.mapping.specs.Outcomes.{manyPixels, shortIndex, mapRows, MapOutcome, madeMap, keptMap, mapStrip}
@@ -26,44 +26,24 @@ pub short-index-exactly : (s d : List ℕ) (a : ℕ) → (shortIndex s d a ≡ t
 short-index-exactly s d a = (ltb-true _ _, lt-ltb _ _)
 
 module _ (s p d : List ℕ) (a : ℕ) where
-  -- the number in an outcome
-  abbrev numberIn : MapOutcome → ℕ
-  numberIn o = o .answer .refusal
-
   -- ---- refusals
 
-  -- each refusal is given exactly when its row is the first that holds
-  pub map-refused-exactly : (n : Refusal) → (mapStrip s p d a .answer .refusal ≡ numberOf n) ↔ Given (mapRows s p d a) n
+  -- mapping refuses by its rows: it is made, or its number, zeros and "no pixels", and the index picture stays
+  pub map-refuses : Refuses (mapRows s p d a) (mapStrip s p d a) (λ o. o .answer .refusal) (madeMap s p d a) (keptMap d)
   unfolding mapStrip
-  map-refused-exactly = refused-exactly (mapRows s p d a) (madeMap s p d a) (keptMap d) numberIn refl (λ n. refl)
-
-  -- and none exactly when no row holds
-  pub map-accepted-exactly : (mapStrip s p d a .answer .refusal ≡ done) ↔ NoneHolds (mapRows s p d a)
-  unfolding mapStrip
-  map-accepted-exactly = accepted-exactly (mapRows s p d a) (madeMap s p d a) (keptMap d) numberIn refl (λ n. refl)
-
-  -- a refusal answers its number, zeros and "no pixels", and leaves the index picture
-  pub map-refused-kept : (n : Refusal) → mapStrip s p d a .answer .refusal ≡ numberOf n
-      → mapStrip s p d a ≡ keptMap d (numberOf n)
-  unfolding mapStrip
-  map-refused-kept = refused-is-so (mapRows s p d a) (madeMap s p d a) (keptMap d) numberIn refl (λ n. refl)
-
-  -- what is accepted is made
-  pub map-accepted-made : mapStrip s p d a .answer .refusal ≡ done → mapStrip s p d a ≡ madeMap s p d a
-  unfolding mapStrip
-  map-accepted-made = accepted-is-made (mapRows s p d a) (madeMap s p d a) (keptMap d) numberIn refl (λ n. refl)
+  map-refuses = refuses _ _ _ _ refl (λ n. refl)
 
   -- ---- the index picture of an accepted call
 
   module _ (ok : mapStrip s p d a .answer .refusal ≡ done) where
     -- its stretch is filled
     index-is : mapStrip s p d a .index ≡ fillFrom a (pixelCount s) (entryFor p s) d
-    index-is = ap (λ (o : MapOutcome). o .index) (map-accepted-made ok)
+    index-is = ap (λ (o : MapOutcome). o .index) (map-refuses .accepted-is ok)
 
     -- the stretch lies within it
     pub stretch-within : a + pixelCount s ≤ length d
     stretch-within =
-        let none = map-accepted-exactly .0 ok in
+        let none = map-refuses .accepted-exactly .0 ok in
         ltb-false (length d) (a + pixelCount s) (none .1 .1 .1 .0)
 
     -- each pixel's byte is the number of its entry

@@ -40,12 +40,12 @@ map-only s p d a m n = (m .answer ∙ sym (n .answer), m .index-is ∙ sym (n .i
 -- A refusal is given exactly when its row is the first of 1, 10, 11, 7 whose test holds.
 pub map-refused-exactly : (s p d : List ℕ) (a : ℕ) (n : Refusal)
     → (mapStrip s p d a .answer .refusal ≡ numberOf n) ↔ Given (mapRows s p d a) n
-map-refused-exactly = meaning.map-refused-exactly
+map-refused-exactly s p d a = meaning.map-refuses s p d a .refused-exactly
 
 -- A strip is mapped exactly when none of the four tests holds.
 pub map-accepted-exactly : (s p d : List ℕ) (a : ℕ)
     → (mapStrip s p d a .answer .refusal ≡ done) ↔ NoneHolds (mapRows s p d a)
-map-accepted-exactly = meaning.map-accepted-exactly
+map-accepted-exactly s p d a = meaning.map-refuses s p d a .accepted-exactly
 
 -- The test of MANY PIXELS holds exactly for more than 16,777,216 pixels.
 pub many-pixels-exactly : (s : List ℕ) → (manyPixels s ≡ true) ↔ (mostPixels < pixelCount s)
@@ -59,7 +59,7 @@ short-index-exactly = meaning.short-index-exactly
 -- A refusal answers its number, zeros and "no pixels", and leaves every index byte as it came.
 pub map-refused-kept : (s p d : List ℕ) (a : ℕ) (n : Refusal) → mapStrip s p d a .answer .refusal ≡ numberOf n
     → mapStrip s p d a ≡ keptMap d (numberOf n)
-map-refused-kept = meaning.map-refused-kept
+map-refused-kept s p d a = meaning.map-refuses s p d a .refused-is
 
 -- ---- the index picture of an accepted call
 

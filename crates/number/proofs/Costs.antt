@@ -1,10 +1,11 @@
 -- What a whole shade costs a weighted group, in the figures W, S and Q. Two inductions over the places; the rest is
 -- `omega`.
 use mathlib.Core.Path.{_≡_, ap}
-use Prim.Native.Nat.{ℕ, zero, suc, _+_, _-_, _*_, _≤_}
+use Prim.Native.Nat.{ℕ, zero, suc, _+_, _-_, _*_, _≤_, _<_}
+use native.Mathlib.Nat.{mul-le-mul, le-of-mul-le-mul-left}
 use native.Mathlib.Omega.{arith}
 use Rattle.number.specs.Groups.{Group, W, S, Q, cost}
-use Rattle.number.specs.Square.{sq}
+use Rattle.number.specs.Square.{gap, sq}
 use Rattle.number.specs.Sum.{sum}
 use Rattle.number.proofs.Squares.{sq-law}
 
@@ -36,3 +37,15 @@ cauchy G = upto-cauchy (G .w) (G .x) (G .n)
 -- W times a cost is in two parts: the group's own, WQ - S², and the square of how far zW is from S
 pub cost-parts : (G : Group) (z : ℕ) → W G * cost G z + S G * S G ≡ W G * Q G + sq (S G) (z * W G)
 cost-parts G z = omega (arith, ap (λ t. W G * t) (cost-law G z), sq-law (S G) (z * W G))
+
+-- of two gaps the lesser has the lesser square
+gap-squared : (t a b : ℕ) → gap t a ≤ gap t b → sq t a ≤ sq t b
+unfolding sq
+gap-squared t a b h = mul-le-mul h h
+
+-- a place that is no farther from the true mean costs no more
+pub nearer-no-dearer : (G : Group) → 0 < W G → (y z : ℕ) → gap (S G) (y * W G) ≤ gap (S G) (z * W G)
+    → cost G y ≤ cost G z
+nearer-no-dearer G pos y z h =
+    le-of-mul-le-mul-left
+    (omega (arith, cost-parts G y, cost-parts G z, gap-squared (S G) (y * W G) (z * W G) h)) pos

@@ -11,12 +11,11 @@ use native.Mathlib.Nat.{
   mul-le-mul,
   mul-le-mul-left,
   mul-le-mul-right,
-  le-of-mul-le-mul-left,
 }
 use native.Mathlib.Omega.{arith}
 use Rattle.number.specs.Groups.{Group, W, S, Q, cost, roundedMean}
 use Rattle.number.specs.Square.{gap, sq}
-use Rattle.number.proofs.Costs.{cauchy, cost-parts}
+use Rattle.number.proofs.Costs.{cauchy, cost-parts, nearer-no-dearer}
 use Rattle.number.proofs.Sums.{sum-le, sum-mul}
 
 -- a multiple of k that is off t by at most a half of k is as near to t as any
@@ -41,10 +40,9 @@ module _ (k t : ℕ) (pos : 0 < k) where
   unfolding sq
   mean-off = omega (arith, mul-le-mul mean-near mean-near)
 
-  -- no whole number times k is nearer to t, by squares
-  mean-nearest : (z : ℕ) → sq t (roundedMean k t * k) ≤ sq t (z * k)
-  unfolding sq
-  mean-nearest z = let h = half-off-nearest k t (roundedMean k t) z mean-near in mul-le-mul h h
+  -- no whole number times k is nearer to t
+  mean-nearest : (z : ℕ) → gap t (roundedMean k t * k) ≤ gap t (z * k)
+  mean-nearest z = half-off-nearest k t (roundedMean k t) z mean-near
 
   -- a mean of at most `top` rounds to at most `top`
   pub mean-below : (top : ℕ) → t ≤ top * k → roundedMean k t ≤ top
@@ -58,10 +56,7 @@ mean-half-up k m pos = div-eq-of-eq-mul-left (omega arith) (omega arith)
 module _ (G : Group) (pos : 0 < W G) where
   -- no whole shade costs less than the rounded mean
   pub mean-best : (z : ℕ) → cost G (roundedMean (W G) (S G)) ≤ cost G z
-  mean-best z =
-      le-of-mul-le-mul-left
-      (omega (arith, cost-parts G z, cost-parts G (roundedMean (W G) (S G)), mean-nearest (W G) (S G) pos z))
-      pos
+  mean-best z = nearer-no-dearer G pos (roundedMean (W G) (S G)) z (mean-nearest (W G) (S G) pos z)
 
   -- 4W times the cost of the rounded mean is at most 4 (WQ - S²) + W²
   pub mean-bound : 4 * (W G * cost G (roundedMean (W G) (S G))) ≤ 4 * (W G * Q G - S G * S G) + W G * W G

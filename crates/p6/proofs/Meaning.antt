@@ -8,9 +8,9 @@ use lib.Dec.{ltb, eqb}
 use lib.ListN.{length, drop, length-drop}
 use borrow.Author.Tests.{ltb-false, le-ltb, eqb-true, eq-eqb, ne-eqb}
 use Rattle.number.proofs.Cases.{never, neither, not-not}
-use Rattle.refusal.specs.{Refusal, numberOf, done, Given, NoneHolds}
+use Rattle.refusal.specs.{Refusal, numberOf, done, Refuses}
 use Rattle.refusal.proofs.Numbers.{number-not-done}
-use Rattle.refusal.proofs.Outcomes.{outcome-all, refused-exactly, accepted-exactly, accepted-is-made, refused-is-so}
+use Rattle.refusal.proofs.Outcomes.{refuses, refuses-all}
 use Rattle.colour.specs.{mostPixels}
 use Rattle.headers.specs.{Header, headerOf, offsetIn}
 use Rattle.headers.specs.declared.Header.the-variants.{Read, Bad}
@@ -31,7 +31,6 @@ use Rattle.p6.specs.Refusals.{
   pictureRows,
 }
 use Rattle.p6.specs.Outcomes.{refusedPicture, madePicture, readPicture, rasterOf}
-use Rattle.p6.specs.declared.Picture.{Picture}
 
 -- ---- the tests
 
@@ -89,41 +88,15 @@ header-offset (Bad at) e = never e
 module _ (s : List ℕ) where
   -- ---- refusals
 
-  -- what a refusal answers
-  abbrev refusing : ℕ → Picture
-  refusing n = refusedPicture n (offsetIn (headerOf s))
-
-  -- each refusal is given exactly when its row is the first that holds
-  pub picture-refused-exactly : (n : Refusal) → (readPicture s .refusal ≡ numberOf n) ↔ Given (pictureRows s) n
+  -- reading refuses by its rows: a picture, or the number, the offset, and zeros
+  pub picture-refuses : Refuses (pictureRows s) (readPicture s) (λ p. p .refusal) (madePicture s)
+      (λ n. refusedPicture n (offsetIn (headerOf s)))
   unfolding readPicture
-  picture-refused-exactly =
-      refused-exactly (pictureRows s) (madePicture s) refusing (λ (p : Picture). p .refusal) refl (λ n. refl)
-
-  -- and none exactly when no row holds
-  pub picture-accepted-exactly : (readPicture s .refusal ≡ done) ↔ NoneHolds (pictureRows s)
-  unfolding readPicture
-  picture-accepted-exactly =
-      accepted-exactly (pictureRows s) (madePicture s) refusing (λ (p : Picture). p .refusal) refl (λ n. refl)
-
-  -- a refusal answers its number, the offset, and zeros
-  pub picture-refused-answers : (n : Refusal) → readPicture s .refusal ≡ numberOf n
-      → readPicture s ≡ refusedPicture (numberOf n) (offsetIn (headerOf s))
-  unfolding readPicture
-  picture-refused-answers =
-      refused-is-so (pictureRows s) (madePicture s) refusing (λ (p : Picture). p .refusal) refl (λ n. refl)
-
-  -- a picture that is accepted is made
-  pub picture-accepted-answers : readPicture s .refusal ≡ done → readPicture s ≡ madePicture s
-  unfolding readPicture
-  picture-accepted-answers =
-      accepted-is-made (pictureRows s) (madePicture s) refusing (λ (p : Picture). p .refusal) refl (λ n. refl)
+  picture-refuses = refuses _ _ _ _ refl (λ n. refl)
 
   -- with a header there is no offset
   pub offset-zero : badHeader s ≡ false → readPicture s .offset ≡ 0
-  unfolding readPicture
-  offset-zero e =
-      outcome-all (pictureRows s) (madePicture s) refusing (λ (p : Picture). p .offset ≡ 0) refl
-      (λ n. header-offset (headerOf s) e)
+  offset-zero e = refuses-all picture-refuses (λ p. p .offset ≡ 0) refl (λ n. header-offset (headerOf s) e)
 
   -- ---- accepted pictures
 
@@ -132,8 +105,8 @@ module _ (s : List ℕ) where
       → headerOf s ≡ Read (readPicture s .width) (readPicture s .height) theDepth (readPicture s .start)
   accepted-header ok =
       let h = headerOf s in
-      let none = picture-accepted-exactly .0 ok in
-      rw (picture-accepted-answers ok)
+      let none = picture-refuses .accepted-exactly .0 ok in
+      rw (picture-refuses .accepted-is ok)
       (header-read h (none .0)
       ∙ ap (λ d. Read (widthIn h) (heightIn h) d (startIn h)) (bad-depth-exactly (depthIn h) .0 (none .1 .1 .0)))
 
@@ -162,6 +135,6 @@ module _ (s : List ℕ) where
       → length (rasterOf s) ≡ 3 * (readPicture s .width * readPicture s .height)
   raster-length ok =
       let h = headerOf s in
-      let none = picture-accepted-exactly .0 ok in
-      rw (raster-is-stretch ok, picture-accepted-answers ok)
+      let none = picture-refuses .accepted-exactly .0 ok in
+      rw (raster-is-stretch ok, picture-refuses .accepted-is ok)
       (length-drop (startIn h) s ∙ bad-raster-exactly (widthIn h) (heightIn h) _ .0 (none .1 .1 .1 .0))

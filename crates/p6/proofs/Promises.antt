@@ -30,11 +30,11 @@ raster-only s a b = a ∙ sym b
 -- A refusal is given exactly when its row is the first of 12, 13, 14, 15 whose test holds.
 pub picture-refused-exactly : (s : List ℕ) (n : Refusal)
     → (readPicture s .refusal ≡ numberOf n) ↔ Given (pictureRows s) n
-picture-refused-exactly = meaning.picture-refused-exactly
+picture-refused-exactly s = meaning.picture-refuses s .refused-exactly
 
 -- A picture is accepted exactly when none of the four tests holds.
 pub picture-accepted-exactly : (s : List ℕ) → (readPicture s .refusal ≡ done) ↔ NoneHolds (pictureRows s)
-picture-accepted-exactly = meaning.picture-accepted-exactly
+picture-accepted-exactly s = meaning.picture-refuses s .accepted-exactly
 
 -- BAD HEADER carries the offset of the first byte that cannot stand there, or the input's length if it ends early: some
 -- header has the bytes before that place and goes on, and none has the byte at that place too.
@@ -63,7 +63,7 @@ bad-raster-exactly = meaning.bad-raster-exactly
 -- A refusal answers its number, the offset, and zeros.
 pub picture-refused-answers : (s : List ℕ) (n : Refusal) → readPicture s .refusal ≡ numberOf n
     → readPicture s ≡ refusedPicture (numberOf n) (offsetIn (headerOf s))
-picture-refused-answers = meaning.picture-refused-answers
+picture-refused-answers s = meaning.picture-refuses s .refused-is
 
 -- Without BAD HEADER the offset is zero.
 pub offset-zero : (s : List ℕ) → badHeader s ≡ false → readPicture s .offset ≡ 0

@@ -8,8 +8,8 @@ use native.Mathlib.Omega.{arith}
 use lib.ListN.{length, getD}
 use borrow.Author.Tests.{ltb-true, ltb-false, lt-ltb}
 use Rattle.number.proofs.Fills.{fill-at, fill-kept}
-use Rattle.refusal.specs.{Refusal, numberOf, done, Given, NoneHolds}
-use Rattle.refusal.proofs.Outcomes.{refused-exactly, accepted-exactly, accepted-is-made, refused-is-so}
+use Rattle.refusal.specs.{Refusal, numberOf, done, Refuses}
+use Rattle.refusal.proofs.Outcomes.{refuses}
 use Rattle.colour.specs.{mostLevel, mostCoordinate, sixteenth}
 use Rattle.shades.specs.{mostShades}
 use Rattle.shades.proofs.Checks.{bad-coordinates-exactly}
@@ -50,43 +50,26 @@ pub short-palette-exactly : (s d : List ℕ) → (shortPalette s d ≡ true) ↔
 short-palette-exactly s d = (ltb-true _ _, lt-ltb _ _)
 
 module _ (s d : List ℕ) where
-  -- each refusal is given exactly when its row is the first that holds
-  pub palette-refused-exactly : (n : Refusal)
-      → (paletteFromShades s d .answer ≡ numberOf n) ↔ Given (paletteRows s d) n
+  -- making a palette refuses by its rows: it is made, or no byte changes
+  pub palette-refuses : Refuses (paletteRows s d) (paletteFromShades s d) (λ o. o .answer) (madePalette s d)
+      (keptPalette d)
   unfolding paletteFromShades
-  palette-refused-exactly =
-      refused-exactly (paletteRows s d) (madePalette s d) (keptPalette d) (λ (o : PaletteOutcome). o .answer) refl
-      (λ n. refl)
-
-  -- and none exactly when no row holds
-  pub palette-accepted-exactly : (paletteFromShades s d .answer ≡ done) ↔ NoneHolds (paletteRows s d)
-  unfolding paletteFromShades
-  palette-accepted-exactly =
-      accepted-exactly (paletteRows s d) (madePalette s d) (keptPalette d) (λ (o : PaletteOutcome). o .answer) refl
-      (λ n. refl)
+  palette-refuses = refuses _ _ _ _ refl (λ n. refl)
 
   -- a refusal leaves every byte
   pub palette-refused-kept : (n : Refusal) → paletteFromShades s d .answer ≡ numberOf n
       → paletteFromShades s d .palette ≡ d
-  unfolding paletteFromShades
-  palette-refused-kept n e =
-      ap (λ (o : PaletteOutcome). o .palette)
-      (refused-is-so (paletteRows s d) (madePalette s d) (keptPalette d) (λ (o : PaletteOutcome). o .answer) refl
-      (λ n. refl) n e)
+  palette-refused-kept n e = ap (λ (o : PaletteOutcome). o .palette) (palette-refuses .refused-is n e)
 
   module _ (ok : paletteFromShades s d .answer ≡ done) where
     -- what is accepted is made
     made : paletteFromShades s d .palette ≡ paletteOf s d
-    unfolding paletteFromShades
-    made =
-        ap (λ (o : PaletteOutcome). o .palette)
-        (accepted-is-made (paletteRows s d) (madePalette s d) (keptPalette d) (λ (o : PaletteOutcome). o .answer) refl
-        (λ n. refl) ok)
+    made = ap (λ (o : PaletteOutcome). o .palette) (palette-refuses .accepted-is ok)
 
     -- there is a byte for each coordinate
     room : length s ≤ length d
     room =
-        let none = palette-accepted-exactly .0 ok in
+        let none = palette-refuses .accepted-exactly .0 ok in
         let whole = bad-coordinates-exactly (length s) .0 (none .0) in
         omega (arith, whole .2, ltb-false (length d) (3 * (length s / 3)) (none .1 .1 .0))
 

@@ -26,11 +26,11 @@ palette-only s d a b = (a .answer ∙ sym (b .answer), a .palette-is ∙ sym (b 
 -- A refusal is given exactly when its row is the first of 4, 8, 7 whose test holds.
 pub palette-refused-exactly : (s d : List ℕ) (n : Refusal)
     → (paletteFromShades s d .answer ≡ numberOf n) ↔ Given (paletteRows s d) n
-palette-refused-exactly = meaning.palette-refused-exactly
+palette-refused-exactly s d = meaning.palette-refuses s d .refused-exactly
 
 -- A palette is made exactly when none of the three tests holds.
 pub palette-accepted-exactly : (s d : List ℕ) → (paletteFromShades s d .answer ≡ done) ↔ NoneHolds (paletteRows s d)
-palette-accepted-exactly = meaning.palette-accepted-exactly
+palette-accepted-exactly s d = meaning.palette-refuses s d .accepted-exactly
 
 -- The test of SHORT ROOM holds exactly when the palette bytes are fewer than 3 for each shade.
 pub short-palette-exactly : (s d : List ℕ) → (shortPalette s d ≡ true) ↔ (length d < 3 * (length s / 3))

@@ -1,6 +1,6 @@
 -- What `firstOf` answers, from what its rows say: by going down the rows with the value of each test.
 use mathlib.Core.Path.{_≡_, refl, sym, _∙_}
-use mathlib.Core.List.{List, [], _∷_}
+use mathlib.Core.List.{List, [], _∷_, _++_}
 use mathlib.Core.Logic.{_⊎_, inl, inr, ⊎-elim}
 use Rattle.number.proofs.Cases.{bool}
 use Rattle.refusal.specs.Numbers.{Refusal, numberOf, done}
@@ -39,6 +39,13 @@ none-of-first [] e = tt
 none-of-first (r ∷ rows) e =
     ⊎-elim (λ t. absurd (number-not-done (r .gives) (rw t at e)))
     (λ t. (t, none-of-first rows (rw t at e))) (bool (r .when))
+
+-- ---- rows and then more rows
+
+-- where no test holds, none of the first rows does
+pub none-front : (rows more : List Row) → NoneHolds (rows ++ more) → NoneHolds rows
+none-front [] more g = tt
+none-front (r ∷ rows) more (t, g) = (t, none-front rows more g)
 
 -- ---- one of the two
 

@@ -3,15 +3,16 @@
 use Prim.Native.Nat.{ℕ}
 use mathlib.Core.Bool.{Bool, true, false, cond}
 use mathlib.Core.List.{List}
-use mathlib.Core.Logic.{_↔_, inl, inr}
+use mathlib.Core.Logic.{inl, inr}
 use mathlib.Core.Path.{_≡_, sym, _∙_}
 use lib.Dec.{eqb}
 use borrow.Author.Tests.{eqb-true, ne-eqb}
 use Rattle.number.proofs.Cases.{bool}
 use Rattle.refusal.specs.Numbers.{Refusal, numberOf, done}
-use Rattle.refusal.specs.Order.{Row, firstOf, outcomeOf, Given, NoneHolds}
+use Rattle.refusal.specs.Order.{Row, firstOf, outcomeOf}
+use Rattle.refusal.specs.Calls.{Refuses}
 use Rattle.refusal.proofs.Numbers.{number-not-done}
-use Rattle.refusal.proofs.Promises.{first-exactly, done-exactly}
+use Rattle.refusal.proofs.Promises.{first-exactly, done-exactly, done-or-refusal}
 
 module _ {A : Type 0} (rows : List Row) (made : A) (refused : ℕ → A) where
   -- where nothing is refused it is made
@@ -38,19 +39,23 @@ module _ {A : Type 0} (rows : List Row) (made : A) (refused : ℕ → A) where
       | inr t ↦ rw t (refused-is (firstOf rows))
     ]
 
-    -- each refusal is given exactly when its row is the first that holds
-    pub refused-exactly : (n : Refusal) → (number (outcomeOf rows made refused) ≡ numberOf n) ↔ Given rows n
-    refused-exactly n = rw outcome-number (first-exactly rows n)
+    -- a call whose outcome is made by the order refuses by it
+    pub refuses : Refuses rows (outcomeOf rows made refused) number made refused
+    refuses = record {
+      refused-exactly = λ n. rw outcome-number (first-exactly rows n);
+      accepted-exactly = rw outcome-number (done-exactly rows);
+      refused-is = λ n e. outcome-refused n (sym outcome-number ∙ e);
+      accepted-is = λ e. outcome-made (sym outcome-number ∙ e);
+      number-is = outcome-number;
+      by-refusal = outcome-refused;
+      by-none = outcome-made;
+    }
 
-    -- and none exactly when no row holds
-    pub accepted-exactly : (number (outcomeOf rows made refused) ≡ done) ↔ NoneHolds rows
-    accepted-exactly = rw outcome-number (done-exactly rows)
-
-    -- whatever is accepted is made
-    pub accepted-is-made : number (outcomeOf rows made refused) ≡ done → outcomeOf rows made refused ≡ made
-    accepted-is-made e = outcome-made (sym outcome-number ∙ e)
-
-    -- whatever is refused is what `refused` says for its number
-    pub refused-is-so : (n : Refusal) → number (outcomeOf rows made refused) ≡ numberOf n
-        → outcomeOf rows made refused ≡ refused (numberOf n)
-    refused-is-so n e = outcome-refused n (sym outcome-number ∙ e)
+-- whatever holds of what is made and of everything left holds of the outcome of a call that refuses by an order
+pub refuses-all : {A : Type 0} {rows : List Row} {outcome : A} {number : A → ℕ} {made : A} {left : ℕ → A}
+    → Refuses rows outcome number made left → (P : A → Type 0) → P made → ((n : Refusal) → P (left (numberOf n)))
+    → P outcome
+refuses-all {rows} r P m l = elim (done-or-refusal rows) [
+  | inl e ↦ rw (r .by-none e) m
+  | inr g ↦ rw (r .by-refusal (g .0) (g .1)) (l (g .0))
+]

@@ -7,8 +7,10 @@
 --   outcomeOf rows made refused   the outcome of a call: `made`, or what `refused` says for that number
 --   Given rows r       r is the refusal of the first row whose test holds
 --   NoneHolds rows     no row's test holds
+--   Refuses rows outcome number made left   a call refuses by an order: `made`, or what is `left` for the first refusal
 pub mod Numbers
 pub mod Order
+pub mod Calls
 unfoldable pub use Numbers.{numberOf, done}
 pub use Numbers.{
   Refusal,
@@ -30,3 +32,4 @@ pub use Numbers.{
 }
 unfoldable pub use Order.{row, firstOf, outcomeOf, Given, NoneHolds}
 pub use Order.{Row}
+pub use Calls.{Refuses}

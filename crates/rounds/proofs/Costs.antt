@@ -12,7 +12,7 @@ use Rattle.number.proofs.Sums.{sum-add, sum-none}
 use Rattle.colour.specs.{Point, Within, distance, mostCoordinate}
 use Rattle.colour.proofs.Distances.{each}
 use Rattle.rounds.specs.Colouring.{Colours, on, pixelsIn, sumsOf, leastOf, costAt, meanOf, drawn}
-use Rattle.rounds.specs.Rounding.{toMean, NoDearer, KeepsGrid}
+use Rattle.rounds.specs.Rounding.{toMean, GoodRule, Means}
 
 -- a shade costs what its three coordinates cost
 pub cost-coordinates : (C : Colours) (z : Point)
@@ -107,15 +107,18 @@ to-mean-least q G y z = go (pixelsIn G) refl
     go zero e = omega (arith, empty-costs-nothing G e (toMean q G y))
     go (suc w) e = rw (to-mean-moves q G y (omega arith)) (mean-costs-least G (omega arith) z)
 
--- so it costs the group no more than staying
-pub to-mean-no-dearer : NoDearer toMean
-to-mean-no-dearer = record { no-dearer = λ q G z. to-mean-least q G z z }
-
--- and keeps to the grid
-pub to-mean-keeps-grid : KeepsGrid toMean
-to-mean-keeps-grid = record { keeps = λ q G z h w. go q G z h w (pixelsIn G) refl }
+-- so it costs the group no more than staying; and it keeps to the grid
+pub to-mean-good : GoodRule toMean
+to-mean-good = record {
+  no-dearer = λ q G z. to-mean-least q G z z;
+  keeps = λ q G z h w. go q G z h w (pixelsIn G) refl;
+}
   where
     go : (q : ℕ) (G : Colours) (z : Point) → ((i : ℕ) → Within mostCoordinate (G .c i)) → Within mostCoordinate z
         → (n : ℕ) → pixelsIn G ≡ n → Within mostCoordinate (toMean q G z)
     go q G z h w zero e = rw (to-mean-stays q G z e) w
     go q G z h w (suc n) e = rw (to-mean-moves q G z (omega arith)) (mean-within G mostCoordinate h (omega arith))
+
+-- it goes to the mean from shade 0 on
+pub to-mean-means : Means 0 toMean
+to-mean-means = record { means = λ q G z free. refl }

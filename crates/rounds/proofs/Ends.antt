@@ -1,9 +1,10 @@
--- What a round by Lloyd's rule leaves: each shade is the best of the grid for its group and near the least, and where
--- no shade moved the grouping costs just the round's total.
+-- What a round leaves. By a rule that goes to the mean from shade f on, each shade from there is the best of the grid
+-- for its group and near the least. By any rule, where no shade moved the grouping costs just the round's total.
 use mathlib.Core.Bool.{cond, not}
 use mathlib.Core.Path.{_≡_, refl, sym, ap, ap₂, _∙_}
 use Prim.Native.Nat.{ℕ, zero, suc, _*_, _≤_, _<_}
 use native.Mathlib.Decide.{decLt}
+use native.Mathlib.Nat.{le-refl}
 use native.Mathlib.Omega.{arith}
 use lib.Dec.{eqb, ltb}
 use lib.ListN.{getD}
@@ -20,6 +21,7 @@ use Rattle.rounds.specs.Colouring.{Colours, pixelsIn, costAt, meanOf, gr
 use Rattle.rounds.specs.Rounding.{
   Rule,
   toMean,
+  Means,
   State,
   joins,
   groupIn,
@@ -72,68 +74,80 @@ empty-bounded G z e =
     let none = empty-costs-nothing G e z in
     record { at-least = cost-at-least G z; at-most = rw none (omega arith); empty = λ n. none }
 
-module _ (C : Colours) (k : ℕ) (a : State) (f : Fit C k a) where
-  -- each shade stands where Lloyd's rule puts it for its members
-  shade-is : (q : ℕ) → q < k
-      → shadeAt (step toMean C k a .coordinates) q
-      ≡ toMean q (groupAt C (step toMean C k a) q) (shadeAt (a .coordinates) q)
-  shade-is q h =
-      shade-moved C k a f toMean q h
-      ∙ sym (to-mean-same C _ (joins C k (a .coordinates)) q (shadeAt (a .coordinates) q) (member-joined C k a f))
+-- ---- what a round by any rule leaves
 
-  -- a shade with a group stands on its rounded mean
-  pub shade-on-mean : (q : ℕ) → q < k → 0 < pixelsIn (groupAt C (step toMean C k a) q)
-      → shadeAt (step toMean C k a .coordinates) q ≡ meanOf (groupAt C (step toMean C k a) q)
-  shade-on-mean q h pos =
-      shade-is q h ∙ to-mean-moves q (groupAt C (step toMean C k a) q) (shadeAt (a .coordinates) q) pos
-
-  -- no place is better for its group
-  pub shade-best : (q : ℕ) → q < k → (z : Point)
-      → groupCost C (step toMean C k a) q ≤ costAt (groupAt C (step toMean C k a) q) z
-  shade-best q h z =
-      rw (shade-is q h) (to-mean-least q (groupAt C (step toMean C k a) q) (shadeAt (a .coordinates) q) z)
-
+module _ (rule : Rule) (C : Colours) (k : ℕ) (a : State) (fit : Fit C k a) where
   -- a number past the shades has no group
-  past-empty : (q : ℕ) → k ≤ q → pixelsIn (groupAt C (step toMean C k a) q) ≡ 0
+  past-empty : (q : ℕ) → k ≤ q → pixelsIn (groupAt C (step rule C k a) q) ≡ 0
   past-empty q h =
       sum-eq (C .n) _ (λ i. 0)
       (λ i l. ap (λ t. cond t (C .w i) 0)
-      (ne-eqb (getD (step toMean C k a .members) i 0) q (λ e. omega (arith, grouped-below C k a f i l))))
+      (ne-eqb (getD (step rule C k a .members) i 0) q (λ e. omega (arith, grouped-below C k a fit i l))))
       ∙ sum-zero (C .n)
-
-  -- its cost is bounded by the least of fractional shades, from both sides
-  pub shade-bounded : (q : ℕ) → Bounded (groupAt C (step toMean C k a) q) (groupCost C (step toMean C k a) q)
-  shade-bounded q = go (pixelsIn (groupAt C (step toMean C k a) q)) refl (decLt q k)
-    where
-      go : (w : ℕ) → pixelsIn (groupAt C (step toMean C k a) q) ≡ w → Dec (q < k)
-          → Bounded (groupAt C (step toMean C k a) q) (groupCost C (step toMean C k a) q)
-      go zero e h = empty-bounded (groupAt C (step toMean C k a) q) _ e
-      go (suc w) e (yes h) =
-          record {
-            at-least = cost-at-least (groupAt C (step toMean C k a) q) (shadeAt (step toMean C k a .coordinates) q);
-            at-most = rw (shade-on-mean q h (omega arith))
-                (mean-cost-at-most (groupAt C (step toMean C k a) q) (omega arith));
-            empty = λ n. absurd (omega arith);
-          }
-      go (suc w) e (no h) = absurd (omega (arith, past-empty q (omega arith)))
 
   -- the members against any places of the shades, group by group
   pub spent-by-groups : (s : ℕ → Point)
-      → sum (C .n) (λ i. C .w i * distance (C .c i) (s (getD (step toMean C k a .members) i 0)))
-      ≡ sum k (λ q. costAt (groupAt C (step toMean C k a) q) (s q))
+      → sum (C .n) (λ i. C .w i * distance (C .c i) (s (getD (step rule C k a .members) i 0)))
+      ≡ sum k (λ q. costAt (groupAt C (step rule C k a) q) (s q))
   spent-by-groups s =
-      total-by-groups C k (λ i. getD (step toMean C k a .members) i 0) s (grouped-below C k a f)
+      total-by-groups C k (λ i. getD (step rule C k a .members) i 0) s (grouped-below C k a fit)
 
   -- the final total is the sum of what the groups cost
-  pub final-by-groups : finalOf C (step toMean C k a) ≡ sum k (groupCost C (step toMean C k a))
-  final-by-groups = spent-by-groups (shadeAt (step toMean C k a .coordinates))
+  pub final-by-groups : finalOf C (step rule C k a) ≡ sum k (groupCost C (step rule C k a))
+  final-by-groups = spent-by-groups (shadeAt (step rule C k a .coordinates))
 
-  -- no other shades give this grouping a smaller total
-  pub final-least : (s : ℕ → Point)
-      → finalOf C (step toMean C k a)
-      ≤ sum (C .n) (λ i. C .w i * distance (C .c i) (s (getD (step toMean C k a .members) i 0)))
-  final-least s =
-      omega (arith, final-by-groups, spent-by-groups s, sum-le k _ _ (λ q h. shade-best q h (s q)))
+  -- ---- and what one leaves that goes to the mean from shade f on
+
+  module _ (f : ℕ) (mean : Means f rule) where
+    -- each shade from there stands where Lloyd's rule puts it for its members
+    shade-is : (q : ℕ) → f ≤ q → q < k
+        → shadeAt (step rule C k a .coordinates) q
+        ≡ toMean q (groupAt C (step rule C k a) q) (shadeAt (a .coordinates) q)
+    shade-is q free h =
+        shade-moved C k a fit rule q h
+        ∙ mean .means q (groupIn C k a q) (shadeAt (a .coordinates) q) free
+        ∙ sym (to-mean-same C _ (joins C k (a .coordinates)) q (shadeAt (a .coordinates) q) (member-joined C k a fit))
+
+    -- one with a group stands on its rounded mean
+    pub shade-on-mean : (q : ℕ) → f ≤ q → q < k → 0 < pixelsIn (groupAt C (step rule C k a) q)
+        → shadeAt (step rule C k a .coordinates) q ≡ meanOf (groupAt C (step rule C k a) q)
+    shade-on-mean q free h pos =
+        shade-is q free h ∙ to-mean-moves q (groupAt C (step rule C k a) q) (shadeAt (a .coordinates) q) pos
+
+    -- no place is better for its group
+    pub shade-best : (q : ℕ) → f ≤ q → q < k → (z : Point)
+        → groupCost C (step rule C k a) q ≤ costAt (groupAt C (step rule C k a) q) z
+    shade-best q free h z =
+        rw (shade-is q free h) (to-mean-least q (groupAt C (step rule C k a) q) (shadeAt (a .coordinates) q) z)
+
+    -- its cost is bounded by the least of fractional shades, from both sides
+    pub shade-bounded : (q : ℕ) → f ≤ q
+        → Bounded (groupAt C (step rule C k a) q) (groupCost C (step rule C k a) q)
+    shade-bounded q free = go (pixelsIn (groupAt C (step rule C k a) q)) refl (decLt q k)
+      where
+        go : (w : ℕ) → pixelsIn (groupAt C (step rule C k a) q) ≡ w → Dec (q < k)
+            → Bounded (groupAt C (step rule C k a) q) (groupCost C (step rule C k a) q)
+        go zero e h = empty-bounded (groupAt C (step rule C k a) q) _ e
+        go (suc w) e (yes h) =
+            record {
+              at-least = cost-at-least (groupAt C (step rule C k a) q) (shadeAt (step rule C k a .coordinates) q);
+              at-most = rw (shade-on-mean q free h (omega arith))
+                  (mean-cost-at-most (groupAt C (step rule C k a) q) (omega arith));
+              empty = λ n. absurd (omega arith);
+            }
+        go (suc w) e (no h) = absurd (omega (arith, past-empty q (omega arith)))
+
+    -- with the shades below f where they are, no other shades give this grouping a smaller total
+    pub final-least : (s : ℕ → Point) → ((q : ℕ) → q < f → s q ≡ shadeAt (step rule C k a .coordinates) q)
+        → finalOf C (step rule C k a)
+        ≤ sum (C .n) (λ i. C .w i * distance (C .c i) (s (getD (step rule C k a .members) i 0)))
+    final-least s fixed =
+        omega (arith, final-by-groups, spent-by-groups s, sum-le k _ _ (λ q h. better q h (decLt q f)))
+      where
+        better : (q : ℕ) → q < k → Dec (q < f)
+            → groupCost C (step rule C k a) q ≤ costAt (groupAt C (step rule C k a) q) (s q)
+        better q h (yes l) = rw (fixed q l) (le-refl _)
+        better q h (no l) = shade-best q (omega arith) h (s q)
 
 -- ---- a round that moves no shade, by any rule
 

@@ -15,8 +15,7 @@ use Rattle.shades.proofs.Nearest.{nearest-below}
 use Rattle.rounds.specs.Colouring.{Colours, costAt, Fair}
 use Rattle.rounds.specs.Rounding.{
   Rule,
-  NoDearer,
-  KeepsGrid,
+  GoodRule,
   State,
   joins,
   grouped,
@@ -63,7 +62,7 @@ module _ (C : Colours) (k : ℕ) (a : State) (f : Fit C k a) where
         (λ i l. nearest-below (a .coordinates) k (C .c i) (f .some))
 
     -- what a round leaves costs no more than its total
-    pub final-at-most-total : NoDearer rule → finalOf C (step rule C k a) ≤ totalOf C k a
+    pub final-at-most-total : GoodRule rule → finalOf C (step rule C k a) ≤ totalOf C k a
     final-at-most-total n =
         omega (
           arith,
@@ -78,7 +77,7 @@ module _ (C : Colours) (k : ℕ) (a : State) (f : Fit C k a) where
         nearest-total-least C k (step rule C k a .coordinates) (λ i. getD (grouped C k a) i 0) grouped-below
 
     -- a round leaves a state fit for the next
-    pub step-fit : KeepsGrid rule → Fair C → Fit C k (step rule C k a)
+    pub step-fit : GoodRule rule → Fair C → Fit C k (step rule C k a)
     step-fit g fair = record {
       some = f .some;
       shades = record {
@@ -100,17 +99,17 @@ module _ (rule : Rule) (C : Colours) (k : ℕ) (a : State) where
   unfolding after
   after-more r = rw (add-one r)
 
-  module _ (grid : KeepsGrid rule) (fair : Fair C) (f : Fit C k a) where
+  module _ (good : GoodRule rule) (fair : Fair C) (f : Fit C k a) where
     -- each round leaves a state fit for the next
     pub after-fit : (r : ℕ) → Fit C k (after rule C k a r)
     unfolding after
     after-fit zero = f
-    after-fit (suc r) = step-fit C k (after rule C k a r) (after-fit r) rule grid fair
+    after-fit (suc r) = step-fit C k (after rule C k a r) (after-fit r) rule good fair
 
-    module _ (cheap : NoDearer rule) (r : ℕ) where
+    module _ (r : ℕ) where
       -- what round r leaves costs no more than its total
       pub rounds-end : finalOf C (after rule C k a (r + 1)) ≤ totalOf C k (after rule C k a r)
-      rounds-end = rw (after-more r) (final-at-most-total C k (after rule C k a r) (after-fit r) rule cheap)
+      rounds-end = rw (after-more r) (final-at-most-total C k (after rule C k a r) (after-fit r) rule good)
 
       -- no round's total is above that of the round before
       pub rounds-fall : totalOf C k (after rule C k a (r + 1)) ≤ totalOf C k (after rule C k a r)

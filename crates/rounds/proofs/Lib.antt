@@ -8,7 +8,7 @@ pub mod Totals
 pub mod Falls
 -- The bounds of several groups, added up as a fraction.
 pub mod Bounds
--- What a round by Lloyd's rule leaves, and a round that moves no shade.
+-- What a round leaves, by a rule that goes to the mean from some shade on; and a round that moves no shade.
 pub mod Ends
 -- How many rounds a run makes.
 pub mod Runs

@@ -7,12 +7,22 @@ use Rattle.number.specs.{sum, sumOf, most, Best}
 use Rattle.number.proofs.Promises.{most-is-best, best-is-most}
 use Rattle.colour.specs.{Point, distance}
 use Rattle.rounds.specs.Colouring.{Colours, Fair, pixelsIn, sumsOf, leastOf, costAt, meanOf, groupOf, drawn}
-use Rattle.rounds.specs.Rounding.{Rule, toMean, NoDearer, KeepsGrid, State, Fit, totalOf, finalOf, after}
-use Rattle.rounds.specs.Starting.{remote}
-use Rattle.rounds.specs.Leasts.{Bounded, SumBounded, leastSum}
+use Rattle.rounds.specs.Rounding.{
+  Rule,
+  toMean,
+  GoodRule,
+  State,
+  Fit,
+  totalOf,
+  finalOf,
+  after,
+}
+use Rattle.rounds.specs.Starting.{Base, remote, nextShade}
+use Rattle.rounds.specs.Leasts.{Bounded, SumBounded, leastSum, From}
 use Rattle.rounds.proofs.Bounds as bounds
 use Rattle.rounds.proofs.Costs as costs
 use Rattle.rounds.proofs.Falls as falls
+use Rattle.rounds.proofs.Startings as startings
 use Rattle.rounds.proofs.Totals as totals
 
 -- ---- starting shades
@@ -29,26 +39,32 @@ pub farthest-only : (n : ℕ) (c : ℕ → Point) (k : ℕ) (s : List ℕ) → 0
     → Best (λ a b. b < a) (λ j. j < n) (λ j. remote s k (c j)) i d → i ≡ most n (λ j. remote s k (c j))
 farthest-only n c k s h b = best-is-most n (λ j. remote s k (c j)) h b
 
+-- Below their number a given shade is the next.
+pub next-is-given : (B : Base) (n : ℕ) (c : ℕ → Point) (k : ℕ) (s : List ℕ) → k < B .given
+    → nextShade B n c k s ≡ B .at k
+next-is-given = startings.next-given
+
+-- From there on the farthest colour is.
+pub next-is-chosen : (B : Base) (n : ℕ) (c : ℕ → Point) (k : ℕ) (s : List ℕ) → B .given ≤ k
+    → nextShade B n c k s ≡ c (most n (λ i. remote s k (c i)))
+next-is-chosen = startings.next-chosen
+
 -- ---- totals never rise
 
 -- By any rule that keeps to the grid and costs a group no more than staying, no round's total is above that of the
 -- round before.
-pub rounds-fall : (rule : Rule) (C : Colours) (k : ℕ) (a : State) → KeepsGrid rule → Fair C → Fit C k a
-    → NoDearer rule → (r : ℕ) → totalOf C k (after rule C k a (r + 1)) ≤ totalOf C k (after rule C k a r)
+pub rounds-fall : (rule : Rule) (C : Colours) (k : ℕ) (a : State) → GoodRule rule → Fair C → Fit C k a
+    → (r : ℕ) → totalOf C k (after rule C k a (r + 1)) ≤ totalOf C k (after rule C k a r)
 rounds-fall = falls.rounds-fall
 
 -- And what a round leaves, its grouping against the moved shades, costs no more than its total.
-pub rounds-end : (rule : Rule) (C : Colours) (k : ℕ) (a : State) → KeepsGrid rule → Fair C → Fit C k a
-    → NoDearer rule → (r : ℕ) → finalOf C (after rule C k a (r + 1)) ≤ totalOf C k (after rule C k a r)
+pub rounds-end : (rule : Rule) (C : Colours) (k : ℕ) (a : State) → GoodRule rule → Fair C → Fit C k a
+    → (r : ℕ) → finalOf C (after rule C k a (r + 1)) ≤ totalOf C k (after rule C k a r)
 rounds-end = falls.rounds-end
 
 -- Lloyd's rule is such a rule.
-pub to-mean-no-dearer : NoDearer toMean
-to-mean-no-dearer = costs.to-mean-no-dearer
-
--- It keeps to the grid.
-pub to-mean-keeps-grid : KeepsGrid toMean
-to-mean-keeps-grid = costs.to-mean-keeps-grid
+pub to-mean-good : GoodRule toMean
+to-mean-good = costs.to-mean-good
 
 -- ---- a group
 
@@ -74,9 +90,9 @@ mean-cost-at-most = costs.mean-cost-at-most
 pub empty-costs-nothing : (G : Colours) → pixelsIn G ≡ 0 → (z : Point) → costAt G z ≡ 0
 empty-costs-nothing = costs.empty-costs-nothing
 
--- Groups that are bounded each are bounded in sum, over any list of them.
-pub sum-bounded : (G : ℕ → Colours) (cost : ℕ → ℕ) (qs : List ℕ) → ((q : ℕ) → Bounded (G q) (cost q))
-    → SumBounded (leastSum G qs) (sumOf (λ q. pixelsIn (G q)) qs) (sumOf cost qs)
+-- Groups from shade f on that are bounded each are bounded in sum, over any list of them.
+pub sum-bounded : (f : ℕ) (G : ℕ → Colours) (cost : ℕ → ℕ) (qs : List ℕ) → From f qs
+    → ((q : ℕ) → f ≤ q → Bounded (G q) (cost q)) → SumBounded (leastSum G qs) (sumOf (λ q. pixelsIn (G q)) qs) (sumOf cost qs)
 sum-bounded = bounds.sum-bounded
 
 -- ---- fractional shades

@@ -1,17 +1,21 @@
 -- The starting shades: a list over the front of another, and the starts one by one.
 use Prim.Native.Nat.{ℕ, zero, suc, _+_, _*_, _≤_, _<_}
+use mathlib.Core.Bool.{Bool, true, false, cond}
 use mathlib.Core.List.{List, [], _∷_, _++_, append-assoc}
 use mathlib.Core.Logic.{⊎-elim}
 use mathlib.Core.Path.{_≡_, refl, sym, ap, _∙_}
 use native.Mathlib.Numerals.{add-one}
 use native.Mathlib.Omega.{arith}
+use lib.Dec.{ltb}
 use lib.ListN.{length, getD, set, length-append, List·getD-append}
 use lib.Seq.{getD-append-add}
+use borrow.Author.Tests.{lt-ltb, le-ltb}
 use Rattle.number.specs.{most}
 use Rattle.number.proofs.Searches.{below-or-last}
 use Rattle.colour.specs.{Point, Within, mostCoordinate}
 use Rattle.shades.specs.{shadeAt, putShade, OnGrid}
-use Rattle.rounds.specs.Starting.{remote, flat, nextShade, startsFrom, over}
+use Rattle.shades.proofs.Laying.{shade-within}
+use Rattle.rounds.specs.Starting.{Base, remote, flat, listed, nextShade, startsFrom, over}
 
 -- ---- a list over the front of another
 
@@ -96,49 +100,67 @@ join-low (x ∷ l) r h g zero = h zero
 join-low (x ∷ l) r h g (suc i) = join-low l r (λ j. h (suc j)) g i
 
 -- the coordinates of a point on the grid
-flat-low : (p : Point) → Within mostCoordinate p → OnGrid (flat p)
+pub flat-low : (p : Point) → Within mostCoordinate p → OnGrid (flat p)
 flat-low p w zero = w .r-low
 flat-low p w (suc zero) = w .g-low
 flat-low p w (suc (suc zero)) = w .b-low
 flat-low p w (suc (suc (suc i))) = omega arith
 
+-- ---- given shades
+
+-- the shades of a list on the grid are on the grid
+pub listed-within : (l : List ℕ) → OnGrid l → (q : ℕ) → Within mostCoordinate (listed l .at q)
+listed-within l low q = shade-within l q low
+
 -- ---- the starts
 
-module _ (m : Point) (n : ℕ) (c : ℕ → Point) where
+module _ (B : Base) (n : ℕ) (c : ℕ → Point) where
   -- three coordinates for each start
-  pub starts-length : (k : ℕ) → length (startsFrom m n c k) ≡ 3 * k
+  pub starts-length : (k : ℕ) → length (startsFrom B n c k) ≡ 3 * k
   unfolding startsFrom
   starts-length zero = refl
   starts-length (suc k) = simp length-append (omega (arith, starts-length k))
 
   -- start number q is the shade after the first q, whatever the number of starts
-  pub shade-of-starts : (k q : ℕ) → q < k → shadeAt (startsFrom m n c k) q ≡ nextShade m n c q (startsFrom m n c q)
+  pub shade-of-starts : (k q : ℕ) → q < k → shadeAt (startsFrom B n c k) q ≡ nextShade B n c q (startsFrom B n c q)
   unfolding startsFrom
   shade-of-starts zero q h = absurd (omega arith)
   shade-of-starts (suc k) q h =
       ⊎-elim
-      (λ l. shade-in-first (startsFrom m n c k) _ k q (starts-length k) l ∙ shade-of-starts k q l)
-      (λ e. rw e (shade-joined (startsFrom m n c k) k (nextShade m n c k (startsFrom m n c k)) (starts-length k)))
+      (λ l. shade-in-first (startsFrom B n c k) _ k q (starts-length k) l ∙ shade-of-starts k q l)
+      (λ e. rw e (shade-joined (startsFrom B n c k) k (nextShade B n c k (startsFrom B n c k)) (starts-length k)))
       (below-or-last k q (omega arith))
 
   -- the starts over the front of a list, and the next one stored after them
   pub starts-more : (k : ℕ) (d : List ℕ) → 3 * k + 2 < length d
-      → putShade (over (startsFrom m n c k) d) k (nextShade m n c k (startsFrom m n c k))
-      ≡ over (startsFrom m n c (k + 1)) d
+      → putShade (over (startsFrom B n c k) d) k (nextShade B n c k (startsFrom B n c k))
+      ≡ over (startsFrom B n c (k + 1)) d
   unfolding startsFrom
-  starts-more k d h = rw (add-one k) (over-put (startsFrom m n c k) d k _ (starts-length k) h)
+  starts-more k d h = rw (add-one k) (over-put (startsFrom B n c k) d k _ (starts-length k) h)
 
-  -- from a first shade on the grid and colours on the grid, every next shade is on it
-  pub next-within : (k : ℕ) (s : List ℕ) → Within mostCoordinate m → ((i : ℕ) → Within mostCoordinate (c i))
-      → Within mostCoordinate (nextShade m n c k s)
-  next-within zero s w h = w
-  next-within (suc k) s w h = h (most n (λ i. remote s (suc k) (c i)))
+  -- below their number stands a given shade
+  pub next-given : (k : ℕ) (s : List ℕ) → k < B .given → nextShade B n c k s ≡ B .at k
+  next-given k s h = rw (lt-ltb k (B .given) h)
+
+  -- and from there on a colour
+  pub next-chosen : (k : ℕ) (s : List ℕ) → B .given ≤ k
+      → nextShade B n c k s ≡ c (most n (λ i. remote s k (c i)))
+  next-chosen k s h = rw (le-ltb k (B .given) h)
+
+  -- from given shades on the grid and colours on the grid, every next shade is on it
+  pub next-within : (k : ℕ) (s : List ℕ) → ((q : ℕ) → Within mostCoordinate (B .at q))
+      → ((i : ℕ) → Within mostCoordinate (c i)) → Within mostCoordinate (nextShade B n c k s)
+  next-within k s w h = go (ltb k (B .given))
+    where
+      go : (t : Bool) → Within mostCoordinate (cond t (B .at k) (c (most n (λ i. remote s k (c i)))))
+      go true = w k
+      go false = h (most n (λ i. remote s k (c i)))
 
   -- and so are the coordinates of the starts
-  pub starts-low : (k : ℕ) → Within mostCoordinate m → ((i : ℕ) → Within mostCoordinate (c i))
-      → OnGrid (startsFrom m n c k)
+  pub starts-low : (k : ℕ) → ((q : ℕ) → Within mostCoordinate (B .at q)) → ((i : ℕ) → Within mostCoordinate (c i))
+      → OnGrid (startsFrom B n c k)
   unfolding startsFrom
   starts-low zero w h = λ i. omega arith
   starts-low (suc k) w h =
-      let s = startsFrom m n c k in
-      join-low s (flat (nextShade m n c k s)) (starts-low k w h) (flat-low (nextShade m n c k s) (next-within k s w h))
+      let s = startsFrom B n c k in
+      join-low s (flat (nextShade B n c k s)) (starts-low k w h) (flat-low (nextShade B n c k s) (next-within k s w h))

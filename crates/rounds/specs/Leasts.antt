@@ -22,6 +22,11 @@ leastSum G [] = record { top = 0; under = 1 }
 leastSum G (q ∷ qs) =
     cond (eqb (pixelsIn (G q)) 0) (leastSum G qs) (plus (leastOf (G q)) (pixelsIn (G q)) (leastSum G qs))
 
+-- every number of a list is at least f
+abbrev pub From : ℕ → List ℕ → Type 0
+From f [] = Unit
+From f (q ∷ qs) = (f ≤ q) × From f qs
+
 -- a group's cost, bounded from both sides by its least: never below it, and above it by at most three quarters a pixel
 pub record Bounded (C : Colours) (cost : ℕ) : Type 0 where
   pub at-least : leastOf C ≤ pixelsIn C * cost

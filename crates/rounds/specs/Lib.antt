@@ -14,8 +14,8 @@
 --   Fair C               at most 16,777,216 pixels in at most 1,048,576 entries, all on the grid
 --   Tabled n ks ws       what a good table gives for it
 --   Rule, toMean         where a shade goes, given its number, its group and its place; Lloyd's rule
---   NoDearer rule        it costs the group no more than staying
---   KeepsGrid rule       it keeps to the grid
+--   GoodRule rule        it costs the group no more than staying, and keeps to the grid
+--   Means f rule         from shade f on it goes to the mean
 --   State, stateOf       coordinates and members
 --   joins, grouped       the shade that a colour joins; the members after a grouping
 --   groupIn              the group of a shade in a round
@@ -27,13 +27,16 @@
 --   finalOf              the members against the shades
 --   groupAt, groupCost   the group of a shade by the members, and what the shade costs it
 --   Fit, Joined          what a round asks of a state, and of its members where it reads them
---   startsFrom, starts   the starting shades from a first one, and from the table's mean
+--   Base, listed         the shades that are given, and those that lie in a list of coordinates
+--   onMean C             the table's mean as the only one
+--   startsFrom, starts   the starting shades from given ones, and from the table's mean
 --   remote               how far a colour is from its nearest shade
 --   over l d             d with l over its front
---   begin                the state in which a run begins
+--   beginFrom, begin     the state in which a run begins, from given shades and from the table's mean
 --   roundsMade           the rounds of a run: up to the first quiet one, or the limit
 --   Fraction, plus       a fraction of whole numbers, and a sum of two
 --   leastSum G qs        the least costs of the groups with the numbers qs, added up
+--   From f qs            every number of the list is at least f
 --   Bounded C cost       a cost of at least the least, and at most three quarters a pixel above it
 --   SumBounded           the same of costs added up
 pub mod Colouring
@@ -55,7 +58,7 @@ unfoldable pub use Colouring.{
   groupOf,
   drawn,
 }
-pub use Rounding.{State, NoDearer, KeepsGrid, Fit}
+pub use Rounding.{State, GoodRule, Means, Fit}
 unfoldable pub use Rounding.{
   Rule,
   toMean,
@@ -76,7 +79,8 @@ unfoldable pub use Rounding.{
   groupCost,
   Joined,
 }
-unfoldable pub use Starting.{remote, flat, nextShade, startsFrom, starts, over}
-unfoldable pub use Running.{begin, roundsMade}
+pub use Starting.{Base}
+unfoldable pub use Starting.{remote, flat, listed, nextShade, startsFrom, onMean, starts, over}
+unfoldable pub use Running.{beginFrom, begin, roundsMade}
 pub use Leasts.{Fraction, Bounded, SumBounded}
-unfoldable pub use Leasts.{plus, leastSum}
+unfoldable pub use Leasts.{plus, leastSum, From}

@@ -2,6 +2,7 @@
 use Prim.Native.Nat.{ℕ, zero, suc, _*_, _≤_, _<_}
 use mathlib.Core.Bool.{Bool, cond, not}
 use mathlib.Core.List.{List}
+use mathlib.Core.Path.{_≡_}
 use lib.Dec.{eqb}
 use lib.ListN.{getD, length}
 use Rattle.number.specs.{sum, howMany, fill}
@@ -17,14 +18,16 @@ Rule = ℕ → Colours → Point → Point
 abbrev pub toMean : Rule
 toMean q G z = cond (eqb (pixelsIn G) 0) z (meanOf G)
 
--- the rule costs a group no more than staying does
-pub record NoDearer (rule : Rule) : Type 0 where
+-- what a run asks of its rule: it costs a group no more than staying does, and it keeps to the grid a shade that stands
+-- on it, among colours that do
+pub record GoodRule (rule : Rule) : Type 0 where
   pub no-dearer : (q : ℕ) (G : Colours) (z : Point) → costAt G (rule q G z) ≤ costAt G z
-
--- the rule keeps to the grid
-pub record KeepsGrid (rule : Rule) : Type 0 where
   pub keeps : (q : ℕ) (G : Colours) (z : Point) → ((i : ℕ) → Within mostCoordinate (G .c i))
       → Within mostCoordinate z → Within mostCoordinate (rule q G z)
+
+-- from shade f on the rule goes to the mean
+pub record Means (f : ℕ) (rule : Rule) : Type 0 where
+  pub means : (q : ℕ) (G : Colours) (z : Point) → f ≤ q → rule q G z ≡ toMean q G z
 
 -- the lent coordinates, in which the shades lie, and the lent members
 pub record State : Type 0 where

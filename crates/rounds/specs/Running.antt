@@ -8,14 +8,18 @@ use Rattle.number.specs.{fill, firstThat}
 use Rattle.shades.specs.{mostCoordinates}
 use Rattle.rounds.specs.Colouring.{Colours}
 use Rattle.rounds.specs.Rounding.{State}
-use Rattle.rounds.specs.Starting.{starts, over}
+use Rattle.rounds.specs.Starting.{Base, startsFrom, onMean, over}
 
--- a run begins with the starting shades, zeros past them, and with every colour in shade 0
-abbrev pub begin : Colours → ℕ → List ℕ → State
-begin C k members = record {
-  coordinates = over (starts C k) (replicate mostCoordinates 0);
+-- a run from given shades begins with the starting shades, zeros past them, and with every colour in shade 0
+abbrev pub beginFrom : Base → Colours → ℕ → List ℕ → State
+beginFrom B C k members = record {
+  coordinates = over (startsFrom B (C .n) (C .c) k) (replicate mostCoordinates 0);
   members = fill (C .n) (λ i. 0) members;
 }
+
+-- document 01's run begins from the table's mean
+abbrev pub begin : Colours → ℕ → List ℕ → State
+begin C k members = beginFrom (onMean C) C k members
 
 -- the rounds made: up to the first that is quiet, and with it; where none below the limit is, as many as the limit
 abbrev pub roundsMade : ℕ → (ℕ → Bool) → ℕ

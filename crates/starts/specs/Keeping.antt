@@ -5,11 +5,11 @@ use lib.ListN.{getD, length}
 use Rattle.number.specs.{lesserOf, lowest}
 use Rattle.colour.specs.{Point, distance}
 use Rattle.shades.specs.{colourAt}
-use Rattle.rounds.specs.{nextShade, startsFrom}
+use Rattle.rounds.specs.{Base, nextShade, startsFrom}
 
--- start number k, from the first one m
-abbrev pub shadeFrom : Point → ℕ → (ℕ → Point) → ℕ → Point
-shadeFrom m n c k = nextShade m n c k (startsFrom m n c k)
+-- start number k, from the given ones
+abbrev pub shadeFrom : Base → ℕ → (ℕ → Point) → ℕ → Point
+shadeFrom B n c k = nextShade B n c k (startsFrom B n c k)
 
 -- entry i's distance, given in d, lowered to that to p
 abbrev pub lowered : List ℕ → Point → List ℕ → ℕ → ℕ
@@ -20,8 +20,8 @@ abbrev pub mostKept : ℕ
 mostKept = 4294967295
 
 -- entry i's distance to the nearest of the first k starts, kept and lowered shade by shade
-abbrev pub kept : List ℕ → ℕ → Point → ℕ → ℕ → ℕ
-kept ks n m k i = lowest mostKept k (λ q. distance (colourAt ks i) (shadeFrom m n (colourAt ks) q))
+abbrev pub kept : List ℕ → ℕ → Base → ℕ → ℕ → ℕ
+kept ks n B k i = lowest mostKept k (λ q. distance (colourAt ks i) (shadeFrom B n (colourAt ks) q))
 
 -- some entries lie in the keys
 pub record Keyed (n : ℕ) (ks : List ℕ) : Type 0 where

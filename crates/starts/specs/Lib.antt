@@ -1,5 +1,5 @@
 -- Glossary.
---   shadeFrom        start number k, from the first one m
+--   shadeFrom        start number k, from the given ones
 --   lowered          an entry's kept distance, lowered to that to a point
 --   mostKept         what is kept before the first start
 --   kept             an entry's distance to the nearest of the first k starts, kept and lowered shade by shade

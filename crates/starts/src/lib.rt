@@ -2,7 +2,7 @@
 // nearest shade so far is kept: one distance is worked out for each colour and shade.
 //
 // Calls; it refuses nothing, and what it requires stands above it
-//   fill_starts   the starting shades from a first one    fill.rt
+//   fill_starts   the starting shades from given ones    fill.rt
 // Finding the farthest entry stands in far.rt.
 //
 // Read next: specs/Lib.antt (what the words mean), proofs/Lib.antt (what is shown).

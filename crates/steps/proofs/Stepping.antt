@@ -8,7 +8,7 @@ use lib.ListN.{length}
 use Rattle.number.specs.{fill, howMany}
 use Rattle.number.proofs.Fills.{fill-at}
 use Rattle.shades.specs.{mostShades}
-use Rattle.rounds.specs.{State, stateOf, coloursOf, joins}
+use Rattle.rounds.specs.{State, stateOf, coloursOf, toMean, joins}
 use Rattle.sums.specs.{Summed, memberAt}
 use Rattle.sums.proofs.Moving.{summed-same}
 use Rattle.groups.specs.{Grouped}
@@ -29,7 +29,7 @@ module _ {used : ℕ} {ks ws s : List ℕ} {k : ℕ} {before after t : List ℕ}
   -- what the round leaves and answers
   pub step-meets : (s′ : List ℕ) (moved count : ℕ) (distances : State → ℕ) → s′ ≡ fill (3 * k) (goes t s) s
       → moved ≡ howMany k (λ q. not (stays t s q)) → count ≡ distances (stateOf s before)
-      → StepMeets (coloursOf used ks ws) k distances (stateOf s before) (stateOf s′ after) total moved count
+      → StepMeets toMean (coloursOf used ks ws) k distances (stateOf s before) (stateOf s′ after) total moved count
   step-meets s′ moved count distances es em ec =
       let m = joins (coloursOf used ks ws) k s in
       record {

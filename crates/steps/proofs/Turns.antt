@@ -12,19 +12,20 @@ use Rattle.number.specs.{sum, fill}
 use Rattle.number.proofs.Fills.{fill-more, fill-length}
 use Rattle.number.proofs.Sums.{sum-more, sum-bound}
 use Rattle.entries.specs.{mostEntries}
-use Rattle.colour.specs.{Point}
+use Rattle.colour.specs.{Within, mostCoordinate}
 use Rattle.shades.specs.{mostShades, mostCoordinates, colourAt}
 use Rattle.rounds.specs.{
+  Base,
   Colours,
   Fair,
+  Rule,
+  GoodRule,
   State,
   stateOf,
   coloursOf,
-  meanOf,
   startsFrom,
   over,
-  begin,
-  toMean,
+  beginFrom,
   step,
   after,
   quiet,
@@ -33,43 +34,42 @@ use Rattle.rounds.specs.{
   shortDistances,
   roundsMade,
 }
-use Rattle.rounds.proofs.Begins.{begin-fit, begin-joined}
-use Rattle.rounds.proofs.Costs.{to-mean-keeps-grid}
+use Rattle.rounds.proofs.Begins.{begin-from-fit, begin-joined}
 use Rattle.rounds.proofs.Falls.{after-more, step-fit, grouped-below}
 use Rattle.rounds.proofs.Runs.{made-at-most, made-some, made-next, made-last}
 use Rattle.rounds.proofs.Sizes.{fair-of-table, short-at-most}
 use Rattle.steps.specs.Meeting.{mostRounds, Steppable, Walkable, StepMeets, SeriesMeets, Runnable}
 
 -- after a round the members are shades' numbers and all is fit for the next
-pub step-walkable : {used : ℕ} {ks ws : List ℕ} {k : ℕ} {a : State} → Steppable used ks ws k a
-    → Walkable used ks ws k (step toMean (coloursOf used ks ws) k a)
-step-walkable {used} {ks} {ws} {k} {a} p = record {
+pub step-walkable : {used : ℕ} {ks ws : List ℕ} {k : ℕ} {a : State} (rule : Rule) → GoodRule rule
+    → Steppable used ks ws k a → Walkable used ks ws k (step rule (coloursOf used ks ws) k a)
+step-walkable {used} {ks} {ws} {k} {a} rule good p = record {
   steppable = record {
     table = p .table;
-    fit = step-fit (coloursOf used ks ws) k a (p .fit) toMean to-mean-keeps-grid (fair-of-table (p .table));
+    fit = step-fit (coloursOf used ks ws) k a (p .fit) rule good (fair-of-table (p .table));
   };
   joined = grouped-below (coloursOf used ks ws) k a (p .fit);
 }
 
 -- and after any number of rounds, where it was so before
-pub after-walkable : {used : ℕ} {ks ws : List ℕ} {k : ℕ} {a : State} → Walkable used ks ws k a → (r : ℕ)
-    → Walkable used ks ws k (after toMean (coloursOf used ks ws) k a r)
+pub after-walkable : {used : ℕ} {ks ws : List ℕ} {k : ℕ} {a : State} (rule : Rule) → GoodRule rule
+    → Walkable used ks ws k a → (r : ℕ) → Walkable used ks ws k (after rule (coloursOf used ks ws) k a r)
 unfolding after
-after-walkable p zero = p
-after-walkable p (suc r) = step-walkable (after-walkable p r .steppable)
+after-walkable rule good p zero = p
+after-walkable rule good p (suc r) = step-walkable rule good (after-walkable rule good p r .steppable)
 
-module _ (C : Colours) (k limit : ℕ) (a : State) where
+module _ (rule : Rule) (C : Colours) (k limit : ℕ) (a : State) where
   -- which rounds are quiet
   abbrev still : ℕ → Bool
-  still = quiet toMean C k a
+  still = quiet rule C k a
 
   -- the state after some rounds
   abbrev at : ℕ → State
-  at r = after toMean C k a r
+  at r = after rule C k a r
 
   -- the distances of r rounds fit
   distances-at-most : Fair C → k ≤ mostShades → (r : ℕ) → r ≤ mostRounds
-      → sum r (λ n. shortDistances C k (after toMean C k a n)) ≤ mostRounds * (mostEntries * (mostShades + 1))
+      → sum r (λ n. shortDistances C k (after rule C k a n)) ≤ mostRounds * (mostEntries * (mostShades + 1))
   distances-at-most f few r h =
       omega (
         arith,
@@ -80,12 +80,12 @@ module _ (C : Colours) (k limit : ℕ) (a : State) where
 
   -- r rounds are made, with `go` the number to reach
   pub record Going (before : List ℕ) (z : State) (totals : List ℕ) (r go moved distances : ℕ) : Type 0 where
-    pub within : r ≤ roundsMade limit (quiet toMean C k a)
-    pub more : ltb r go ≡ ltb r (roundsMade limit (quiet toMean C k a))
-    pub state : z ≡ after toMean C k a r
-    pub totals-is : totals ≡ fill r (λ n. totalOf C k (after toMean C k a n)) before
-    pub moved-is : 0 < r → moved ≡ movedOf toMean C k (after toMean C k a (r - 1))
-    pub distances-is : distances ≡ sum r (λ n. shortDistances C k (after toMean C k a n))
+    pub within : r ≤ roundsMade limit (quiet rule C k a)
+    pub more : ltb r go ≡ ltb r (roundsMade limit (quiet rule C k a))
+    pub state : z ≡ after rule C k a r
+    pub totals-is : totals ≡ fill r (λ n. totalOf C k (after rule C k a n)) before
+    pub moved-is : 0 < r → moved ≡ movedOf rule C k (after rule C k a (r - 1))
+    pub distances-is : distances ≡ sum r (λ n. shortDistances C k (after rule C k a n))
 
   -- none is made
   pub going-start : (before : List ℕ) → 0 < limit → Going before a before 0 limit 1 0
@@ -102,7 +102,7 @@ module _ (C : Colours) (k limit : ℕ) (a : State) where
   module _ {before totals : List ℕ} {z : State} {r go moved distances : ℕ}
       (g : Going before z totals r go moved distances) where
     -- a round that is to be made is one of those made
-    going-made : r < go → r < roundsMade limit (quiet toMean C k a)
+    going-made : r < go → r < roundsMade limit (quiet rule C k a)
     going-made h = ltb-true r (roundsMade limit still) (sym (g .more) ∙ lt-ltb r go h)
 
     -- and below the limit
@@ -127,16 +127,16 @@ module _ (C : Colours) (k limit : ℕ) (a : State) where
 
     -- one round more
     pub going-next : r < go → r < length before → {y : State} {total moved′ count go′ : ℕ}
-        → StepMeets C k (shortDistances C k) z y total moved′ count → go′ ≡ cond (eqb moved′ 0) (r + 1) limit
+        → StepMeets rule C k (shortDistances C k) z y total moved′ count → go′ ≡ cond (eqb moved′ 0) (r + 1) limit
         → Going before y (set totals r total) (r + 1) go′ moved′ (distances + count)
     going-next h room {y} {total} {moved′} {count} {go′} m eg =
         let e : r + 1 - 1 ≡ r = omega arith in
-        let mv : moved′ ≡ movedOf toMean C k (at r) = m .moved-is ∙ ap (movedOf toMean C k) (g .state) in
+        let mv : moved′ ≡ movedOf rule C k (at r) = m .moved-is ∙ ap (movedOf rule C k) (g .state) in
         record {
           within = omega (arith, going-made h);
           more = ap (λ n. ltb (r + 1) n) (eg ∙ ap (λ n. cond (eqb n 0) (r + 1) limit) mv)
               ∙ made-next limit still r (going-made h);
-          state = m .state ∙ ap (step toMean C k) (g .state) ∙ sym (after-more toMean C k a r);
+          state = m .state ∙ ap (step rule C k) (g .state) ∙ sym (after-more rule C k a r);
           totals-is = rw (m .total-is ∙ ap (totalOf C k) (g .state), g .totals-is)
               (fill-more r (λ n. totalOf C k (at n)) before room);
           moved-is = λ p. rw e mv;
@@ -146,7 +146,7 @@ module _ (C : Colours) (k limit : ℕ) (a : State) where
 
     -- the last is made
     pub going-done : go ≤ r → 0 < limit → (settled : Bool) → settled ≡ eqb moved 0
-        → SeriesMeets C k limit a z before totals r settled distances
+        → SeriesMeets rule C k limit a z before totals r settled distances
     going-done h p settled es =
         let m : r ≡ roundsMade limit still =
         omega (arith, g .within, ltb-false r (roundsMade limit still) (sym (g .more) ∙ le-ltb r go h)) in
@@ -163,26 +163,28 @@ module _ (C : Colours) (k limit : ℕ) (a : State) where
 
 module _ {used : ℕ} {ks ws : List ℕ} {k limit : ℕ} {members totals : List ℕ}
     (p : Runnable used ks ws k limit members totals) where
-  -- it begins fit for a shortened round
-  pub begin-walkable : Walkable used ks ws k (begin (coloursOf used ks ws) k members)
-  begin-walkable = record {
-    steppable = record {
-      table = p .table;
-      fit = begin-fit (coloursOf used ks ws) k members (fair-of-table (p .table)) (p .pixels) (p .some) (p .few)
-          (p .members-room);
-    };
-    joined = begin-joined (coloursOf used ks ws) k members (p .some) (p .members-room);
-  }
+  module _ (B : Base) (low : (q : ℕ) → Within mostCoordinate (B .at q)) where
+    -- it begins fit for a shortened round
+    pub begin-walkable : Walkable used ks ws k (beginFrom B (coloursOf used ks ws) k members)
+    begin-walkable = record {
+      steppable = record {
+        table = p .table;
+        fit = begin-from-fit B (coloursOf used ks ws) k members low (fair-of-table (p .table)) (p .some) (p .few)
+            (p .members-room);
+      };
+      joined = begin-joined B (coloursOf used ks ws) k members (p .some) (p .members-room);
+    }
 
-  -- with the starting shades from the table's mean over zeros, and every member 0, it has begun
-  pub begun : (m : Point) (s s′ members′ : List ℕ) → m ≡ meanOf (coloursOf used ks ws)
-      → s ≡ replicate mostCoordinates 0
-      → s′ ≡ over (startsFrom m used (colourAt ks) k) s → members′ ≡ fill used (λ i. 0) members
-      → stateOf s′ members′ ≡ begin (coloursOf used ks ws) k members
-  begun m s s′ members′ em es e f = ap₂ stateOf (rw (e, em, es)) f
+    -- what the rounds of a run leave is fit for its final total
+    pub series-walkable : (rule : Rule) → GoodRule rule → {z : State} {after : List ℕ} {rounds distances : ℕ}
+        {settled : Bool}
+        → SeriesMeets rule (coloursOf used ks ws) k limit (beginFrom B (coloursOf used ks ws) k members) z totals
+        after rounds settled distances → Walkable used ks ws k z
+    series-walkable rule good m = rw (m .state) (after-walkable rule good begin-walkable _)
 
-  -- what the rounds of a run leave is fit for its final total
-  pub series-walkable : {z : State} {after : List ℕ} {rounds distances : ℕ} {settled : Bool}
-      → SeriesMeets (coloursOf used ks ws) k limit (begin (coloursOf used ks ws) k members) z totals after rounds
-      settled distances → Walkable used ks ws k z
-  series-walkable m = rw (m .state) (after-walkable begin-walkable _)
+-- with the starting shades over zeros, and every member 0, it has begun
+pub begun : (B : Base) (used : ℕ) (ks ws : List ℕ) (k : ℕ) (members s s′ members′ : List ℕ)
+    → s ≡ replicate mostCoordinates 0
+    → s′ ≡ over (startsFrom B used (colourAt ks) k) s → members′ ≡ fill used (λ i. 0) members
+    → stateOf s′ members′ ≡ beginFrom B (coloursOf used ks ws) k members
+begun B used ks ws k members s s′ members′ es e f = ap₂ stateOf (rw (e, es)) f

@@ -13,7 +13,7 @@ use Rattle.rounds.specs.{
   State,
   Fit,
   coloursOf,
-  toMean,
+  Rule,
   step,
   after,
   quiet,
@@ -37,33 +37,33 @@ pub record Walkable (used : ℕ) (ks ws : List ℕ) (k : ℕ) (a : State) : Type
   pub steppable : Steppable used ks ws k a
   pub joined : (i : ℕ) → i < used → getD (a .members) i 0 < k
 
--- from state a to state z: a round of Lloyd's rule, with its total, the shades moved and the distances worked out
-pub record StepMeets (C : Colours) (k : ℕ) (distances : State → ℕ) (a z : State) (total moved count : ℕ)
-    : Type 0 where
-  pub state : z ≡ step toMean C k a
+-- from state a to state z: a round of the rule, with its total, the shades moved and the distances worked out
+pub record StepMeets (rule : Rule) (C : Colours) (k : ℕ) (distances : State → ℕ) (a z : State)
+    (total moved count : ℕ) : Type 0 where
+  pub state : z ≡ step rule C k a
   pub total-is : total ≡ totalOf C k a
-  pub moved-is : moved ≡ movedOf toMean C k a
+  pub moved-is : moved ≡ movedOf rule C k a
   pub count-is : count ≡ distances a
 
--- from state a to state z: rounds to the first quiet one or the limit, each total stored, all distances added up, and
--- whether one was quiet
-pub record SeriesMeets (C : Colours) (k limit : ℕ) (a z : State) (before totals : List ℕ) (rounds : ℕ)
-    (settled : Bool) (distances : ℕ) : Type 0 where
-  pub rounds-is : rounds ≡ roundsMade limit (quiet toMean C k a)
-  pub state : z ≡ after toMean C k a (roundsMade limit (quiet toMean C k a))
+-- from state a to state z: rounds of the rule to the first quiet one or the limit, each total stored, all distances
+-- added up, and whether one was quiet
+pub record SeriesMeets (rule : Rule) (C : Colours) (k limit : ℕ) (a z : State) (before totals : List ℕ)
+    (rounds : ℕ) (settled : Bool) (distances : ℕ) : Type 0 where
+  pub rounds-is : rounds ≡ roundsMade limit (quiet rule C k a)
+  pub state : z ≡ after rule C k a (roundsMade limit (quiet rule C k a))
   pub totals-is :
-      totals ≡ fill (roundsMade limit (quiet toMean C k a)) (λ r. totalOf C k (after toMean C k a r)) before
-  pub settled-is : settled ≡ ltb (firstThat limit (quiet toMean C k a)) limit
+      totals ≡ fill (roundsMade limit (quiet rule C k a)) (λ r. totalOf C k (after rule C k a r)) before
+  pub settled-is : settled ≡ ltb (firstThat limit (quiet rule C k a)) limit
   pub distances-is :
-      distances ≡ sum (roundsMade limit (quiet toMean C k a)) (λ r. shortDistances C k (after toMean C k a r))
+      distances ≡ sum (roundsMade limit (quiet rule C k a)) (λ r. shortDistances C k (after rule C k a r))
 
--- a table with at least as many colours as shades, 1 to 64 shades, a limit of 1 to 200, and room
+-- a table with a colour, 1 to 64 shades, a limit of 1 to 200, and room
 pub record Runnable (used : ℕ) (ks ws : List ℕ) (k limit : ℕ) (members totals : List ℕ) : Type 0 where
   pub table : Tabled used ks ws
   pub pixels : 0 < sum used (λ i. getD ws i 0)
   pub some : 0 < k
   pub few : k ≤ mostShades
-  pub colours : k ≤ used
+  pub colours : 0 < used
   pub limit-some : 0 < limit
   pub limit-most : limit ≤ mostRounds
   pub members-room : used ≤ length members

@@ -1,8 +1,17 @@
 // A whole run: starting shades, rounds, and the final total.
 ghost use mathlib.Core.Path.{_≡_};
-ghost use lib.ListN.{replicate};
-ghost use Rattle.shades.specs.{mostCoordinates};
-ghost use Rattle.rounds.specs.{stateOf, coloursOf, begin, finalOf};
+ghost use Prim.Native.Nat.{_≤_};
+ghost use lib.ListN.{length, replicate};
+ghost use Rattle.shades.specs.{mostCoordinates, OnGrid};
+ghost use Rattle.rounds.specs.{
+  stateOf,
+  coloursOf,
+  toMean,
+  listed,
+  beginFrom,
+  begin,
+  finalOf,
+};
 ghost use Rattle.steps.specs.Meeting.{Runnable, SeriesMeets};
 use super::Series;
 use super::Whole;
@@ -10,8 +19,44 @@ use super::many::make_rounds;
 use super::total::final_total;
 use colour::Point;
 
-// Makes a run from coordinates that are required to be 192 zeros. Requires a table with at least as
-// many colours as shades, 1 to 64 shades, a limit of 1 to 200, and room for members and totals.
+// Makes a run from the given shades in `base` and coordinates that are required to be 192 zeros.
+// Requires a table with a colour, a given shade, all of them on the grid, 1 to 64 shades, a limit
+// of 1 to 200, and room for members and totals.
+pub fn run_from(
+    keys: &[u32],
+    weights: &[u32],
+    used: usize,
+    base: &[u32],
+    k: usize,
+    limit: usize,
+    s: &mut [u32],
+    members: &mut [u32],
+    totals: &mut [u64],
+) -> Whole
+    requires { ⌜ Runnable used (now keys) (now weights) k limit (now members) (now totals)
+        × OnGrid (now base) × (3 ≤ length (now base)) × (now s ≡ replicate mostCoordinates 0) ⌝ }
+    ensures series { λ r. ⌜ SeriesMeets toMean
+        (coloursOf used (now (keys .entry)) (now (weights .entry))) k limit
+        (beginFrom (listed (now (base .entry)))
+        (coloursOf used (now (keys .entry)) (now (weights .entry))) k (now (members .entry)))
+        (stateOf (now (s .exit)) (now (members .exit)))
+        (now (totals .entry)) (now (totals .exit)) (r .rounds) (r .settled) (r .distances) ⌝ }
+    ensures total { λ r. ⌜ r .total
+        ≡ finalOf (coloursOf used (now (keys .entry)) (now (weights .entry)))
+        (stateOf (now (s .exit)) (now (members .exit))) ⌝ }
+{
+    starts::fill_starts(keys, used, base, k, s, members);
+    let a = make_rounds(keys, weights, used, k, limit, s, members, totals);
+    let total = final_total(keys, weights, used, k, s, members);
+    Whole {
+        rounds: a.rounds,
+        settled: a.settled,
+        distances: a.distances,
+        total,
+    }
+}
+
+// Makes a run from the table's mean. Requires the same of all but the given shades.
 pub fn make_run(
     keys: &[u32],
     weights: &[u32],
@@ -24,7 +69,7 @@ pub fn make_run(
 ) -> Whole
     requires { ⌜ Runnable used (now keys) (now weights) k limit (now members) (now totals)
         × (now s ≡ replicate mostCoordinates 0) ⌝ }
-    ensures series { λ r. ⌜ SeriesMeets
+    ensures series { λ r. ⌜ SeriesMeets toMean
         (coloursOf used (now (keys .entry)) (now (weights .entry))) k limit
         (begin (coloursOf used (now (keys .entry)) (now (weights .entry))) k
         (now (members .entry)))
@@ -35,13 +80,6 @@ pub fn make_run(
         (stateOf (now (s .exit)) (now (members .exit))) ⌝ }
 {
     let m = moves::whole_mean(keys, weights, used);
-    starts::fill_starts(keys, used, m, k, s, members);
-    let a = make_rounds(keys, weights, used, k, limit, s, members, totals);
-    let total = final_total(keys, weights, used, k, s, members);
-    Whole {
-        rounds: a.rounds,
-        settled: a.settled,
-        distances: a.distances,
-        total,
-    }
+    let base = [m.r, m.g, m.b];
+    run_from(keys, weights, used, &base, k, limit, s, members, totals)
 }

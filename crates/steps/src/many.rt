@@ -4,7 +4,7 @@ ghost use mathlib.Core.Bool.{cond};
 ghost use Prim.Native.Nat.{_<_, _≤_};
 ghost use lib.ListN.{length};
 ghost use lib.Dec.{eqb};
-ghost use Rattle.rounds.specs.{stateOf, coloursOf};
+ghost use Rattle.rounds.specs.{stateOf, coloursOf, toMean};
 ghost use Rattle.steps.specs.Meeting.{Walkable, SeriesMeets, mostRounds};
 use super::Series;
 use super::Stepped;
@@ -42,7 +42,8 @@ pub fn make_rounds(
 ) -> Series
     requires { ⌜ Walkable used (now keys) (now weights) k (stateOf (now s) (now members))
         × (0 < limit) × (limit ≤ mostRounds) × (limit ≤ length (now totals)) ⌝ }
-    ensures { λ r. ⌜ SeriesMeets (coloursOf used (now (keys .entry)) (now (weights .entry))) k limit
+    ensures { λ r. ⌜ SeriesMeets toMean
+        (coloursOf used (now (keys .entry)) (now (weights .entry))) k limit
         (stateOf (now (s .entry)) (now (members .entry)))
         (stateOf (now (s .exit)) (now (members .exit)))
         (now (totals .entry)) (now (totals .exit)) (r .rounds) (r .settled) (r .distances) ⌝ }

@@ -1,5 +1,5 @@
 // One round: the grouping, by either search, and then the move.
-ghost use Rattle.rounds.specs.{stateOf, coloursOf, plainDistances, shortDistances};
+ghost use Rattle.rounds.specs.{stateOf, coloursOf, toMean, plainDistances, shortDistances};
 ghost use Rattle.sums.specs.{Summed, memberAt};
 ghost use Rattle.groups.specs.{covered};
 ghost use Rattle.steps.specs.Meeting.{Steppable, Walkable, StepMeets};
@@ -16,7 +16,8 @@ pub fn plain_step(
     members: &mut [u32],
 ) -> Stepped
     requires { ⌜ Steppable used (now keys) (now weights) k (stateOf (now s) (now members)) ⌝ }
-    ensures { λ r. ⌜ StepMeets (coloursOf used (now (keys .entry)) (now (weights .entry))) k
+    ensures { λ r. ⌜ StepMeets toMean
+        (coloursOf used (now (keys .entry)) (now (weights .entry))) k
         (plainDistances (coloursOf used (now (keys .entry)) (now (weights .entry))) k)
         (stateOf (now (s .entry)) (now (members .entry)))
         (stateOf (now (s .exit)) (now (members .exit)))
@@ -48,7 +49,8 @@ pub fn next_step(
 ) -> Stepped
     requires { ⌜ Walkable used (now keys) (now weights) k (stateOf (now s) (now members))
         × Summed (memberAt (now members)) (now keys) (now weights) (covered anew used 0) (now t) ⌝ }
-    ensures step { λ r. ⌜ StepMeets (coloursOf used (now (keys .entry)) (now (weights .entry))) k
+    ensures step { λ r. ⌜ StepMeets toMean
+        (coloursOf used (now (keys .entry)) (now (weights .entry))) k
         (shortDistances (coloursOf used (now (keys .entry)) (now (weights .entry))) k)
         (stateOf (now (s .entry)) (now (members .entry)))
         (stateOf (now (s .exit)) (now (members .exit)))
@@ -77,7 +79,8 @@ pub fn short_step(
     members: &mut [u32],
 ) -> Stepped
     requires { ⌜ Walkable used (now keys) (now weights) k (stateOf (now s) (now members)) ⌝ }
-    ensures { λ r. ⌜ StepMeets (coloursOf used (now (keys .entry)) (now (weights .entry))) k
+    ensures { λ r. ⌜ StepMeets toMean
+        (coloursOf used (now (keys .entry)) (now (weights .entry))) k
         (shortDistances (coloursOf used (now (keys .entry)) (now (weights .entry))) k)
         (stateOf (now (s .entry)) (now (members .entry)))
         (stateOf (now (s .exit)) (now (members .exit)))

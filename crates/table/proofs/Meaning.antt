@@ -9,8 +9,8 @@ use native.Mathlib.Omega.{arith}
 use lib.ListN.{length, getD, drop}
 use borrow.Author.Tests.{lt-ltb, ltb-true, ltb-false}
 use Rattle.number.proofs.Cases.{bool}
-use Rattle.refusal.specs.{Refusal, numberOf, done, Given, NoneHolds}
-use Rattle.refusal.proofs.Promises.{first-exactly, done-exactly}
+use Rattle.refusal.specs.{Refusal, numberOf, done, Refuses}
+use Rattle.refusal.proofs.Outcomes.{refuses}
 use Rattle.colour.specs.{badStrip, Bytes, mostPixels}
 use Rattle.entries.specs.{
   Entry,
@@ -31,7 +31,16 @@ use Rattle.entries.proofs.Slices.{entries-length, entries-laid, laid-length, la
 use Rattle.entries.proofs.Strips.{byte-keys}
 use Rattle.entries.proofs.Takes.{Prefix, taken-prefix, prefix-only, taken-at-most, taken-all, taken-fits}
 use Rattle.table.specs.Refusals.{roomOf, recordOf, badTable, full, addRows, addRefusal}
-use Rattle.table.specs.Outcomes.{Outcome, asItCame, withPixels, handsBack, addStrip, tableAfter}
+use Rattle.table.specs.Outcomes.{
+  Outcome,
+  asItCame,
+  withPixels,
+  handsBack,
+  takenInto,
+  leftByAdd,
+  addStrip,
+  tableAfter,
+}
 use Rattle.table.specs.Goods.{GoodTable}
 use Rattle.table.specs.declared.Record.{Record}
 use Rattle.table.proofs.Goods.{Good, test-of-good, table-of-good, good-of-table}
@@ -40,29 +49,20 @@ use Rattle.table.proofs.Adds.{outcome-bad-strip, outcome-bad-table, out
 -- ---- when each refusal is given
 
 module _ (rec : Record) (ks ws s : List ℕ) where
-  -- the answer's number is that of the first row whose test holds
-  refusal-is : addStrip rec ks ws s .answer .refusal ≡ addRefusal rec ks ws s
+  -- adding refuses by its rows: the pixels are taken; 1 and 2 leave all as it came, FULL the pixels taken
+  pub add-refuses : Refuses (addRows rec ks ws s) (addStrip rec ks ws s) (λ o. o .answer .refusal)
+      (takenInto rec ks ws s done) (leftByAdd rec ks ws s)
   unfolding addStrip
-  refusal-is = elim (bool (handsBack (addRefusal rec ks ws s))) [
-    | inl t ↦ simp t
-    | inr t ↦ simp t
-  ]
-
-  -- each refusal is given exactly when its row is the first that holds
-  pub refused-exactly : (n : Refusal)
-      → (addStrip rec ks ws s .answer .refusal ≡ numberOf n) ↔ Given (addRows rec ks ws s) n
-  refused-exactly n = rw refusal-is (first-exactly (addRows rec ks ws s) n)
-
-  -- and none exactly when no row holds
-  pub accepted-exactly : (addStrip rec ks ws s .answer .refusal ≡ done) ↔ NoneHolds (addRows rec ks ws s)
-  accepted-exactly = rw refusal-is (done-exactly (addRows rec ks ws s))
+  add-refuses =
+      refuses _ _ _ _ refl (λ n. elim (bool (handsBack n)) [
+        | inl t ↦ rw t
+        | inr t ↦ rw t
+      ])
 
   -- a refusal before the first pixel leaves all as it came
   pub refused-as-it-came : (n : Refusal) → handsBack (numberOf n) ≡ true
       → addStrip rec ks ws s .answer .refusal ≡ numberOf n → addStrip rec ks ws s ≡ asItCame (numberOf n) rec ks ws
-  unfolding addStrip
-  refused-as-it-came n b h =
-      let e : addRefusal rec ks ws s ≡ numberOf n = sym refusal-is ∙ h in rw (e, b)
+  refused-as-it-came n b h = add-refuses .refused-is n h ∙ rw b
 
 -- ---- what an outcome is, where the strip is whole and the table good
 
@@ -76,7 +76,7 @@ pub record Accepted (rec : Record) (ks ws s : List ℕ) : Type 0 where
 pub accepted-of-done : (rec : Record) (ks ws s : List ℕ) → addStrip rec ks ws s .answer .refusal ≡ done
     → Accepted rec ks ws s
 accepted-of-done rec ks ws s h =
-    let none = accepted-exactly rec ks ws s .0 h in
+    let none = add-refuses rec ks ws s .accepted-exactly .0 h in
     record { whole = none .0; good = none .1 .0; room-left = none .1 .1 .0 }
 
 module _ (rec : Record) (ks ws s : List ℕ) where

@@ -34,12 +34,12 @@ add-strip-only rec ks ws s a b =
 -- A refusal is given exactly when its row is the first of 1, 2, 3 whose test holds.
 pub refused-exactly : (rec : Record) (ks ws s : List ℕ) (n : Refusal)
     → (addStrip rec ks ws s .answer .refusal ≡ numberOf n) ↔ Given (addRows rec ks ws s) n
-refused-exactly = meaning.refused-exactly
+refused-exactly rec ks ws s = meaning.add-refuses rec ks ws s .refused-exactly
 
 -- A strip is accepted exactly when none of the three tests holds.
 pub accepted-exactly : (rec : Record) (ks ws s : List ℕ)
     → (addStrip rec ks ws s .answer .refusal ≡ done) ↔ NoneHolds (addRows rec ks ws s)
-accepted-exactly = meaning.accepted-exactly
+accepted-exactly rec ks ws s = meaning.add-refuses rec ks ws s .accepted-exactly
 
 -- The test of BAD STRIP holds exactly when the bytes are not a multiple of 3.
 pub bad-strip-exactly : (s : List ℕ) → (badStrip s ≡ true) ↔ (length s % 3 ≡ 0 → ⊥)

@@ -11,6 +11,7 @@
 --   addRefusal    the number of the first that holds
 --   Outcome       the answer and both slices at exit
 --   refused, asItCame   the answer, and the outcome, where nothing is taken and all is as it came
+--   takenInto     the outcome of the pixels taken; leftByAdd what a refusal leaves
 --   addStrip      the outcome of adding a strip
 --   AddMeets      the contract: answer and slices are those of the outcome
 --   tableAfter    the table in an outcome's slices
@@ -33,7 +34,7 @@ unfoldable pub use Refusals.{
   addRows,
   addRefusal,
 }
-unfoldable pub use Outcomes.{refused, asItCame, withPixels, handsBack, addStrip, tableAfter}
+unfoldable pub use Outcomes.{refused, asItCame, withPixels, handsBack, takenInto, leftByAdd, addStrip, tableAfter}
 pub use Outcomes.{Outcome, AddMeets}
 pub use Goods.{GoodTable}
 unfoldable pub use Testing.{fallsAt, emptyAt, weightAt}

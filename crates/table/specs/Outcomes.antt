@@ -4,9 +4,9 @@ use mathlib.Core.Path.{_≡_}
 use mathlib.Core.Bool.{Bool, cond, _||_}
 use mathlib.Core.List.{List}
 use lib.Dec.{eqb}
-use Rattle.refusal.specs.{numberOf, BAD-STRIP, BAD-TABLE}
+use Rattle.refusal.specs.{numberOf, done, outcomeOf, BAD-STRIP, BAD-TABLE}
 use Rattle.entries.specs.{Entry, entries, keysInto, weightsInto, stripKeys, takenOf, withTaken}
-use Rattle.table.specs.Refusals.{roomOf, recordOf, addRefusal}
+use Rattle.table.specs.Refusals.{roomOf, recordOf, addRows}
 use Rattle.table.specs.declared.Record.{Record}
 use Rattle.table.specs.declared.Added.{Added}
 
@@ -37,11 +37,17 @@ withPixels n room es ps ks ws = record {
 abbrev pub handsBack : ℕ → Bool
 handsBack n = eqb n (numberOf BAD-STRIP) || eqb n (numberOf BAD-TABLE)
 
+-- the pixels of a strip taken, with this number in the answer
+abbrev pub takenInto : Record → List ℕ → List ℕ → List ℕ → ℕ → Outcome
+takenInto rec ks ws s n = withPixels n (roomOf ks ws) (entries (rec .used) ks ws) (stripKeys s) ks ws
+
+-- what a refusal leaves: all as it came, but FULL the pixels taken
+abbrev pub leftByAdd : Record → List ℕ → List ℕ → List ℕ → ℕ → Outcome
+leftByAdd rec ks ws s n = cond (handsBack n) (asItCame n rec ks ws) (takenInto rec ks ws s n)
+
 -- the whole outcome of a call
 unfoldable pub addStrip : Record → List ℕ → List ℕ → List ℕ → Outcome
-addStrip rec ks ws s =
-    cond (handsBack (addRefusal rec ks ws s)) (asItCame (addRefusal rec ks ws s) rec ks ws)
-    (withPixels (addRefusal rec ks ws s) (roomOf ks ws) (entries (rec .used) ks ws) (stripKeys s) ks ws)
+addStrip rec ks ws s = outcomeOf (addRows rec ks ws s) (takenInto rec ks ws s done) (leftByAdd rec ks ws s)
 
 -- the table that an outcome's slices hold, by its record
 abbrev pub tableAfter : Outcome → List Entry

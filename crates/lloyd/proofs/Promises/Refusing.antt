@@ -34,32 +34,32 @@ use Rattle.lloyd.proofs.Wholes as wholes
 -- A plain round gives each refusal exactly when its row is the first of 2, 4, 8, 7 that holds.
 pub plain-refused-exactly : (rec : Record) (ks ws : List ℕ) (a : State) (n : Refusal)
     → (plainRound rec ks ws a .answer .refusal ≡ numberOf n) ↔ Given (plainRows rec ks ws a) n
-plain-refused-exactly = rounds.plain-refused-exactly
+plain-refused-exactly rec ks ws a = rounds.plain-refuses rec ks ws a .refused-exactly
 
 -- And none exactly when no row holds.
 pub plain-accepted-exactly : (rec : Record) (ks ws : List ℕ) (a : State)
     → (plainRound rec ks ws a .answer .refusal ≡ done) ↔ NoneHolds (plainRows rec ks ws a)
-plain-accepted-exactly = rounds.plain-accepted-exactly
+plain-accepted-exactly rec ks ws a = rounds.plain-refuses rec ks ws a .accepted-exactly
 
 -- A shortened round gives each refusal exactly when its row is the first of 2, 4, 8, 7, 9 that holds.
 pub short-refused-exactly : (rec : Record) (ks ws : List ℕ) (a : State) (n : Refusal)
     → (shortRound rec ks ws a .answer .refusal ≡ numberOf n) ↔ Given (shortRows rec ks ws a) n
-short-refused-exactly = rounds.short-refused-exactly
+short-refused-exactly rec ks ws a = rounds.short-refuses rec ks ws a .refused-exactly
 
 -- And none exactly when no row holds.
 pub short-accepted-exactly : (rec : Record) (ks ws : List ℕ) (a : State)
     → (shortRound rec ks ws a .answer .refusal ≡ done) ↔ NoneHolds (shortRows rec ks ws a)
-short-accepted-exactly = rounds.short-accepted-exactly
+short-accepted-exactly rec ks ws a = rounds.short-refuses rec ks ws a .accepted-exactly
 
 -- A run gives each refusal exactly when its row is the first of 2, 4, 5, 6, 7 that holds.
 pub run-refused-exactly : (rec : Record) (ks ws : List ℕ) (k limit : ℕ) (ms ts : List ℕ) (n : Refusal)
     → (runOf rec ks ws k limit ms ts .answer .refusal ≡ numberOf n) ↔ Given (runRows rec ks ws k limit ms ts) n
-run-refused-exactly = wholes.run-refused-exactly
+run-refused-exactly rec ks ws k limit ms ts = wholes.run-refuses rec ks ws k limit ms ts .refused-exactly
 
 -- And none exactly when no row holds.
 pub run-accepted-exactly : (rec : Record) (ks ws : List ℕ) (k limit : ℕ) (ms ts : List ℕ)
     → (runOf rec ks ws k limit ms ts .answer .refusal ≡ done) ↔ NoneHolds (runRows rec ks ws k limit ms ts)
-run-accepted-exactly = wholes.run-accepted-exactly
+run-accepted-exactly rec ks ws k limit ms ts = wholes.run-refuses rec ks ws k limit ms ts .accepted-exactly
 
 -- ---- when each test fails
 
@@ -97,15 +97,15 @@ limit-is = checks.limit-is
 -- A refused plain round answers its number and zeros, and no slice changes.
 pub plain-refused : (rec : Record) (ks ws : List ℕ) (a : State) (n : Refusal)
     → plainRound rec ks ws a .answer .refusal ≡ numberOf n → plainRound rec ks ws a ≡ keptRound a (numberOf n)
-plain-refused = rounds.plain-refused
+plain-refused rec ks ws a = rounds.plain-refuses rec ks ws a .refused-is
 
 -- So does a refused shortened round.
 pub short-refused : (rec : Record) (ks ws : List ℕ) (a : State) (n : Refusal)
     → shortRound rec ks ws a .answer .refusal ≡ numberOf n → shortRound rec ks ws a ≡ keptRound a (numberOf n)
-short-refused = rounds.short-refused
+short-refused rec ks ws a = rounds.short-refuses rec ks ws a .refused-is
 
 -- So does a refused run.
 pub run-refused : (rec : Record) (ks ws : List ℕ) (k limit : ℕ) (ms ts : List ℕ) (n : Refusal)
     → runOf rec ks ws k limit ms ts .answer .refusal ≡ numberOf n
     → runOf rec ks ws k limit ms ts ≡ keptRun ms ts (numberOf n)
-run-refused = wholes.run-refused
+run-refused rec ks ws k limit ms ts = wholes.run-refuses rec ks ws k limit ms ts .refused-is

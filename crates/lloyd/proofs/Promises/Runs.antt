@@ -5,6 +5,7 @@ use Prim.Native.Nat.{ℕ, _+_, _-_, _*_, _≤_, _<_}
 use mathlib.Core.Bool.{true, false}
 use mathlib.Core.List.{List}
 use mathlib.Core.Path.{_≡_, sym, _∙_}
+use native.Mathlib.Omega.{arith}
 use lib.ListN.{getD, length}
 use lib.Dec.{eqb}
 use Rattle.number.specs.{sum, sumOf}
@@ -28,16 +29,22 @@ use Rattle.rounds.specs.{
   after,
   movedOf,
   totalOf,
+  onMean,
   starts,
   begin,
   leastSum,
 }
+use Rattle.rounds.proofs.Begins.{begin-past, begin-kept}
+use Rattle.rounds.proofs.Bounds.{from-zero}
+use Rattle.rounds.proofs.Costs.{to-mean-means}
 use Rattle.rounds.proofs.Promises.{fraction-at-least, fraction-exactly}
 use Rattle.lloyd.specs.Refusals.{limitOf}
 use Rattle.lloyd.specs.Beginning.{FarthestColour}
 use Rattle.lloyd.specs.Outcomes.{RunOutcome, RunMeets, AcceptedRun, runOf, madeRun, left}
 use Rattle.lloyd.specs.declared.Ran.{Ran}
 use Rattle.lloyd.proofs.Accepted as accepted
+use Rattle.lloyd.proofs.Accepted.{making}
+use Rattle.lloyd.proofs.Made as made
 use Rattle.lloyd.proofs.Wholes as wholes
 
 -- ---- the contract
@@ -54,8 +61,8 @@ run-only o r r′ ms ms′ ts ts′ a b =
 pub run-accepted : (rec : Record) (ks ws : List ℕ) (k limit : ℕ) (ms ts : List ℕ)
     → runOf rec ks ws k limit ms ts .answer .refusal ≡ done
     → runOf rec ks ws k limit ms ts
-    ≡ madeRun (coloursOf (rec .used) ks ws) k (limitOf limit) (begin (coloursOf (rec .used) ks ws) k ms) ts
-run-accepted = wholes.run-accepted
+    ≡ madeRun toMean (coloursOf (rec .used) ks ws) k (limitOf limit) (begin (coloursOf (rec .used) ks ws) k ms) ts
+run-accepted rec ks ws k limit ms ts = wholes.run-refuses rec ks ws k limit ms ts .accepted-is
 
 module _ {rec : Record} {ks ws : List ℕ} {k limit : ℕ} {ms ts : List ℕ} {r : Ran} {members totals : List ℕ}
     (h : AcceptedRun rec ks ws k limit ms ts r members totals) where
@@ -77,60 +84,60 @@ module _ {rec : Record} {ks ws : List ℕ} {k limit : ℕ} {ms ts : List ℕ} {r
 
   -- At least one round is made, and at most as many as the limit.
   pub rounds-within : (0 < r .rounds) × (r .rounds ≤ limitOf limit)
-  rounds-within = accepted.rounds-within h
+  rounds-within = made.rounds-within (making h)
 
   -- The run is settled exactly where its last round moves no shade.
   pub settled-is : r .settled
       ≡ eqb (movedOf toMean (coloursOf (rec .used) ks ws) k
       (after toMean (coloursOf (rec .used) ks ws) k (begin (coloursOf (rec .used) ks ws) k ms) (r .rounds - 1))) 0
-  settled-is = accepted.settled-is h
+  settled-is = made.settled-is (making h)
 
   -- Every round before the last moves a shade.
   pub moved-before : (n : ℕ) → n + 1 < r .rounds
       → eqb (movedOf toMean (coloursOf (rec .used) ks ws) k
       (after toMean (coloursOf (rec .used) ks ws) k (begin (coloursOf (rec .used) ks ws) k ms) n)) 0
       ≡ false
-  moved-before = accepted.moved-before h
+  moved-before = made.moved-before (making h)
 
   -- The recorded total of each round is that of the method, against the shades as they stood before its move.
   pub total-recorded : (n : ℕ) → n < r .rounds
       → getD totals n 0
       ≡ totalOf (coloursOf (rec .used) ks ws) k
       (after toMean (coloursOf (rec .used) ks ws) k (begin (coloursOf (rec .used) ks ws) k ms) n)
-  total-recorded = accepted.total-recorded h
+  total-recorded = made.total-recorded (making h)
 
   -- The recorded totals never rise.
   pub totals-never-rise : (n : ℕ) → n + 1 < r .rounds → getD totals (n + 1) 0 ≤ getD totals n 0
-  totals-never-rise = accepted.totals-never-rise h
+  totals-never-rise = made.totals-never-rise (making h)
 
   -- ---- its final total
 
   -- The final total is not above the last recorded one.
   pub final-at-most-last : r .total ≤ getD totals (r .rounds - 1) 0
-  final-at-most-last = accepted.final-at-most-last h
+  final-at-most-last = made.final-at-most-last (making h)
 
   -- For the last round's grouping no other shades, with any whole coordinates, give a smaller total.
   pub final-is-least : (s : ℕ → Point)
       → r .total ≤ sum (rec .used) (λ i. getD ws i 0 * distance (colourAt ks i) (s (getD members i 0)))
-  final-is-least = accepted.final-is-least h
+  final-is-least s = made.final-is-least (making h) 0 to-mean-means s (λ q l. absurd (omega arith))
 
   -- The final total is the sum over the shades of what each costs its group.
   pub total-is-groups : r .total ≡ sum k (groupCost (coloursOf (rec .used) ks ws) (left r members))
-  total-is-groups = accepted.total-is-groups h
+  total-is-groups = made.total-is-groups (making h)
 
   -- Group by group, times 4W: the cost is never below the least that fractional shades could give this grouping, and
   -- above it by at most three quarters of a squared sixteenth a pixel; an empty group costs nothing.
   pub group-bounded : (q : ℕ)
       → Bounded (groupAt (coloursOf (rec .used) ks ws) (left r members) q)
       (groupCost (coloursOf (rec .used) ks ws) (left r members) q)
-  group-bounded = accepted.group-bounded h
+  group-bounded q = made.group-bounded (making h) 0 to-mean-means q (omega arith)
 
   -- The same in sum, over any list of groups, the leasts added up as a fraction.
   pub groups-bounded : (qs : List ℕ)
       → SumBounded (leastSum (groupAt (coloursOf (rec .used) ks ws) (left r members)) qs)
       (sumOf (λ q. pixelsIn (groupAt (coloursOf (rec .used) ks ws) (left r members) q)) qs)
       (sumOf (groupCost (coloursOf (rec .used) ks ws) (left r members)) qs)
-  groups-bounded = accepted.groups-bounded h
+  groups-bounded qs = made.groups-bounded (making h) 0 to-mean-means qs (from-zero qs)
 
   -- That this is the least: a shade at a / n costs the group no less; both sides stand here times W and n².
   pub group-fraction-at-least : (q n : ℕ) (a : Point)
@@ -150,39 +157,41 @@ module _ {rec : Record} {ks ws : List ℕ} {k limit : ℕ} {ms ts : List ℕ} {r
   -- Each shade with a group stands on the rounded mean of its group.
   pub stands-on-mean : (q : ℕ) → q < k → 0 < pixelsIn (groupAt (coloursOf (rec .used) ks ws) (left r members) q)
       → shadeAt (r .shades) q ≡ meanOf (groupAt (coloursOf (rec .used) ks ws) (left r members) q)
-  stands-on-mean = accepted.stands-on-mean h
+  stands-on-mean q = made.stands-on-mean (making h) 0 to-mean-means q (omega arith)
 
   -- Every answered coordinate is on the grid.
   pub shades-low : OnGrid (r .shades)
-  shades-low = accepted.shades-low h
+  shades-low = made.shades-fit (making h) .0
 
   -- There are three for each shade asked for.
   pub shades-room : 3 * k ≤ length (r .shades)
-  shades-room = accepted.shades-room h
+  shades-room = made.shades-fit (making h) .1
 
   -- Answered shades past the count are zeros.
   pub shades-past : (i : ℕ) → 3 * k ≤ i → getD (r .shades) i 0 ≡ 0
-  shades-past = accepted.shades-past h
+  shades-past i l =
+      made.shades-past (making h) i l ∙ begin-past (onMean (coloursOf (rec .used) ks ws)) (coloursOf (rec .used) ks ws) k ms i l
 
   -- Each used member is the number of a shade.
   pub member-below : (i : ℕ) → i < rec .used → getD members i 0 < k
-  member-below = accepted.member-below h
+  member-below = made.member-below (making h)
 
   -- Members past the used entries stay.
   pub members-kept : (i : ℕ) → rec .used ≤ i → getD members i 0 ≡ getD ms i 0
-  members-kept = accepted.members-kept h
+  members-kept i l =
+      made.members-kept (making h) i l ∙ begin-kept (onMean (coloursOf (rec .used) ks ws)) (coloursOf (rec .used) ks ws) k ms i l
 
   -- Totals past the rounds made stay.
   pub totals-kept : (i : ℕ) → r .rounds ≤ i → getD totals i 0 ≡ getD ts i 0
-  totals-kept = accepted.totals-kept h
+  totals-kept = made.totals-kept (making h)
 
   -- ---- where it is settled
 
   -- Where the run is settled, the final total is the last recorded one.
   pub settled-final : r .settled ≡ true → r .total ≡ getD totals (r .rounds - 1) 0
-  settled-final = accepted.settled-final h
+  settled-final = made.settled-final (making h)
 
   -- And each used member is the nearest of the answered shades, the lowest number at a tie.
   pub settled-joined : r .settled ≡ true → (i : ℕ) → i < rec .used
       → getD members i 0 ≡ nearestShade (r .shades) k (colourAt ks i)
-  settled-joined = accepted.settled-joined h
+  settled-joined = made.settled-joined (making h)

@@ -7,7 +7,7 @@ use lib.ListN.{getD, length}
 use Rattle.refusal.specs.{done}
 use Rattle.table.specs.{Record}
 use Rattle.shades.specs.{colourAt, nearestShade}
-use Rattle.rounds.specs.{State, coloursOf, plainDistances, shortDistances}
+use Rattle.rounds.specs.{State, coloursOf, toMean, plainDistances, shortDistances}
 use Rattle.lloyd.specs.Outcomes.{RoundOutcome, RoundMeets, plainRound, shortRound, madeRound}
 use Rattle.lloyd.specs.declared.Rounded.{Rounded}
 use Rattle.lloyd.proofs.Rounds as rounds
@@ -25,14 +25,14 @@ round-only o r r′ cs cs′ ms ms′ a b =
 -- An accepted plain round is a round of Lloyd's rule, with the number of shades counted for each colour.
 pub plain-accepted : (rec : Record) (ks ws : List ℕ) (a : State) → plainRound rec ks ws a .answer .refusal ≡ done
     → plainRound rec ks ws a
-    ≡ madeRound (coloursOf (rec .used) ks ws) (length (a .coordinates) / 3) a plainDistances
-plain-accepted = rounds.plain-accepted
+    ≡ madeRound toMean (coloursOf (rec .used) ks ws) (length (a .coordinates) / 3) a plainDistances
+plain-accepted rec ks ws a = rounds.plain-refuses rec ks ws a .accepted-is
 
 -- An accepted shortened round is the same, with the distances counted that the shortened search works out.
 pub short-accepted : (rec : Record) (ks ws : List ℕ) (a : State) → shortRound rec ks ws a .answer .refusal ≡ done
     → shortRound rec ks ws a
-    ≡ madeRound (coloursOf (rec .used) ks ws) (length (a .coordinates) / 3) a shortDistances
-short-accepted = rounds.short-accepted
+    ≡ madeRound toMean (coloursOf (rec .used) ks ws) (length (a .coordinates) / 3) a shortDistances
+short-accepted rec ks ws a = rounds.short-refuses rec ks ws a .accepted-is
 
 -- In an accepted plain round each used member becomes the nearest shade, as the shades came.
 pub plain-joined : (rec : Record) (ks ws : List ℕ) (a : State) → plainRound rec ks ws a .answer .refusal ≡ done

@@ -5,6 +5,7 @@ use native.Mathlib.Omega.{arith}
 use denote.Ref.{now}
 use lib.ListN.{length}
 use Rattle.number.proofs.Fills.{fill-length}
+use Rattle.rounds.specs.{listed}
 use Rattle.starts.proofs.fill.Choosing.{
   Storing,
   storing-start,
@@ -19,33 +20,42 @@ use Rattle.starts.proofs.fill.fill_starts.Statement.{statement}
 use Rattle.starts.proofs.fill.fill_starts.Tie as tie
 
 abbrev Inv-loop : tie.InvT-loop
-Inv-loop keys used m k s₀ members₀ p₀ c₀ s members p c = Storing keys used m k s₀ members₀ s members p c
+Inv-loop keys used base k s₀ members₀ p₀ c₀ s members p c = Storing keys used (listed base) k s₀ members₀ s members p c
 
 abbrev μ-loop : tie.MeasureT-loop
-μ-loop keys used m k s₀ members₀ p₀ c₀ s members p c = k - c
+μ-loop keys used base k s₀ members₀ p₀ c₀ s members p c = k - c
+
+-- where the call began
+abbrev start : tie.After-set-all Inv-loop μ-loop → tie.Start Inv-loop μ-loop
+start c = c .before .before .before .before .before .before
 
 set-all-requires : tie.Need-set-all-requires Inv-loop μ-loop
-set-all-requires c κs = c .before .before .before .before .pre .4
+set-all-requires c κs = c .before .before .before .before .before .pre .5
+
+shade-at-requires : tie.Need-shade-at-requires Inv-loop μ-loop
+shade-at-requires c κs =
+    let s = c .before .before .before .before .before .before .before .before in
+    omega (arith, s .pre .2)
 
 loop-holds : tie.Need-loop-holds Inv-loop μ-loop
 loop-holds c =
-    let set = c .before .before in
-    let s = set .before .before .before .before .before in
+    let set = c .before .before .before in
+    let s = start set in
     let a = s .args in
-    storing-start (now (a .keys)) (a .used) (a .m) (a .k) (now (a .s)) _ (now (a .members)) (set .set-all .ensures)
-    (s .pre .4)
+    storing-start (now (a .keys)) (a .used) (listed (now (a .base))) (a .k) (now (a .s)) _ (now (a .members))
+    (c .shade-at .result) (set .set-all .ensures) (s .pre .5) (omega (arith, s .pre .2)) (c .shade-at .ensures)
 
 turn-requires : tie.Need-turn-requires Inv-loop μ-loop
 turn-requires c κs =
     let l = c .before .before in
-    let p = l .before .before .before .before .before .before .before .before .pre in
-    (p .0, p .1, storing-room (l .loop .inv), l .loop .inv .last, storing-same (l .loop .inv))
+    let p = start (l .before .before .before .before) .pre in
+    (p .0, p .1, p .2, storing-room (l .loop .inv), l .loop .inv .last, storing-same (l .loop .inv))
 
 put-shade-requires : tie.Need-put-shade-requires Inv-loop μ-loop
 put-shade-requires c κs =
     let l = c .before .before .before .before .before .before in
-    let p = l .before .before .before .before .before .before .before .before .pre in
-    rw (storing-coordinates (l .loop .inv)) (omega (arith, p .3))
+    let p = start (l .before .before .before .before) .pre in
+    rw (storing-coordinates (l .loop .inv)) (omega (arith, p .4))
 
 add-c : tie.Need-add-c Inv-loop μ-loop
 add-c c = omega arith
@@ -58,8 +68,8 @@ loop-again c =
     let put = c .before .before in
     let turned = put .before .before .before .before in
     let l = turned .before .before .before in
-    let p = l .before .before .before .before .before .before .before .before .pre in
-    storing-step (l .loop .inv) (turned .before .before .loop-test .taken) (p .3) _ _ (turned .turn .result)
+    let p = start (l .before .before .before .before) .pre in
+    storing-step (l .loop .inv) (turned .before .before .loop-test .taken) (p .4) _ _ (turned .turn .result)
     (turned .turn .ensures .0) (put .put-shade .ensures) (turned .turn .ensures .1)
 
 set-all-requires-2 : tie.Need-set-all-requires-2 Inv-loop μ-loop
@@ -72,19 +82,19 @@ same-length-2 : tie.Need-same-length-2 Inv-loop μ-loop
 same-length-2 c =
     let set = c .before .before in
     let l = set .before .before .before in
-    let start = l .before .before .before in
-    let before = now (start .before .before .before .before .before .args .members) in
-    ap length (storing-set (l .loop .inv) _ _ before (start .set-all .ensures) (set .set-all2 .ensures))
+    let first = l .before .before .before .before in
+    let before = now (start first .args .members) in
+    ap length (storing-set (l .loop .inv) _ _ before (first .set-all .ensures) (set .set-all2 .ensures))
     ∙ fill-length _ _ before
 
 returns : tie.Need-returns Inv-loop μ-loop
 returns c =
     let set = c .before .before in
     let l = set .before .before .before in
-    let start = l .before .before .before in
-    let before = now (start .before .before .before .before .before .args .members) in (
+    let first = l .before .before .before .before in
+    let before = now (start first .args .members) in (
       storing-done (l .loop .inv) (set .before .before .loop-test .left),
-      storing-set (l .loop .inv) 0 _ before (start .set-all .ensures) (set .set-all2 .ensures),
+      storing-set (l .loop .inv) 0 _ before (first .set-all .ensures) (set .set-all2 .ensures),
     )
 
 pub fill-starts-spec : {M : Type 1} → statement M
@@ -94,6 +104,7 @@ fill-starts-spec =
     Inv-loop
     μ-loop
     set-all-requires
+    shade-at-requires
     loop-holds
     turn-requires
     put-shade-requires

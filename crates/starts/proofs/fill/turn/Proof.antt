@@ -6,10 +6,13 @@ use denote.Ref.{now}
 use lib.Dec.{ltb}
 use Rattle.number.proofs.Searches.{first-below}
 use Rattle.shades.specs.{colourAt}
+use Rattle.rounds.specs.{listed}
+use Rattle.rounds.proofs.Startings.{listed-within}
 use Rattle.starts.proofs.fill.Choosing.{
   Choosing,
   choosing-within,
   choosing-first,
+  choosing-given,
   choosing-room,
   choosing-greatest,
   choosing-distances,
@@ -20,27 +23,61 @@ use Rattle.starts.proofs.fill.turn.Statement.{statement}
 use Rattle.starts.proofs.fill.turn.Tie as tie
 
 -- what the call is given
-given : (s : tie.Start) → let a = s .args in Choosing (now (a .keys)) (a .used) (a .m) (a .c) (a .p) (now (a .d))
-given s = record { first = s .pre .1; room = s .pre .2; last = s .pre .3; same = s .pre .4 }
+given : (s : tie.Start)
+    → let a = s .args in Choosing (now (a .keys)) (a .used) (listed (now (a .base))) (a .c) (a .p) (now (a .d))
+given s = record {
+  low = listed-within (now (s .args .base)) (s .pre .1);
+  room = s .pre .3;
+  last = s .pre .4;
+  same = s .pre .5;
+}
+
+-- where the call began
+abbrev st : tie.After-lower → tie.Start
+st c = c .before .before .before .before .before .before
 
 -- the place found is that of an entry
-found-below : (c : tie.After-first-of)
-    → let s = c .before .before .before .before .before .before .before .before .before in
-    c .first-of .result < s .args .used
+found-below : (c : tie.After-first-of) → c .first-of .result < st (c .before .before .before .before .before) .args .used
 found-below c =
-    let s = c .before .before .before .before .before .before .before .before .before in
+    let s = st (c .before .before .before .before .before) in
     rw (c .first-of .ensures) (first-below (λ a b. ltb b a) (s .args .used) _ (s .pre .0 .some))
 
+shade-at-requires : tie.Need-shade-at-requires
+shade-at-requires c κs =
+    let s = c .before .before .before .before in
+    omega (arith, s .pre .2, c .if1 .taken)
+
 returns : tie.Need-returns
-returns c = choosing-first (given (c .before .before .before)) (c .if1 .taken)
+returns c =
+    let s = c .before .before .before .before .before in
+    let first = c .before .if1 .taken in (
+      c .shade-at .ensures ∙ choosing-given (given s) (omega (arith, first, s .pre .2)),
+      choosing-first (given s) first,
+    )
 
 lower-requires : tie.Need-lower-requires
-lower-requires c κs = let s = c .before .before .before .before in (s .pre .0, choosing-within (given s), s .pre .2)
+lower-requires c κs =
+    let s = c .before .before .before .before .before in
+    (s .pre .0, choosing-within (given s), s .pre .3)
+
+shade-at-requires-2 : tie.Need-shade-at-requires-2
+shade-at-requires-2 c κs = omega (arith, c .if2 .taken)
+
+same-length : tie.Need-same-length
+same-length c = search needs
+
+returns-2 : tie.Need-returns-2
+returns-2 c =
+    let l = c .before .before .before .before in
+    let s = st l in (
+      c .shade-at2 .ensures ∙ choosing-given (given s) (c .before .if2 .taken),
+      choosing-distances (given s) _ (l .lower .ensures .0) (l .before .before .if1 .left),
+    )
 
 first-of-requires : tie.Need-first-of-requires
 first-of-requires c κs =
-    let l = c .before .before .before in
-    let s = l .before .before .before .before .before in
+    let l = c .before .before .before .before in
+    let s = st l in
     let e = l .lower .ensures .0 in (
       s .pre .0 .some,
       choosing-room (given s) _ e,
@@ -49,28 +86,29 @@ first-of-requires c κs =
 
 mul-colour-of : tie.Need-mul-colour-of
 mul-colour-of c =
-    let s = c .before .before .before .before .before .before .before .before .before in
+    let s = st (c .before .before .before .before .before) in
     omega (arith, s .good, s .pre .0 .room, found-below c)
 
 shared-slice-read-colour-of : tie.Need-shared-slice-read-colour-of
 shared-slice-read-colour-of c =
-    let s = c .before .before .before .before .before .before .before .before .before .before in
+    let s = st (c .before .before .before .before .before .before) in
     omega (arith, s .pre .0 .room, found-below (c .before))
 
 colour-of-requires : tie.Need-colour-of-requires
 colour-of-requires c κs = search needs
 
-same-length : tie.Need-same-length
-same-length c = search needs
+same-length-2 : tie.Need-same-length-2
+same-length-2 c = search needs
 
-returns-2 : tie.Need-returns-2
-returns-2 c =
-    let l = c .before .before .before .before .before .before in
+returns-3 : tie.Need-returns-3
+returns-3 c =
+    let f = c .before .before in
+    let l = f .before .before .before .before .before in
     let some = l .before .before .if1 .left in
-    let s = l .before .before .before .before .before in
+    let s = st l in
     let e = l .lower .ensures .0 in (
-      c .colour-of .ensures .0 ∙ ap (colourAt (now (s .args .keys))) (c .before .before .first-of .ensures)
-          ∙ choosing-shade (given s) _ e some,
+      c .colour-of .ensures .0 ∙ ap (colourAt (now (s .args .keys))) (f .first-of .ensures)
+          ∙ choosing-shade (given s) _ e some (f .before .before .if2 .left),
       choosing-distances (given s) _ e some,
     )
 
@@ -78,11 +116,15 @@ pub turn-spec : {M : Type 1} → statement M
 turn-spec =
     tie.close
     (tie.spec
+    shade-at-requires
     returns
     lower-requires
+    shade-at-requires-2
+    same-length
+    returns-2
     first-of-requires
     mul-colour-of
     shared-slice-read-colour-of
     colour-of-requires
-    same-length
-    returns-2)
+    same-length-2
+    returns-3)

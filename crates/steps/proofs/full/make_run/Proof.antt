@@ -1,66 +1,21 @@
--- `make_run` meets its contract: the starting shades begin the run, and the rounds' laws end it.
-use mathlib.Core.Path.{_≡_}
+-- `make_run` meets its contract: the table's mean is the only given shade.
 use native.Mathlib.Omega.{arith}
-use lib.ListN.{length-replicate}
-use denote.Ref.{now}
 use borrow.Author.Needs.{needs}
-use Rattle.rounds.specs.{stateOf, coloursOf, begin}
-use Rattle.steps.specs.Meeting.{SeriesMeets}
-use Rattle.steps.proofs.Turns.{begin-walkable, begun, series-walkable}
+use Rattle.rounds.proofs.Startings.{flat-low}
 use Rattle.steps.proofs.full.make_run.Statement.{statement}
 use Rattle.steps.proofs.full.make_run.Tie as tie
-
--- where the run is called
-abbrev st : tie.After-fill-starts → tie.Start
-st c = c .before .before .before .before .before .before .before .before .before
-
--- after the starting shades it has begun
-has-begun : (c : tie.After-fill-starts)
-    → stateOf (c .fill-starts .last .1 .1 .1 .1 .0) (c .fill-starts .last .1 .1 .1 .1 .1 .0)
-    ≡ begin (coloursOf (st c .args .used) (now (st c .args .keys)) (now (st c .args .weights))) (st c .args .k)
-    (now (st c .args .members))
-has-begun c =
-    begun (st c .pre .0) _ _ _ _ (c .before .before .before .whole-mean .ensures .0) (st c .pre .1)
-    (c .fill-starts .ensures .0) (c .fill-starts .ensures .1)
-
--- the rounds begin where the starting shades are stored
-abbrev starting : tie.After-make-rounds → tie.After-fill-starts
-starting c = c .before .before .before .before .before .before .before .before
-
--- and are those of a run that begins there
-series : (c : tie.After-make-rounds)
-    → (let a = st (starting c) .args in
-    SeriesMeets (coloursOf (a .used) (now (a .keys)) (now (a .weights))) (a .k) (a .limit)
-    (begin (coloursOf (a .used) (now (a .keys)) (now (a .weights))) (a .k) (now (a .members)))
-    (stateOf (c .make-rounds .last .1 .1 .1 .1 .1 .0) (c .make-rounds .last .1 .1 .1 .1 .1 .1 .0))
-    (now (a .totals)) (c .make-rounds .last .1 .1 .1 .1 .1 .1 .1 .0)
-    (c .make-rounds .result .rounds) (c .make-rounds .result .settled) (c .make-rounds .result .distances))
-series c = rw (has-begun (starting c)) at (c .make-rounds .ensures)
 
 whole-mean-requires : tie.Need-whole-mean-requires
 whole-mean-requires c κs = search needs
 
-fill-starts-requires : tie.Need-fill-starts-requires
-fill-starts-requires c κs =
-    let w = c .before .before in
-    let p = w .before .before .before .before .before .before .pre in (
-      record { some = omega (arith, p .0 .some, p .0 .colours); room = p .0 .table .keys-room },
-      w .whole-mean .ensures .1,
-      p .0 .few,
-      rw (p .1) (simp length-replicate (omega (arith, p .0 .few))),
-      p .0 .members-room,
-    )
+slice-aggregate-run-from : tie.Need-slice-aggregate-run-from
+slice-aggregate-run-from c = search needs
 
-make-rounds-requires : tie.Need-make-rounds-requires
-make-rounds-requires c κs =
-    let f = c .before .before .before .before .before .before .before in
-    let p = st f .pre .0 in
-    (rw (has-begun f) (begin-walkable p), p .limit-some, p .limit-most, p .totals-room)
-
-final-total-requires : tie.Need-final-total-requires
-final-total-requires c κs =
-    let r = c .before .before .before .before .before .before .before .before in
-    series-walkable (st (starting r) .pre .0) (series r)
+run-from-requires : tie.Need-run-from-requires
+run-from-requires c κs =
+    let w = c .before .before .before .before in
+    let p = w .before .before .before .before .before .before .pre in
+    (p .0, flat-low (w .whole-mean .result) (w .whole-mean .ensures .1), omega arith, p .1)
 
 same-length : tie.Need-same-length
 same-length c = search needs
@@ -73,17 +28,17 @@ same-length-3 c = search needs
 
 returns : tie.Need-returns
 returns c =
-    let r = c .before .before .before .before .before .before .before .before .before in
-    (series r, c .final-total .ensures)
+    let r = c .before .before .before .before .before .before in
+    let w = r .before .before .before .before .before in
+    (rw (w .whole-mean .ensures .0) at (r .run-from .ensures .0), r .run-from .ensures .1)
 
 pub make-run-spec : {M : Type 1} → statement M
 make-run-spec =
     tie.close
     (tie.spec
     whole-mean-requires
-    fill-starts-requires
-    make-rounds-requires
-    final-total-requires
+    slice-aggregate-run-from
+    run-from-requires
     same-length
     same-length-2
     same-length-3
