@@ -7,7 +7,7 @@ use mathlib.Core.List.{List}
 use lib.ListN.{length, take, drop}
 use lib.Dec.{leb}
 use Rattle.colour.specs.{mostPixels}
-use Rattle.entries.specs.{Entry, entries, keysInto, weightsInto, pixelsOf, sound, stripKeys, putAll}
+use Rattle.table_entries.specs.{Entry, entries, keysInto, weightsInto, pixelsOf, sound, stripKeys, putAll}
 
 -- a sound table of `used` entries stands at the front of two slices that have room for `room`
 pub record Standing (used room : ℕ) (ks ws : List ℕ) : Type 0 where

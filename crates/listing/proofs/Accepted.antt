@@ -12,10 +12,10 @@ use Rattle.number.specs.{sum}
 use Rattle.refusal.specs.{Refusal, done, firstOf, Given, BAD-COUNT, FEW-COLOURS}
 use Rattle.colour.specs.{Bytes, badStrip, mostPixels}
 use Rattle.colour.proofs.Strips.{whole-exactly}
-use Rattle.entries.specs.{Entry, pixelsOf, weightOf, stops, takenOf, stripKeys, put, withTaken}
-use Rattle.entries.proofs.Gives.{give-length, give-pixels}
-use Rattle.entries.proofs.Strips.{strip-length, byte-keys}
-use Rattle.entries.proofs.Promises.{taken-within-limits}
+use Rattle.table_entries.specs.{Entry, pixelsOf, weightOf, stops, takenOf, stripKeys, put, withTaken}
+use Rattle.table_entries.proofs.Gives.{give-length, give-pixels}
+use Rattle.table_entries.proofs.Strips.{strip-length, byte-keys}
+use Rattle.table_entries.proofs.Promises.{taken-within-limits}
 use Rattle.table.specs.{Record, GoodTable, emptyRecord, roomOf, full}
 use Rattle.table.proofs.Promises.{accepted-exactly, bad-table-exactly, stays-good, after-taken}
 use Rattle.p6.specs.{rasterOf}

@@ -4,7 +4,7 @@ ghost use mathlib.Core.Bool.{cond};
 ghost use Prim.Native.Nat.{_≤_};
 ghost use lib.ListN.{length};
 ghost use lib.Dec.{leb};
-ghost use Rattle.entries.specs.{mostEntries};
+ghost use Rattle.table_entries.specs.{mostEntries};
 ghost use Rattle.lloyd.specs.Refusals.{badCount, limitOf, badMember};
 use super::USUAL_LIMIT;
 

@@ -9,7 +9,7 @@ use Rattle.number.specs.{sum}
 use Rattle.number.proofs.Sums.{sum-le, sum-bound, sum-mul, sum-part, sum-term}
 use Rattle.colour.specs.{mostPixels, mostDistance}
 use Rattle.colour.proofs.Distances.{colour-within}
-use Rattle.entries.specs.{mostEntries}
+use Rattle.table_entries.specs.{mostEntries}
 use Rattle.shades.specs.{mostShades, OnGrid, toShade, worked}
 use Rattle.shades.proofs.Laying.{to-shade-most}
 use Rattle.shades.proofs.Nearest.{worked-at-most}

@@ -7,7 +7,7 @@ use lib.ListN.{getD, length}
 use lib.Dec.{eqb}
 use Rattle.number.specs.{sum, Group, S, Q, roundedMean}
 use Rattle.colour.specs.{Point, Within, distance, mostCoordinate, mostPixels}
-use Rattle.entries.specs.{mostEntries}
+use Rattle.table_entries.specs.{mostEntries}
 use Rattle.shades.specs.{colourAt}
 
 -- places below n, each with a weight in pixels and the point at which its colour stands

@@ -4,7 +4,7 @@ ghost use Prim.Native.Nat.{ℕ, _+_, _*_, _≤_, _<_};
 ghost use lib.ListN.{length, take, drop};
 ghost use Rattle.number.specs.{sumOf};
 ghost use Rattle.colour.specs.{mostKey};
-ghost use Rattle.entries.specs.{stripKeys, keyAt, countOf};
+ghost use Rattle.table_entries.specs.{stripKeys, keyAt, countOf};
 ghost use Rattle.runs.specs.Run.{runCount, joined};
 use super::run::run_key;
 

@@ -11,7 +11,7 @@ use borrow.Author.Tests.{lt-ltb, le-ltb, ltb-true, ltb-false}
 use Rattle.number.specs.{sum, fill}
 use Rattle.number.proofs.Fills.{fill-more, fill-length}
 use Rattle.number.proofs.Sums.{sum-more, sum-bound}
-use Rattle.entries.specs.{mostEntries}
+use Rattle.table_entries.specs.{mostEntries}
 use Rattle.colour.specs.{Within, mostCoordinate}
 use Rattle.shades.specs.{mostShades, mostCoordinates, colourAt}
 use Rattle.rounds.specs.{

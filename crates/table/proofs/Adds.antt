@@ -7,9 +7,9 @@ use native.Mathlib.Omega.{arith}
 use lib.ListN.{length}
 use borrow.Author.Tests.{lt-ltb, le-ltb, eq-eqb, ne-eqb}
 use Rattle.refusal.specs.{numberOf, done, BAD-STRIP, BAD-TABLE, FULL}
-use Rattle.entries.specs.{entries, pixelsOf, stripKeys, withTaken}
-use Rattle.entries.proofs.Strips.{strip-length}
-use Rattle.entries.proofs.Takes.{taken-at-most, taken-pixels}
+use Rattle.table_entries.specs.{entries, pixelsOf, stripKeys, withTaken}
+use Rattle.table_entries.proofs.Strips.{strip-length}
+use Rattle.table_entries.proofs.Takes.{taken-at-most, taken-pixels}
 use Rattle.colour.specs.{badStrip}
 use Rattle.table.specs.Refusals.{roomOf, badTable, full}
 use Rattle.table.specs.Outcomes.{refused, asItCame, withPixels, addStrip, AddMeets}

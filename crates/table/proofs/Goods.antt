@@ -10,9 +10,9 @@ use lib.Dec.{ltb, eqb}
 use borrow.Author.Tests.{le-ltb, ltb-false, eq-eqb, eqb-true}
 use Rattle.number.proofs.Cases.{bool, never, neither, not-not}
 use Rattle.colour.specs.{mostPixels}
-use Rattle.entries.specs.{entries, sound}
-use Rattle.entries.proofs.Slices.{entries-length, keys-rise, keys-are-keys}
-use Rattle.entries.proofs.Rows.{sound-of-rows, weights-some, pixels-sum}
+use Rattle.table_entries.specs.{entries, sound}
+use Rattle.table_entries.proofs.Slices.{entries-length, keys-rise, keys-are-keys}
+use Rattle.table_entries.proofs.Rows.{sound-of-rows, weights-some, pixels-sum}
 use Rattle.table.specs.Goods.{GoodTable}
 use Rattle.table.specs.Refusals.{roomOf, recordOf, sameRecord, badTable}
 use Rattle.table.specs.declared.Record.{Record}

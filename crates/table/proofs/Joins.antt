@@ -8,10 +8,10 @@ use native.Mathlib.Omega.{arith}
 use lib.ListN.{length, drop, length-append}
 use borrow.Author.Tests.{le-ltb}
 use Rattle.refusal.specs.{done}
-use Rattle.entries.specs.{Entry, entries, keysInto, weightsInto, weightOf, stripKeys, putAll, takenOf}
-use Rattle.entries.proofs.Gives.{putAll-length, putAll-append}
-use Rattle.entries.proofs.Same.{same-table}
-use Rattle.entries.proofs.Slices.{
+use Rattle.table_entries.specs.{Entry, entries, keysInto, weightsInto, weightOf, stripKeys, putAll, takenOf}
+use Rattle.table_entries.proofs.Gives.{putAll-length, putAll-append}
+use Rattle.table_entries.proofs.Same.{same-table}
+use Rattle.table_entries.proofs.Slices.{
   entries-laid,
   keys-laid,
   weights-laid,
@@ -19,8 +19,8 @@ use Rattle.entries.proofs.Slices.{
   laid-kept,
   drop-later,
 }
-use Rattle.entries.proofs.Strips.{strip-append}
-use Rattle.entries.proofs.Takes.{taken-all, taken-append}
+use Rattle.table_entries.proofs.Strips.{strip-append}
+use Rattle.table_entries.proofs.Takes.{taken-all, taken-append}
 use Rattle.colour.specs.{Bytes}
 use Rattle.colour.proofs.Strips.{whole-exactly, whole-append}
 use Rattle.table.specs.Refusals.{roomOf, recordOf, badTable}

@@ -12,7 +12,7 @@ use Rattle.number.proofs.Cases.{bool}
 use Rattle.refusal.specs.{Refusal, numberOf, done, Refuses}
 use Rattle.refusal.proofs.Outcomes.{refuses}
 use Rattle.colour.specs.{badStrip, Bytes, mostPixels}
-use Rattle.entries.specs.{
+use Rattle.table_entries.specs.{
   Entry,
   entries,
   keysInto,
@@ -26,10 +26,10 @@ use Rattle.entries.specs.{
   takenOf,
   withTaken,
 }
-use Rattle.entries.proofs.Gives.{keys-take, putAll-weight, putAll-sound}
-use Rattle.entries.proofs.Slices.{entries-length, entries-laid, laid-length, laid-kept}
-use Rattle.entries.proofs.Strips.{byte-keys}
-use Rattle.entries.proofs.Takes.{Prefix, taken-prefix, prefix-only, taken-at-most, taken-all, taken-fits}
+use Rattle.table_entries.proofs.Gives.{keys-take, putAll-weight, putAll-sound}
+use Rattle.table_entries.proofs.Slices.{entries-length, entries-laid, laid-length, laid-kept}
+use Rattle.table_entries.proofs.Strips.{byte-keys}
+use Rattle.table_entries.proofs.Takes.{Prefix, taken-prefix, prefix-only, taken-at-most, taken-all, taken-fits}
 use Rattle.table.specs.Refusals.{roomOf, recordOf, badTable, full, addRows, addRefusal}
 use Rattle.table.specs.Outcomes.{
   Outcome,

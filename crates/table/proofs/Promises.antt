@@ -8,8 +8,8 @@ use mathlib.Core.List.{List, [], _++_}
 use Prim.Native.Nat.{ℕ, _+_, _%_, _<_}
 use lib.ListN.{length, getD, drop}
 use Rattle.refusal.specs.{Refusal, numberOf, done, Given, NoneHolds}
-use Rattle.entries.specs.{entries, weightOf, stripKeys, countOf, stops, takenOf, withTaken}
-use Rattle.entries.proofs.Takes.{Prefix}
+use Rattle.table_entries.specs.{entries, weightOf, stripKeys, countOf, stops, takenOf, withTaken}
+use Rattle.table_entries.proofs.Takes.{Prefix}
 use Rattle.colour.specs.{badStrip, Bytes}
 use Rattle.table.specs.Refusals.{roomOf, recordOf, badTable, full, addRows}
 use Rattle.table.specs.Outcomes.{asItCame, handsBack, addStrip, tableAfter, AddMeets}

@@ -5,7 +5,7 @@ use mathlib.Core.Bool.{Bool, cond, _||_}
 use mathlib.Core.List.{List}
 use lib.Dec.{eqb}
 use Rattle.refusal.specs.{numberOf, done, outcomeOf, BAD-STRIP, BAD-TABLE}
-use Rattle.entries.specs.{Entry, entries, keysInto, weightsInto, stripKeys, takenOf, withTaken}
+use Rattle.table_entries.specs.{Entry, entries, keysInto, weightsInto, stripKeys, takenOf, withTaken}
 use Rattle.table.specs.Refusals.{roomOf, recordOf, addRows}
 use Rattle.table.specs.declared.Record.{Record}
 use Rattle.table.specs.declared.Added.{Added}

@@ -6,7 +6,7 @@ use lib.ListN.{length}
 use lib.Dec.{ltb, eqb}
 use Rattle.refusal.specs.{Row, row, firstOf, BAD-STRIP, BAD-TABLE, FULL}
 use Rattle.colour.specs.{badStrip, mostPixels}
-use Rattle.entries.specs.{Entry, entries, pixelsOf, sound, stripKeys, mostEntries, takenOf}
+use Rattle.table_entries.specs.{Entry, entries, pixelsOf, sound, stripKeys, mostEntries, takenOf}
 use Rattle.table.specs.declared.Record.{Record}
 
 -- the room: the shorter of the two lent slices, capped at 1,048,576

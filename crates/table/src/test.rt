@@ -5,7 +5,7 @@ ghost use Prim.Native.Nat.{_≤_, _<_, min};
 ghost use lib.ListN.{length};
 ghost use lib.Dec.{leb, eqb};
 ghost use Rattle.number.specs.{sum, howMany};
-ghost use Rattle.entries.specs.{mostEntries};
+ghost use Rattle.table_entries.specs.{mostEntries};
 ghost use Rattle.table.specs.Refusals.{badTable};
 ghost use Rattle.table.specs.Testing.{fallsAt, emptyAt, weightAt};
 use super::MOST_ENTRIES;

@@ -4,7 +4,7 @@ use mathlib.Core.Path.{_≡_}
 use mathlib.Core.List.{List}
 use lib.ListN.{length}
 use Rattle.colour.specs.{mostPixels}
-use Rattle.entries.specs.{Entry, entries, keysInto, weightsInto, pixelsOf, takenOf, withTaken}
+use Rattle.table_entries.specs.{Entry, entries, keysInto, weightsInto, pixelsOf, takenOf, withTaken}
 use Rattle.adding.specs.{Standing}
 
 -- a sound table stands in the slices, the strip has at least `end` pixels, and the table's total has place for them

@@ -3,7 +3,7 @@ ghost use mathlib.Core.Path.{_≡_};
 ghost use Prim.Native.Nat.{_*_, _≤_, min};
 ghost use lib.ListN.{length, take};
 ghost use Rattle.colour.specs.{mostPixels};
-ghost use Rattle.entries.specs.{entries, pixelsOf, stripKeys};
+ghost use Rattle.table_entries.specs.{entries, pixelsOf, stripKeys};
 ghost use Rattle.adding.specs.{Standing};
 ghost use Rattle.taking.specs.Taking.{Able, TookMeets};
 use adding::chunk::add_one;

@@ -9,9 +9,9 @@ use lib.Seq.{length-take-le, getD-take}
 use lib.Dec.{leb}
 use borrow.Author.Tests.{le-leb, lt-leb}
 use Rattle.number.specs.{sumOf}
-use Rattle.entries.specs.{Entry, pixelsOf, sound, stripKeys, countOf, putAll}
-use Rattle.entries.proofs.Gives.{Keys, keys-take, putAll-pixels}
-use Rattle.entries.proofs.Strips.{byte-keys, keys-drop}
+use Rattle.table_entries.specs.{Entry, pixelsOf, sound, stripKeys, countOf, putAll}
+use Rattle.table_entries.proofs.Gives.{Keys, keys-take, putAll-pixels}
+use Rattle.table_entries.proofs.Strips.{byte-keys, keys-drop}
 use Rattle.runs.specs.{runKey, runCount, sorted}
 use Rattle.runs.proofs.sort.Order.{sorted-sum, sorted-length, sorted-rises}
 use Rattle.merging.specs.{giveBack}

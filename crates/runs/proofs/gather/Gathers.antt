@@ -15,8 +15,8 @@ use Rattle.number.specs.{sumOf}
 use Rattle.number.proofs.Cases.{bool, never}
 use Rattle.number.proofs.ListSums.{sumOf-append}
 use Rattle.colour.specs.{mostKey}
-use Rattle.entries.specs.{stripKeys, keyAt, countOf}
-use Rattle.entries.proofs.Strips.{strip-at, strip-at-least}
+use Rattle.table_entries.specs.{stripKeys, keyAt, countOf}
+use Rattle.table_entries.proofs.Strips.{strip-at, strip-at-least}
 use Rattle.runs.specs.Run.{runKey, runPixels, runCount, joined}
 
 -- ---- counts of pixels

@@ -7,7 +7,7 @@ use native.Mathlib.Omega.{arith}
 use lib.ListN.{length}
 use denote.Ref.{now}
 use borrow.Author.Needs.{needs}
-use Rattle.entries.specs.{entries, stripKeys}
+use Rattle.table_entries.specs.{entries, stripKeys}
 use Rattle.table.specs.Refusals.{roomOf, badTable}
 use Rattle.taking.specs.{TookMeets}
 use Rattle.table.specs.declared.Record.{Record}

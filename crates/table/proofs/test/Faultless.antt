@@ -12,9 +12,9 @@ use Rattle.number.specs.{howMany}
 use Rattle.number.proofs.Cases.{bool}
 use Rattle.number.proofs.Counts.{howMany-none, none-howMany}
 use Rattle.colour.specs.{mostKey}
-use Rattle.entries.specs.{entries, sound}
-use Rattle.entries.proofs.Slices.{keys-rise, keys-are-keys}
-use Rattle.entries.proofs.Rows.{sound-of-rows, weights-some}
+use Rattle.table_entries.specs.{entries, sound}
+use Rattle.table_entries.proofs.Slices.{keys-rise, keys-are-keys}
+use Rattle.table_entries.proofs.Rows.{sound-of-rows, weights-some}
 use Rattle.table.specs.Testing.{fallsAt, emptyAt}
 
 -- keys that rise from place to place: none is above a later one

@@ -10,9 +10,9 @@ use borrow.Author.Tests.{lt-ltb, le-ltb, eq-eqb, ne-eqb, eqb-true, eqb-false}
 use Rattle.number.specs.{sum}
 use Rattle.number.proofs.Cases.{bool}
 use Rattle.colour.specs.{mostPixels}
-use Rattle.entries.specs.{entries, sound}
-use Rattle.entries.proofs.Slices.{entries-length}
-use Rattle.entries.proofs.Rows.{pixels-sum}
+use Rattle.table_entries.specs.{entries, sound}
+use Rattle.table_entries.proofs.Slices.{entries-length}
+use Rattle.table_entries.proofs.Rows.{pixels-sum}
 use Rattle.table.specs.Refusals.{roomOf, recordOf, sameRecord, badEntries, badTable}
 use Rattle.table.specs.Testing.{weightAt}
 use Rattle.table.specs.declared.Record.{Record}

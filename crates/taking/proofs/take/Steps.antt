@@ -10,9 +10,9 @@ use lib.Dec.{ltb}
 use borrow.Author.Tests.{ltb-true, ltb-false}
 use Rattle.number.proofs.Cases.{bool}
 use Rattle.colour.specs.{mostPixels}
-use Rattle.entries.specs.{Entry, entries, pixelsOf, stripKeys, withTaken}
-use Rattle.entries.proofs.Strips.{strip-at-least}
-use Rattle.entries.proofs.Takes.{taken-capped, withTaken-capped}
+use Rattle.table_entries.specs.{Entry, entries, pixelsOf, stripKeys, withTaken}
+use Rattle.table_entries.proofs.Strips.{strip-at-least}
+use Rattle.table_entries.proofs.Takes.{taken-capped, withTaken-capped}
 use Rattle.adding.specs.{Ready, Tried, piece}
 use Rattle.adding.proofs.chunk.Listing.{piece-keys}
 use Rattle.taking.specs.Taking.{Able, TookMeets}

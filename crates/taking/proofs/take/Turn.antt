@@ -10,9 +10,9 @@ use lib.Seq.{length-take-le, drop-drop, drop-cons}
 use lib.Dec.{leb}
 use borrow.Author.Tests.{le-leb, lt-leb}
 use Rattle.colour.specs.{mostPixels}
-use Rattle.entries.specs.{Entry, entries, keysInto, weightsInto, pixelsOf, put, putAll, stops, takenOf, withTaken}
-use Rattle.entries.proofs.Gives.{Keys, putAll-length, putAll-pixels, putAll-sound}
-use Rattle.entries.proofs.Slices.{
+use Rattle.table_entries.specs.{Entry, entries, keysInto, weightsInto, pixelsOf, put, putAll, stops, takenOf, withTaken}
+use Rattle.table_entries.proofs.Gives.{Keys, putAll-length, putAll-pixels, putAll-sound}
+use Rattle.table_entries.proofs.Slices.{
   entries-length,
   entries-laid,
   keys-laid,
@@ -21,7 +21,7 @@ use Rattle.entries.proofs.Slices.{
   laid-kept,
   drop-later,
 }
-use Rattle.entries.proofs.Takes.{stops-at-room, fits-taken, taken-append, withTaken-append}
+use Rattle.table_entries.proofs.Takes.{stops-at-room, fits-taken, taken-append, withTaken-append}
 use Rattle.adding.specs.{Standing, laidKeys, laidWeights}
 use Rattle.taking.specs.Taking.{TookMeets}
 

@@ -7,8 +7,8 @@ use native.Mathlib.Omega.{arith}
 use lib.ListN.{length, take}
 use denote.Ref.{now}
 use borrow.Author.Needs.{needs}
-use Rattle.entries.specs.{Entry, entries, keysInto, weightsInto, putAll}
-use Rattle.entries.proofs.Slices.{keys-in-order, entries-length}
+use Rattle.table_entries.specs.{Entry, entries, keysInto, weightsInto, putAll}
+use Rattle.table_entries.proofs.Slices.{keys-in-order, entries-length}
 use Rattle.merging.specs.{giveBack, InOrder}
 use Rattle.adding.specs.Trying.{piece}
 use Rattle.merging.proofs.merge.Backs.{back-length-le}

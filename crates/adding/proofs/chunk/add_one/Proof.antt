@@ -5,8 +5,8 @@ use Prim.Native.Nat.{_*_}
 use native.Mathlib.Omega.{arith}
 use denote.Ref.{now}
 use borrow.Author.Needs.{needs}
-use Rattle.entries.specs.{keyAt}
-use Rattle.entries.proofs.Strips.{strip-one}
+use Rattle.table_entries.specs.{keyAt}
+use Rattle.table_entries.proofs.Strips.{strip-one}
 use Rattle.adding.specs.Trying.{piece}
 use Rattle.adding.proofs.chunk.add_one.Statement.{statement}
 use Rattle.adding.proofs.chunk.add_one.Tie as tie

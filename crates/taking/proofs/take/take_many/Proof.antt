@@ -5,7 +5,7 @@ use Prim.Native.Nat.{ℕ, _+_, _-_, _≤_, _<_}
 use native.Mathlib.Omega.{arith}
 use lib.ListN.{take}
 use denote.Ref.{now}
-use Rattle.entries.specs.{stripKeys}
+use Rattle.table_entries.specs.{stripKeys}
 use Rattle.taking.proofs.take.Turn.{Taking}
 use Rattle.taking.proofs.take.Steps.{steps-start, steps-ready, steps-in, steps-out, steps-full, steps-done}
 use Rattle.taking.proofs.take.take_many.Statement.{statement}

@@ -6,8 +6,8 @@ use lib.ListN.{length}
 use denote.Ref.{now}
 use borrow.Author.Needs.{needs}
 use Rattle.colour.specs.{mostPixels}
-use Rattle.entries.specs.{stripKeys}
-use Rattle.entries.proofs.Strips.{strip-length}
+use Rattle.table_entries.specs.{stripKeys}
+use Rattle.table_entries.proofs.Strips.{strip-length}
 use Rattle.taking.specs.Taking.{Able}
 use Rattle.taking.proofs.take.Steps.{steps-whole}
 use Rattle.taking.proofs.take.take_strip.Statement.{statement}

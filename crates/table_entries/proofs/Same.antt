@@ -8,9 +8,9 @@ use native.Mathlib.Omega.{arith}
 use lib.Dec.{ltb, eqb}
 use borrow.Author.Tests.{ltb-true, ltb-false, eqb-true, eqb-false, eq-eqb, ne-eqb}
 use Rattle.number.proofs.Cases.{bool}
-use Rattle.entries.specs.Content.{Entry, entry, weightOf, sound}
-use Rattle.entries.proofs.Sounds.{Sound, sound-cons}
-use Rattle.entries.proofs.Gives.{weight-low}
+use Rattle.table_entries.specs.Content.{Entry, entry, weightOf, sound}
+use Rattle.table_entries.proofs.Sounds.{Sound, sound-cons}
+use Rattle.table_entries.proofs.Gives.{weight-low}
 
 -- the first entry's weight counts for its own colour
 weight-head : (e : Entry) (es : List Entry) → weightOf (e .key) (e ∷ es) ≡ e .weight + weightOf (e .key) es

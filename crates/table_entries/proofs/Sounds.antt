@@ -11,7 +11,7 @@ use lib.Dec.{ltb}
 use borrow.Author.Tests.{le-ltb, ltb-false}
 use Rattle.number.proofs.Cases.{bool, never}
 use Rattle.colour.specs.{mostKey}
-use Rattle.entries.specs.Content.{Entry, keysOf, sound}
+use Rattle.table_entries.specs.Content.{Entry, keysOf, sound}
 
 -- the first entry's key and weight are as they should be, and the rest rises from that key on
 pub record Sound (low : ℕ) (e : Entry) (es : List Entry) : Type 0 where

@@ -5,7 +5,7 @@ use mathlib.Core.List.{List, [], _∷_}
 use lib.ListN.{length, take}
 use lib.Dec.{ltb, leb, eqb}
 use Rattle.colour.specs.{mostPixels}
-use Rattle.entries.specs.Content.{Entry, entry, pixelsOf, weightOf}
+use Rattle.table_entries.specs.Content.{Entry, entry, pixelsOf, weightOf}
 
 -- the most entries of a table
 abbrev pub mostEntries : ℕ

@@ -9,8 +9,8 @@ use lib.ListN.{length, getD, take, drop, length-append, length-drop, length-map,
 use lib.Seq.{getD-take, drop-drop, drop-at}
 use Rattle.number.proofs.Cases.{cmp, lt, eq, gt}
 use Rattle.colour.specs.{mostKey}
-use Rattle.entries.specs.Content.{Entry, keysOf, weightsOf, entries, keysInto, weightsInto, sound}
-use Rattle.entries.proofs.Sounds.{sound-rises, sound-keys}
+use Rattle.table_entries.specs.Content.{Entry, keysOf, weightsOf, entries, keysInto, weightsInto, sound}
+use Rattle.table_entries.proofs.Sounds.{sound-rises, sound-keys}
 
 -- ---- reading
 

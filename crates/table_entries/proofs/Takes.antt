@@ -12,10 +12,10 @@ use lib.Seq.{length-take-le, take-all, take-take, take-append-add}
 use lib.Dec.{leb, eqb}
 use borrow.Author.Tests.{le-leb, lt-leb, leb-false}
 use Rattle.number.proofs.Cases.{bool, never}
-use Rattle.entries.specs.Content.{Entry, pixelsOf, weightOf, sound}
+use Rattle.table_entries.specs.Content.{Entry, pixelsOf, weightOf, sound}
 use Rattle.colour.specs.{mostPixels}
-use Rattle.entries.specs.Adding.{put, putAll, stops, takenOf, withTaken}
-use Rattle.entries.proofs.Gives.{
+use Rattle.table_entries.specs.Adding.{put, putAll, stops, takenOf, withTaken}
+use Rattle.table_entries.proofs.Gives.{
   Keys,
   none,
   more,

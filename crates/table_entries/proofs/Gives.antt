@@ -12,10 +12,10 @@ use lib.Dec.{eqb}
 use borrow.Author.Tests.{ne-eqb}
 use Rattle.number.proofs.Cases.{cmp, lt, eq, gt, bool}
 use Rattle.colour.specs.{mostKey}
-use Rattle.entries.specs.Content.{Entry, entry, pixelsOf, weightOf, sound}
-use Rattle.entries.specs.Strip.{countOf}
-use Rattle.entries.specs.Adding.{give, put, putAll}
-use Rattle.entries.proofs.Sounds.{Sound, sound-cons, cons-sound}
+use Rattle.table_entries.specs.Content.{Entry, entry, pixelsOf, weightOf, sound}
+use Rattle.table_entries.specs.Strip.{countOf}
+use Rattle.table_entries.specs.Adding.{give, put, putAll}
+use Rattle.table_entries.proofs.Sounds.{Sound, sound-cons, cons-sound}
 
 -- ---- w pixels of one colour
 

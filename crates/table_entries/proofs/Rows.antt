@@ -11,9 +11,9 @@ use lib.Seq.{getD-take}
 use Rattle.number.specs.{sum}
 use Rattle.number.proofs.Sums.{sum-front}
 use Rattle.colour.specs.{mostKey}
-use Rattle.entries.specs.Content.{Entry, entry, weightsOf, entries, pixelsOf, sound}
-use Rattle.entries.proofs.Sounds.{sound-cons, cons-sound}
-use Rattle.entries.proofs.Slices.{entries-length, entries-weights}
+use Rattle.table_entries.specs.Content.{Entry, entry, weightsOf, entries, pixelsOf, sound}
+use Rattle.table_entries.proofs.Sounds.{sound-cons, cons-sound}
+use Rattle.table_entries.proofs.Slices.{entries-length, entries-weights}
 
 -- the first n places of both slices, the first key at least `low`, as a sound table has them
 pub record Rows (low n : ℕ) (ks ws : List ℕ) : Type 0 where
