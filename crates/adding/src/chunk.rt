@@ -2,7 +2,7 @@
 ghost use mathlib.Core.Path.{_≡_};
 ghost use Prim.Native.Nat.{_≤_, _<_};
 ghost use lib.ListN.{length};
-ghost use Rattle.runs.specs.{mostRuns};
+ghost use Rattle.table_streaks.specs.{mostRuns};
 ghost use Rattle.adding.specs.Trying.{Ready, Tried};
 use super::pixel::add_pixel;
 use merging::merge::count_with;
@@ -27,7 +27,7 @@ pub fn add_one(
     ensures { λ r. ⌜ Tried used room (now (keys .entry)) (now (weights .entry)) (now (strip .entry))
         from 1 (r .used) (r .pixels) (now (keys .exit)) (now (weights .exit)) ⌝ }
 {
-    let key = runs::gather::key_at(strip, 3 * from);
+    let key = table_streaks::gather::key_at(strip, 3 * from);
     let next = add_pixel(keys, weights, used, room, key);
     Chunk {
         used: next,
@@ -54,10 +54,10 @@ fn add_chunk(
     ensures { λ r. ⌜ Tried used room (now (keys .entry)) (now (weights .entry)) (now (strip .entry))
         from most (r .used) (r .pixels) (now (keys .exit)) (now (weights .exit)) ⌝ }
 {
-    let got = runs::gather::gather(strip, from, most, list);
+    let got = table_streaks::gather::gather(strip, from, most, list);
     let len = got.len;
     let pixels = got.pixels;
-    runs::sort::sort_runs(list, other, len);
+    table_streaks::sort::sort_runs(list, other, len);
     let next = count_with(keys, used, list, len);
     if room < next {
         return Chunk { used: next, pixels };

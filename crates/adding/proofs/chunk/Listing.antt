@@ -12,8 +12,8 @@ use Rattle.number.specs.{sumOf}
 use Rattle.table_entries.specs.{Entry, pixelsOf, sound, stripKeys, countOf, putAll}
 use Rattle.table_entries.proofs.Gives.{Keys, keys-take, putAll-pixels}
 use Rattle.table_entries.proofs.Strips.{byte-keys, keys-drop}
-use Rattle.runs.specs.{runKey, runCount, sorted}
-use Rattle.runs.proofs.sort.Order.{sorted-sum, sorted-length, sorted-rises}
+use Rattle.table_streaks.specs.{runKey, runCount, sorted}
+use Rattle.table_streaks.proofs.sort.Order.{sorted-sum, sorted-length, sorted-rises}
 use Rattle.merging.specs.{giveBack}
 use Rattle.adding.specs.Trying.{piece}
 use Rattle.merging.proofs.merge.Backs.{back-all}

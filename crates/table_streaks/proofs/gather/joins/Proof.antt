@@ -1,10 +1,10 @@
 -- `joins` meets its contract: the two tests of `joined`, in turn.
-use Rattle.runs.specs.Run.{runKey}
+use Rattle.table_streaks.specs.Run.{runKey}
 use borrow.Author.Tests.{eq-eqb, ne-eqb}
 use mathlib.Core.Path.{sym, _∙_}
 use borrow.Author.Needs.{needs}
-use Rattle.runs.proofs.gather.joins.Statement.{statement}
-use Rattle.runs.proofs.gather.joins.Tie as tie
+use Rattle.table_streaks.proofs.gather.joins.Statement.{statement}
+use Rattle.table_streaks.proofs.gather.joins.Tie as tie
 
 run-key-requires : tie.Need-run-key-requires
 run-key-requires c κs = search needs

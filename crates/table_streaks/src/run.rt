@@ -2,7 +2,7 @@
 ghost use mathlib.Core.Path.{_≡_};
 ghost use Prim.Native.Nat.{_≤_};
 ghost use Rattle.colour.specs.{mostKey};
-ghost use Rattle.runs.specs.Run.{runKey, runPixels};
+ghost use Rattle.table_streaks.specs.Run.{runKey, runPixels};
 
 // The key of a run.
 pub fn run_key(x: u32) -> u32

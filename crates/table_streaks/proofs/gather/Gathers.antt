@@ -17,7 +17,7 @@ use Rattle.number.proofs.ListSums.{sumOf-append}
 use Rattle.colour.specs.{mostKey}
 use Rattle.table_entries.specs.{stripKeys, keyAt, countOf}
 use Rattle.table_entries.proofs.Strips.{strip-at, strip-at-least}
-use Rattle.runs.specs.Run.{runKey, runPixels, runCount, joined}
+use Rattle.table_streaks.specs.Run.{runKey, runPixels, runCount, joined}
 
 -- ---- counts of pixels
 

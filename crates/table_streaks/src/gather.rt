@@ -5,7 +5,7 @@ ghost use lib.ListN.{length, take, drop};
 ghost use Rattle.number.specs.{sumOf};
 ghost use Rattle.colour.specs.{mostKey};
 ghost use Rattle.table_entries.specs.{stripKeys, keyAt, countOf};
-ghost use Rattle.runs.specs.Run.{runCount, joined};
+ghost use Rattle.table_streaks.specs.Run.{runCount, joined};
 use super::run::run_key;
 
 // Runs in a list, and the pixels in them.

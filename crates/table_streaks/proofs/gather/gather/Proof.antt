@@ -1,5 +1,5 @@
 -- `gather` meets its contract: the loop's invariant is `Gathering`.
-use Rattle.runs.proofs.gather.Gathers.{
+use Rattle.table_streaks.proofs.gather.Gathers.{
   Gathering,
   Joins,
   does-join,
@@ -13,8 +13,8 @@ use lib.ListN.{length-set}
 use mathlib.Core.Path.{sym, _∙_}
 use Prim.Native.Nat.{_-_, _<_}
 use native.Mathlib.Omega.{arith}
-use Rattle.runs.proofs.gather.gather.Statement.{statement}
-use Rattle.runs.proofs.gather.gather.Tie as tie
+use Rattle.table_streaks.proofs.gather.gather.Statement.{statement}
+use Rattle.table_streaks.proofs.gather.gather.Tie as tie
 
 abbrev Inv-loop : tie.InvT-loop
 Inv-loop strip from most list₀ run₀ len₀ done₀ list run len done = Gathering strip from most list₀ list run len done
