@@ -5,8 +5,8 @@ ghost use lib.ListN.{length};
 ghost use Rattle.table_streaks.specs.{mostRuns};
 ghost use Rattle.adding.specs.Trying.{Ready, Tried};
 use super::pixel::add_pixel;
-use merging::merge::count_with;
-use merging::merge::merge;
+use table_merge::merge::count_with;
+use table_merge::merge::merge;
 
 // Pixels tried, and the number of entries with them.
 pub struct Chunk {

@@ -14,9 +14,9 @@ use Rattle.table_entries.proofs.Gives.{Keys, keys-take, putAll-pixels}
 use Rattle.table_entries.proofs.Strips.{byte-keys, keys-drop}
 use Rattle.table_streaks.specs.{runKey, runCount, sorted}
 use Rattle.table_streaks.proofs.sort.Order.{sorted-sum, sorted-length, sorted-rises}
-use Rattle.merging.specs.{giveBack}
+use Rattle.table_merge.specs.{giveBack}
 use Rattle.adding.specs.Trying.{piece}
-use Rattle.merging.proofs.merge.Backs.{back-all}
+use Rattle.table_merge.proofs.merge.Backs.{back-all}
 
 -- a piece of a strip of bytes has keys
 pub piece-keys : (s : List ℕ) (from n : ℕ) → ((i : ℕ) → getD s i 0 < 256) → Keys (piece s from n)

@@ -9,9 +9,9 @@ use denote.Ref.{now}
 use borrow.Author.Needs.{needs}
 use Rattle.table_entries.specs.{Entry, entries, keysInto, weightsInto, putAll}
 use Rattle.table_entries.proofs.Slices.{keys-in-order, entries-length}
-use Rattle.merging.specs.{giveBack, InOrder}
+use Rattle.table_merge.specs.{giveBack, InOrder}
 use Rattle.adding.specs.Trying.{piece}
-use Rattle.merging.proofs.merge.Backs.{back-length-le}
+use Rattle.table_merge.proofs.merge.Backs.{back-length-le}
 use Rattle.adding.proofs.chunk.Listing.{Listed, list-rises, list-all, piece-pixels, laid-shut, laid-open}
 use Rattle.adding.proofs.chunk.add_chunk.Statement.{statement}
 use Rattle.adding.proofs.chunk.add_chunk.Tie as tie
