@@ -4,10 +4,10 @@ ghost use Prim.Native.Nat.{_*_, _≤_, min};
 ghost use lib.ListN.{length, take};
 ghost use Rattle.colour.specs.{mostPixels};
 ghost use Rattle.table_entries.specs.{entries, pixelsOf, stripKeys};
-ghost use Rattle.adding.specs.{Standing};
+ghost use Rattle.table_add.specs.{Standing};
 ghost use Rattle.taking.specs.Taking.{Able, TookMeets};
-use adding::chunk::add_one;
-use adding::chunk::add_some;
+use table_add::chunk::add_one;
+use table_add::chunk::add_some;
 
 // The used entries and the pixels taken.
 pub struct Took {

@@ -13,8 +13,8 @@ use Rattle.colour.specs.{mostPixels}
 use Rattle.table_entries.specs.{Entry, entries, pixelsOf, stripKeys, withTaken}
 use Rattle.table_entries.proofs.Strips.{strip-at-least}
 use Rattle.table_entries.proofs.Takes.{taken-capped, withTaken-capped}
-use Rattle.adding.specs.{Ready, Tried, piece}
-use Rattle.adding.proofs.chunk.Listing.{piece-keys}
+use Rattle.table_add.specs.{Ready, Tried, piece}
+use Rattle.table_add.proofs.chunk.Listing.{piece-keys}
 use Rattle.taking.specs.Taking.{Able, TookMeets}
 use Rattle.taking.proofs.take.Turn.{Taking, taking-start, taking-done, taking-in, taking-out, taking-full}
 

@@ -15,7 +15,7 @@ use Rattle.table_entries.proofs.Strips.{byte-keys, keys-drop}
 use Rattle.table_streaks.specs.{runKey, runCount, sorted}
 use Rattle.table_streaks.proofs.sort.Order.{sorted-sum, sorted-length, sorted-rises}
 use Rattle.table_merge.specs.{giveBack}
-use Rattle.adding.specs.Trying.{piece}
+use Rattle.table_add.specs.Trying.{piece}
 use Rattle.table_merge.proofs.merge.Backs.{back-all}
 
 -- a piece of a strip of bytes has keys

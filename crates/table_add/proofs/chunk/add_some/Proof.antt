@@ -1,8 +1,8 @@
 -- `add_some` meets its contract: each way is a callee's.
 use native.Mathlib.Omega.{arith}
 use borrow.Author.Needs.{needs}
-use Rattle.adding.proofs.chunk.add_some.Statement.{statement}
-use Rattle.adding.proofs.chunk.add_some.Tie as tie
+use Rattle.table_add.proofs.chunk.add_some.Statement.{statement}
+use Rattle.table_add.proofs.chunk.add_some.Tie as tie
 
 add-one-requires : tie.Need-add-one-requires
 add-one-requires c κs =

@@ -10,11 +10,11 @@ use borrow.Author.Needs.{needs}
 use Rattle.table_entries.specs.{Entry, entries, keysInto, weightsInto, putAll}
 use Rattle.table_entries.proofs.Slices.{keys-in-order, entries-length}
 use Rattle.table_merge.specs.{giveBack, InOrder}
-use Rattle.adding.specs.Trying.{piece}
+use Rattle.table_add.specs.Trying.{piece}
 use Rattle.table_merge.proofs.merge.Backs.{back-length-le}
-use Rattle.adding.proofs.chunk.Listing.{Listed, list-rises, list-all, piece-pixels, laid-shut, laid-open}
-use Rattle.adding.proofs.chunk.add_chunk.Statement.{statement}
-use Rattle.adding.proofs.chunk.add_chunk.Tie as tie
+use Rattle.table_add.proofs.chunk.Listing.{Listed, list-rises, list-all, piece-pixels, laid-shut, laid-open}
+use Rattle.table_add.proofs.chunk.add_chunk.Statement.{statement}
+use Rattle.table_add.proofs.chunk.add_chunk.Tie as tie
 
 -- with the runs sorted: what `sort_runs` left, what `gather` left, the bytes of the strip, the entry
 abbrev sorted′ : tie.After-count-with-arg2 → tie.After-sort-runs

@@ -3,7 +3,7 @@ ghost use mathlib.Core.Path.{_≡_};
 ghost use Prim.Native.Nat.{_≤_, _<_};
 ghost use lib.ListN.{length};
 ghost use Rattle.table_streaks.specs.{mostRuns};
-ghost use Rattle.adding.specs.Trying.{Ready, Tried};
+ghost use Rattle.table_add.specs.Trying.{Ready, Tried};
 use super::pixel::add_pixel;
 use table_merge::merge::count_with;
 use table_merge::merge::merge;

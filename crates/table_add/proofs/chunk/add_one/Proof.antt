@@ -7,9 +7,9 @@ use denote.Ref.{now}
 use borrow.Author.Needs.{needs}
 use Rattle.table_entries.specs.{keyAt}
 use Rattle.table_entries.proofs.Strips.{strip-one}
-use Rattle.adding.specs.Trying.{piece}
-use Rattle.adding.proofs.chunk.add_one.Statement.{statement}
-use Rattle.adding.proofs.chunk.add_one.Tie as tie
+use Rattle.table_add.specs.Trying.{piece}
+use Rattle.table_add.proofs.chunk.add_one.Statement.{statement}
+use Rattle.table_add.proofs.chunk.add_one.Tie as tie
 
 -- with the pixel tried: the entry, the key, the piece
 abbrev st : tie.After-add-pixel → tie.Start
