@@ -13,7 +13,7 @@ use Rattle.table_entries.proofs.Takes.{taken-at-most, taken-pixels}
 use Rattle.colour.specs.{badStrip}
 use Rattle.table.specs.Refusals.{roomOf, badTable, full}
 use Rattle.table.specs.Outcomes.{refused, asItCame, withPixels, addStrip, AddMeets}
-use Rattle.taking.specs.{TookMeets}
+use Rattle.table_fill.specs.{TookMeets}
 use Rattle.table.specs.declared.Record.{Record}
 use Rattle.table.specs.declared.Added.{Added}
 use Rattle.table.proofs.Goods.{good-of-test}

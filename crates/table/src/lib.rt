@@ -7,7 +7,7 @@
 //   room_of     the room of two lent slices. Refuses nothing.
 // A refusal hands the record back and writes nothing; FULL keeps the pixels taken before it.
 //
-// The test stands in test.rt; the pixels are taken by the crate taking.
+// The test stands in test.rt; the pixels are taken by the crate table_fill.
 // Read next: specs/Lib.antt (what the words mean), proofs/Promises.antt (what is shown).
 ghost use mathlib.Core.Path.{_≡_};
 ghost use Rattle.table.specs.Outcomes.{refused, AddMeets};
@@ -70,7 +70,7 @@ pub fn add_strip(rec: Record, keys: &mut [u32], weights: &mut [u32], strip: &[u8
     let before = rec.pixels;
     let room = room_of(keys.len(), weights.len());
     let count = strip.len() / 3;
-    let took = taking::take_strip(keys, weights, used, before, room, strip, count);
+    let took = table_fill::take_strip(keys, weights, used, before, room, strip, count);
     let taken = took.taken;
     let after = Record {
         used: took.used,

@@ -9,7 +9,7 @@ use denote.Ref.{now}
 use borrow.Author.Needs.{needs}
 use Rattle.table_entries.specs.{entries, stripKeys}
 use Rattle.table.specs.Refusals.{roomOf, badTable}
-use Rattle.taking.specs.{TookMeets}
+use Rattle.table_fill.specs.{TookMeets}
 use Rattle.table.specs.declared.Record.{Record}
 use Rattle.table.proofs.Goods.{Good, good-of-test}
 use Rattle.table.proofs.Adds.{meets-bad-strip, meets-bad-table, meets-full, meets-done, taken-small}

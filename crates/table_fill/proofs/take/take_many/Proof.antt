@@ -6,10 +6,10 @@ use native.Mathlib.Omega.{arith}
 use lib.ListN.{take}
 use denote.Ref.{now}
 use Rattle.table_entries.specs.{stripKeys}
-use Rattle.taking.proofs.take.Turn.{Taking}
-use Rattle.taking.proofs.take.Steps.{steps-start, steps-ready, steps-in, steps-out, steps-full, steps-done}
-use Rattle.taking.proofs.take.take_many.Statement.{statement}
-use Rattle.taking.proofs.take.take_many.Tie as tie
+use Rattle.table_fill.proofs.take.Turn.{Taking}
+use Rattle.table_fill.proofs.take.Steps.{steps-start, steps-ready, steps-in, steps-out, steps-full, steps-done}
+use Rattle.table_fill.proofs.take.take_many.Statement.{statement}
+use Rattle.table_fill.proofs.take.take_many.Tie as tie
 
 abbrev Inv-loop : tie.InvT-loop
 Inv-loop keys₀ weights₀ used room strip end now-used₀ taken₀ limit₀ keys weights now-used taken limit =

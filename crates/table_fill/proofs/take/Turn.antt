@@ -23,7 +23,7 @@ use Rattle.table_entries.proofs.Slices.{
 }
 use Rattle.table_entries.proofs.Takes.{stops-at-room, fits-taken, taken-append, withTaken-append}
 use Rattle.table_add.specs.{Standing, laidKeys, laidWeights}
-use Rattle.taking.specs.Taking.{TookMeets}
+use Rattle.table_fill.specs.Taking.{TookMeets}
 
 -- `taken` of the pixels are in the table, and taking the rest from here gives what taking all gives
 pub record Taking (ks₀ ws₀ : List ℕ) (used room : ℕ) (ps ks ws : List ℕ) (now taken : ℕ) : Type 0 where

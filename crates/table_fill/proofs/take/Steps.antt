@@ -15,8 +15,8 @@ use Rattle.table_entries.proofs.Strips.{strip-at-least}
 use Rattle.table_entries.proofs.Takes.{taken-capped, withTaken-capped}
 use Rattle.table_add.specs.{Ready, Tried, piece}
 use Rattle.table_add.proofs.chunk.Listing.{piece-keys}
-use Rattle.taking.specs.Taking.{Able, TookMeets}
-use Rattle.taking.proofs.take.Turn.{Taking, taking-start, taking-done, taking-in, taking-out, taking-full}
+use Rattle.table_fill.specs.Taking.{Able, TookMeets}
+use Rattle.table_fill.proofs.take.Turn.{Taking, taking-start, taking-done, taking-in, taking-out, taking-full}
 
 -- a piece within the first e of a list is a piece of the list
 piece-first : (p t e : ℕ) (xs : List ℕ) → t + p ≤ e → take p (drop t xs) ≡ take p (drop t (take e xs))

@@ -8,10 +8,10 @@ use borrow.Author.Needs.{needs}
 use Rattle.colour.specs.{mostPixels}
 use Rattle.table_entries.specs.{stripKeys}
 use Rattle.table_entries.proofs.Strips.{strip-length}
-use Rattle.taking.specs.Taking.{Able}
-use Rattle.taking.proofs.take.Steps.{steps-whole}
-use Rattle.taking.proofs.take.take_strip.Statement.{statement}
-use Rattle.taking.proofs.take.take_strip.Tie as tie
+use Rattle.table_fill.specs.Taking.{Able}
+use Rattle.table_fill.proofs.take.Steps.{steps-whole}
+use Rattle.table_fill.proofs.take.take_strip.Statement.{statement}
+use Rattle.table_fill.proofs.take.take_strip.Tie as tie
 
 -- with the end known: the entry
 abbrev st : tie.After-smaller → tie.Start
