@@ -13,8 +13,8 @@ use Rattle.colour.proofs.Distances.{colour-within}
 use Rattle.shades.specs.{mostShades, colourAt, Shades, nearestShade}
 use Rattle.shades.proofs.Laying.{to-shade-most}
 use Rattle.shades.proofs.Nearest.{nearest-below}
-use Rattle.rounds.specs.{Tabled, coloursOf, joins, remote}
-use Rattle.rounds.proofs.Sizes.{fair-of-table, spent-at-most}
+use Rattle.method.specs.{Tabled, coloursOf, joins, remote}
+use Rattle.method.proofs.Sizes.{fair-of-table, spent-at-most}
 use Rattle.sums.specs.{Summed}
 use Rattle.sums.proofs.Bounds.{weight-at-most}
 use Rattle.groups.specs.Grouping.{Grouped}

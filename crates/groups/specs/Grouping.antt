@@ -5,7 +5,7 @@ use mathlib.Core.Bool.{Bool, true, false, cond}
 use mathlib.Core.List.{List}
 use lib.ListN.{getD, length}
 use Rattle.shades.specs.{Shades}
-use Rattle.rounds.specs.{Tabled, stateOf, coloursOf, joins, grouped, totalOf}
+use Rattle.method.specs.{Tabled, stateOf, coloursOf, joins, grouped, totalOf}
 use Rattle.search.specs.{Rows, Gaps}
 use Rattle.sums.specs.{Summed}
 

@@ -4,7 +4,7 @@ ghost use mathlib.Core.Path.{_≡_};
 ghost use Prim.Native.Nat.{_*_, _≤_};
 ghost use lib.ListN.{length};
 ghost use Rattle.shades.specs.{mostShades, Shades};
-ghost use Rattle.rounds.specs.{stateOf, coloursOf, shortDistances};
+ghost use Rattle.method.specs.{stateOf, coloursOf, shortDistances};
 ghost use Rattle.sums.specs.{Summed, memberAt};
 ghost use Rattle.groups.specs.Grouping.{Groupable, Tracks, Grouped, covered};
 use super::Regrouped;

@@ -3,7 +3,7 @@ ghost use mathlib.Core.Path.{_≡_};
 ghost use Prim.Native.Nat.{_<_, _≤_};
 ghost use lib.ListN.{length, replicate};
 ghost use Rattle.shades.specs.{Shades};
-ghost use Rattle.rounds.specs.{Tabled, stateOf, coloursOf, plainDistances};
+ghost use Rattle.method.specs.{Tabled, stateOf, coloursOf, plainDistances};
 ghost use Rattle.groups.specs.Grouping.{Grouped};
 use super::Regrouped;
 use sums::gift_of;

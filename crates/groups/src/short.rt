@@ -3,7 +3,7 @@ ghost use mathlib.Core.Path.{_≡_};
 ghost use Prim.Native.Nat.{_+_, _≤_, _<_};
 ghost use lib.ListN.{length, getD, set};
 ghost use Rattle.shades.specs.{mostShades, colourAt, toShade, nearestShade, worked};
-ghost use Rattle.rounds.specs.{Tabled, stateOf, coloursOf, shortDistances};
+ghost use Rattle.method.specs.{Tabled, stateOf, coloursOf, shortDistances};
 ghost use Rattle.sums.specs.{Summed, Assigned, memberAt};
 ghost use Rattle.groups.specs.Grouping.{Groupable, Tracks, Grouped, covered};
 use super::Regrouped;

@@ -12,7 +12,7 @@ use Rattle.refusal.specs.{Refusal, numberOf}
 use Rattle.shades.specs.{mostCoordinates}
 use Rattle.figures.specs.{zeroFigure}
 use Rattle.table.specs.{Record, Outcome, handsBack, addStrip}
-use Rattle.rounds.specs.{State}
+use Rattle.method.specs.{State}
 use Rattle.lloyd.specs.{RoundOutcome, RunOutcome, plainRound, shortRound, runOf}
 use Rattle.mapping.specs.{MapOutcome, mapStrip}
 use Rattle.headers.specs.{headerOf, offsetIn}

@@ -10,7 +10,7 @@ use Rattle.shades.specs.{mostCoordinates}
 use Rattle.figures.specs.{zeroFigure}
 use Rattle.table.specs.{Record, handsBack, addStrip}
 use Rattle.table.proofs.Promises as table
-use Rattle.rounds.specs.{State}
+use Rattle.method.specs.{State}
 use Rattle.lloyd.specs.{RoundOutcome, keptRound, plainRound, shortRound, runOf}
 use Rattle.lloyd.proofs.Promises as lloyd
 use Rattle.mapping.specs.{mapStrip}

@@ -1,6 +1,6 @@
 // Rounds and runs across the boundary.
 ghost use mathlib.Core.Path.{_≡_};
-ghost use Rattle.rounds.specs.{stateOf};
+ghost use Rattle.method.specs.{stateOf};
 ghost use Rattle.lloyd.specs.{plainRound, shortRound, runOf};
 ghost use Rattle.kohlenfloh.specs.Arrays.{recordIn};
 ghost use Rattle.kohlenfloh.specs.Crossing.{RoundCrosses, RunCrosses};

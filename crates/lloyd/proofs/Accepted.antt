@@ -8,10 +8,10 @@ use Rattle.refusal.specs.{done}
 use Rattle.table.specs.{Record}
 use Rattle.table.proofs.Promises.{bad-table-exactly}
 use Rattle.shades.specs.{shadeAt}
-use Rattle.rounds.specs.{coloursOf, meanOf, onMean, starts, toMean, begin}
-use Rattle.rounds.proofs.Begins.{mean-low}
-use Rattle.rounds.proofs.Costs.{to-mean-good}
-use Rattle.rounds.proofs.Sizes.{fair-of-table}
+use Rattle.method.specs.{coloursOf, meanOf, onMean, starts, toMean, begin}
+use Rattle.method.proofs.Begins.{mean-low}
+use Rattle.method.proofs.Costs.{to-mean-good}
+use Rattle.method.proofs.Sizes.{fair-of-table}
 use Rattle.steps.specs.{Runnable}
 use Rattle.lloyd.specs.Refusals.{limitOf, runRows}
 use Rattle.lloyd.specs.Beginning.{FarthestColour}

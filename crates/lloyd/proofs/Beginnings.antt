@@ -9,9 +9,9 @@ use Rattle.number.specs.{most}
 use Rattle.number.proofs.Promises.{most-is-best}
 use Rattle.table.specs.{Record, GoodTable}
 use Rattle.shades.specs.{mostShades, shadeAt, colourAt}
-use Rattle.rounds.specs.{Base, coloursOf, remote, startsFrom, beginFrom}
-use Rattle.rounds.proofs.Begins.{start-stored}
-use Rattle.rounds.proofs.Startings.{next-given, next-chosen}
+use Rattle.method.specs.{Base, coloursOf, remote, startsFrom, beginFrom}
+use Rattle.method.proofs.Begins.{start-stored}
+use Rattle.method.proofs.Startings.{next-given, next-chosen}
 use Rattle.lloyd.specs.Beginning.{FarthestColour}
 
 -- in a good table an entry with a lower key stands before

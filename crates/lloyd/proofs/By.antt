@@ -6,9 +6,9 @@ use mathlib.Core.Path.{_≡_, refl, sym, ap, _∙_}
 use Rattle.refusal.specs.{Row, Refusal, numberOf, done, firstOf, Refuses}
 use Rattle.refusal.proofs.Outcomes.{refuses}
 use Rattle.colour.specs.{Within, mostCoordinate}
-use Rattle.rounds.specs.{Rule, GoodRule, Base, Colours, State, coloursOf, beginFrom, finalOf}
-use Rattle.rounds.proofs.Begins.{begin-from-fit}
-use Rattle.rounds.proofs.Sizes.{fair-of-table}
+use Rattle.method.specs.{Rule, GoodRule, Base, Colours, State, coloursOf, beginFrom, finalOf}
+use Rattle.method.proofs.Begins.{begin-from-fit}
+use Rattle.method.proofs.Sizes.{fair-of-table}
 use Rattle.steps.specs.{Runnable, SeriesMeets}
 use Rattle.lloyd.specs.Refusals.{limitOf}
 use Rattle.lloyd.specs.Outcomes.{RunOutcome, RunMeets, AcceptedBy, refusedRun, keptRun, madeRun, runBy}

@@ -12,7 +12,7 @@ use Rattle.number.specs.{sum, sumOf}
 use Rattle.number.proofs.Fills.{fill-at, fill-kept}
 use Rattle.colour.specs.{Point, distance}
 use Rattle.shades.specs.{shadeAt, OnGrid}
-use Rattle.rounds.specs.{
+use Rattle.method.specs.{
   Rule,
   GoodRule,
   Means,
@@ -37,8 +37,8 @@ use Rattle.rounds.specs.{
   joins,
   roundsMade,
 }
-use Rattle.rounds.proofs.Bounds.{sum-bounded}
-use Rattle.rounds.proofs.Ends.{
+use Rattle.method.proofs.Bounds.{sum-bounded}
+use Rattle.method.proofs.Ends.{
   shade-on-mean,
   shade-bounded,
   final-by-groups,
@@ -46,7 +46,7 @@ use Rattle.rounds.proofs.Ends.{
   still-final,
   still-joined,
 }
-use Rattle.rounds.proofs.Falls.{
+use Rattle.method.proofs.Falls.{
   after-more,
   after-fit,
   after-past,
@@ -55,7 +55,7 @@ use Rattle.rounds.proofs.Falls.{
   rounds-end,
   grouped-below,
 }
-use Rattle.rounds.proofs.Runs.{made-at-most, made-some, made-last, made-before}
+use Rattle.method.proofs.Runs.{made-at-most, made-some, made-last, made-before}
 use Rattle.lloyd.specs.Outcomes.{madeRun, left, RunMeets}
 use Rattle.lloyd.specs.declared.Ran.{Ran}
 

@@ -1,5 +1,5 @@
 -- What is shown of rounds and runs, by subject: the names, under what they say. Each stands as a theorem in full in the
--- file named above it. What is shown of the method alone stands in the Promises of the crate rounds, the search's in
+-- file named above it. What is shown of the method alone stands in the Promises of the crate method, the search's in
 -- those of the crate shades.
 
 -- ---- Promises/Refusing.antt: refusals

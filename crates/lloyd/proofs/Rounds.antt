@@ -12,8 +12,8 @@ use Rattle.refusal.proofs.Outcomes.{refuses, refuses-all}
 use Rattle.table.specs.{Record, badTable}
 use Rattle.shades.specs.{colourAt, nearestShade, badCoordinates, badCentre}
 use Rattle.shades.proofs.Checks.{bad-coordinates-exactly, shades-of-tests}
-use Rattle.rounds.specs.{Colours, State, coloursOf, toMean, joins, plainDistances, shortDistances}
-use Rattle.rounds.proofs.Falls.{member-joined}
+use Rattle.method.specs.{Colours, State, coloursOf, toMean, joins, plainDistances, shortDistances}
+use Rattle.method.proofs.Falls.{member-joined}
 use Rattle.steps.specs.{Steppable, Walkable}
 use Rattle.lloyd.specs.Refusals.{shortMembers, badMember, plainRows, memberRow, shortRows}
 use Rattle.lloyd.specs.Outcomes.{RoundOutcome, madeRound, keptRound, plainRound, shortRound}

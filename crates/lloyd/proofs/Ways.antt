@@ -6,7 +6,7 @@ use mathlib.Core.Path.{_≡_, refl, ap, _∙_}
 use lib.ListN.{length}
 use Rattle.refusal.specs.{Row, Refusal, numberOf, done, firstOf, Refuses}
 use Rattle.table.specs.{Record}
-use Rattle.rounds.specs.{Colours, State, coloursOf, toMean, plainDistances, shortDistances}
+use Rattle.method.specs.{Colours, State, coloursOf, toMean, plainDistances, shortDistances}
 use Rattle.steps.specs.{StepMeets}
 use Rattle.lloyd.specs.Refusals.{badMember, plainRows, shortRows}
 use Rattle.lloyd.specs.Outcomes.{

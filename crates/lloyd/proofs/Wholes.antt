@@ -9,7 +9,7 @@ use borrow.Author.Tests.{ltb-false}
 use Rattle.number.proofs.Cases.{neither}
 use Rattle.refusal.specs.{Refusal, numberOf, done, firstOf, NoneHolds, Refuses}
 use Rattle.table.specs.{Record, badTable}
-use Rattle.rounds.specs.{Colours, State, coloursOf, toMean, onMean, finalOf, begin}
+use Rattle.method.specs.{Colours, State, coloursOf, toMean, onMean, finalOf, begin}
 use Rattle.steps.specs.{mostRounds, Runnable, SeriesMeets}
 use Rattle.lloyd.specs.Refusals.{limitOf, badCount, fewColours, badLimit, shortMembers, shortTotals, runRows}
 use Rattle.lloyd.specs.Outcomes.{RunMeets, refusedRun, keptRun, madeRun, runOf}

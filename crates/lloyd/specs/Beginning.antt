@@ -5,7 +5,7 @@ use mathlib.Core.Path.{_≡_}
 use lib.ListN.{getD}
 use Rattle.colour.specs.{Point}
 use Rattle.shades.specs.{colourAt}
-use Rattle.rounds.specs.{remote}
+use Rattle.method.specs.{remote}
 
 -- p is the table colour whose distance to its nearest of the q shades of s is greatest; at a tie, the lowest key
 pub record FarthestColour (used : ℕ) (ks s : List ℕ) (q : ℕ) (p : Point) : Type 0 where

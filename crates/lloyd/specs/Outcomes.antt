@@ -9,7 +9,7 @@ use Rattle.number.specs.{sum, fill, firstThat}
 use Rattle.refusal.specs.{Row, done, outcomeOf}
 use Rattle.table.specs.{Record}
 use Rattle.shades.specs.{mostCoordinates}
-use Rattle.rounds.specs.{
+use Rattle.method.specs.{
   Rule,
   Base,
   Colours,

@@ -18,7 +18,7 @@ use Rattle.refusal.specs.{
 }
 use Rattle.table.specs.{Record, badTable}
 use Rattle.shades.specs.{mostShades, badCoordinates, badCentre}
-use Rattle.rounds.specs.{State}
+use Rattle.method.specs.{State}
 use Rattle.steps.specs.{mostRounds}
 
 -- what a limit of 0 means

@@ -1,6 +1,6 @@
 // Single rounds.
 ghost use mathlib.Core.Path.{_≡_};
-ghost use Rattle.rounds.specs.{stateOf};
+ghost use Rattle.method.specs.{stateOf};
 ghost use Rattle.lloyd.specs.Outcomes.{plainRound, shortRound, refusedRound, RoundMeets};
 use super::Rounded;
 use super::test::bad_member;

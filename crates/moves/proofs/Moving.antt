@@ -14,8 +14,8 @@ use Rattle.number.proofs.Tallies.{howMany-same}
 use Rattle.colour.specs.{Point}
 use Rattle.shades.specs.{mostShades, mostCoordinates, shadeAt, axis, coordinateOf, laid, samePlace}
 use Rattle.shades.proofs.Laying.{coordinate-at, first-coordinate}
-use Rattle.rounds.specs.{Colours, Tabled, coloursOf, pixelsIn, sumsOf, meanOf, groupOf, toMean}
-use Rattle.rounds.proofs.Totals.{weight-times}
+use Rattle.method.specs.{Colours, Tabled, coloursOf, pixelsIn, sumsOf, meanOf, groupOf, toMean}
+use Rattle.method.proofs.Totals.{weight-times}
 use Rattle.sums.specs.{twoOf, oneOf, weighed, given, Summed}
 use Rattle.sums.proofs.Bounds.{given-at-most}
 use Rattle.moves.specs.Reading.{sumIn, goes, stays, Measured}

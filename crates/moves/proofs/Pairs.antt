@@ -7,7 +7,7 @@ use Rattle.number.specs.{sum, roundedMean}
 use Rattle.number.proofs.Sums.{sum-add, sum-eq, sum-le, sum-mul}
 use Rattle.colour.specs.{mostLevel, mostCoordinate, mostPixels, redOf, greenOf, blueOf, colourOf}
 use Rattle.shades.specs.{axis}
-use Rattle.rounds.specs.{Colours, pixelsIn, sumsOf}
+use Rattle.method.specs.{Colours, pixelsIn, sumsOf}
 use Rattle.sums.specs.{twoOf, oneOf}
 
 -- two numbers of 64 bits hold the pixel count and the coordinate sums of the colours, which are a table's

@@ -3,7 +3,7 @@ ghost use mathlib.Core.Path.{_≡_};
 ghost use Prim.Native.Nat.{_<_};
 ghost use Rattle.number.specs.{sum};
 ghost use Rattle.colour.specs.{Within, mostCoordinate};
-ghost use Rattle.rounds.specs.{Tabled, coloursOf, pixelsIn, meanOf};
+ghost use Rattle.method.specs.{Tabled, coloursOf, pixelsIn, meanOf};
 ghost use Rattle.sums.specs.{twoOf, oneOf, weighed};
 use super::read::high;
 use super::read::low;

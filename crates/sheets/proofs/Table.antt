@@ -12,7 +12,7 @@ use Rattle.number.specs.{firstBest, howMany, sum, fill, fillFrom, firstThat, sq
 use Rattle.number.proofs.Cases.{never, both}
 use Rattle.colour.specs.{distance}
 use Rattle.table.specs.{addStrip}
-use Rattle.rounds.specs.{startsFrom, over, after}
+use Rattle.method.specs.{startsFrom, over, after}
 use Rattle.lloyd.specs.{plainRound, shortRound, runOf}
 use Rattle.palette.specs.{paletteFromShades}
 use Rattle.figures.specs.{figure}

@@ -4,7 +4,7 @@ use mathlib.Core.List.{List, [], _∷_, _++_}
 use lib.ListN.{replicate}
 use Rattle.refusal.specs.{done}
 use Rattle.table.specs.{emptyRecord, addStrip}
-use Rattle.rounds.specs.{stateOf, coloursOf, leastOf, meanOf, starts, flat}
+use Rattle.method.specs.{stateOf, coloursOf, leastOf, meanOf, starts, flat}
 use Rattle.lloyd.specs.{plainRound, shortRound, runOf}
 use Rattle.palette.specs.{paletteFromShades}
 use Rattle.mapping.specs.{mapStrip}

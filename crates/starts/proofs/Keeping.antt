@@ -11,8 +11,8 @@ use Rattle.number.proofs.Fills.{fill-again, fill-same}
 use Rattle.colour.specs.{Point, Within, mostCoordinate, distance}
 use Rattle.colour.proofs.Distances.{colour-within, distance-most}
 use Rattle.shades.specs.{colourAt, toShade}
-use Rattle.rounds.specs.{Base, remote, startsFrom}
-use Rattle.rounds.proofs.Startings.{shade-of-starts, next-chosen, next-within}
+use Rattle.method.specs.{Base, remote, startsFrom}
+use Rattle.method.proofs.Startings.{shade-of-starts, next-chosen, next-within}
 use Rattle.starts.specs.Keeping.{shadeFrom, mostKept, kept}
 
 module _ (ks : List ℕ) (n : ℕ) (B : Base) where

@@ -5,7 +5,7 @@ use lib.ListN.{getD, length}
 use Rattle.number.specs.{lesserOf, lowest}
 use Rattle.colour.specs.{Point, distance}
 use Rattle.shades.specs.{colourAt}
-use Rattle.rounds.specs.{Base, nextShade, startsFrom}
+use Rattle.method.specs.{Base, nextShade, startsFrom}
 
 -- start number k, from the given ones
 abbrev pub shadeFrom : Base → ℕ → (ℕ → Point) → ℕ → Point

@@ -4,7 +4,7 @@ ghost use Prim.Native.Nat.{ℕ, _-_, _*_, _<_, _≤_};
 ghost use lib.ListN.{length, getD};
 ghost use Rattle.number.specs.{fill};
 ghost use Rattle.shades.specs.{mostShades, colourAt, OnGrid};
-ghost use Rattle.rounds.specs.{listed, startsFrom, over};
+ghost use Rattle.method.specs.{listed, startsFrom, over};
 ghost use Rattle.starts.specs.Keeping.{shadeFrom, kept, Keyed};
 use super::far::first_of;
 use super::far::lower;

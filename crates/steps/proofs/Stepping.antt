@@ -8,7 +8,7 @@ use lib.ListN.{length}
 use Rattle.number.specs.{fill, howMany}
 use Rattle.number.proofs.Fills.{fill-at}
 use Rattle.shades.specs.{mostShades}
-use Rattle.rounds.specs.{State, stateOf, coloursOf, toMean, joins}
+use Rattle.method.specs.{State, stateOf, coloursOf, toMean, joins}
 use Rattle.sums.specs.{Summed, memberAt}
 use Rattle.sums.proofs.Moving.{summed-same}
 use Rattle.groups.specs.{Grouped}

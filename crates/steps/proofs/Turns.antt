@@ -14,7 +14,7 @@ use Rattle.number.proofs.Sums.{sum-more, sum-bound}
 use Rattle.table_entries.specs.{mostEntries}
 use Rattle.colour.specs.{Within, mostCoordinate}
 use Rattle.shades.specs.{mostShades, mostCoordinates, colourAt}
-use Rattle.rounds.specs.{
+use Rattle.method.specs.{
   Base,
   Colours,
   Fair,
@@ -34,10 +34,10 @@ use Rattle.rounds.specs.{
   shortDistances,
   roundsMade,
 }
-use Rattle.rounds.proofs.Begins.{begin-from-fit, begin-joined}
-use Rattle.rounds.proofs.Falls.{after-more, step-fit, grouped-below}
-use Rattle.rounds.proofs.Runs.{made-at-most, made-some, made-next, made-last}
-use Rattle.rounds.proofs.Sizes.{fair-of-table, short-at-most}
+use Rattle.method.proofs.Begins.{begin-from-fit, begin-joined}
+use Rattle.method.proofs.Falls.{after-more, step-fit, grouped-below}
+use Rattle.method.proofs.Runs.{made-at-most, made-some, made-next, made-last}
+use Rattle.method.proofs.Sizes.{fair-of-table, short-at-most}
 use Rattle.steps.specs.Meeting.{mostRounds, Steppable, Walkable, StepMeets, SeriesMeets, Runnable}
 
 -- after a round the members are shades' numbers and all is fit for the next

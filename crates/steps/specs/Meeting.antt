@@ -7,7 +7,7 @@ use lib.Dec.{ltb}
 use lib.ListN.{getD, length}
 use Rattle.number.specs.{sum, fill, firstThat}
 use Rattle.shades.specs.{mostShades}
-use Rattle.rounds.specs.{
+use Rattle.method.specs.{
   Colours,
   Tabled,
   State,

@@ -3,7 +3,7 @@ ghost use mathlib.Core.Path.{_≡_};
 ghost use Prim.Native.Nat.{_≤_};
 ghost use lib.ListN.{length, replicate};
 ghost use Rattle.shades.specs.{mostCoordinates, OnGrid};
-ghost use Rattle.rounds.specs.{
+ghost use Rattle.method.specs.{
   stateOf,
   coloursOf,
   toMean,

@@ -1,5 +1,5 @@
 // One round: the grouping, by either search, and then the move.
-ghost use Rattle.rounds.specs.{stateOf, coloursOf, toMean, plainDistances, shortDistances};
+ghost use Rattle.method.specs.{stateOf, coloursOf, toMean, plainDistances, shortDistances};
 ghost use Rattle.sums.specs.{Summed, memberAt};
 ghost use Rattle.groups.specs.{covered};
 ghost use Rattle.steps.specs.Meeting.{Steppable, Walkable, StepMeets};

@@ -3,7 +3,7 @@ ghost use mathlib.Core.Path.{_≡_};
 ghost use Prim.Native.Nat.{_*_, _<_};
 ghost use lib.ListN.{getD};
 ghost use Rattle.shades.specs.{colourAt, toShade};
-ghost use Rattle.rounds.specs.{stateOf, coloursOf, finalOf};
+ghost use Rattle.method.specs.{stateOf, coloursOf, finalOf};
 ghost use Rattle.steps.specs.Meeting.{Walkable};
 
 // What entry `i` costs with its member's shade.

@@ -11,9 +11,9 @@ use Rattle.number.specs.{sum}
 use Rattle.number.proofs.Sums.{sum-more, sum-part, sum-le, sum-mul}
 use Rattle.colour.specs.{mostLevel, mostPixels}
 use Rattle.shades.specs.{mostShades}
-use Rattle.rounds.specs.{Tabled, coloursOf}
-use Rattle.rounds.proofs.Sizes as sizes
-use Rattle.rounds.proofs.Sizes.{fair-of-table}
+use Rattle.method.specs.{Tabled, coloursOf}
+use Rattle.method.proofs.Sizes as sizes
+use Rattle.method.proofs.Sizes.{fair-of-table}
 use Rattle.sums.specs.Summing.{twoOf, oneOf, weighed, given, Summed}
 use Rattle.sums.proofs.Summing.{given-own}
 

@@ -9,7 +9,7 @@ use lib.ListN.{length, getD, length-set}
 use Rattle.number.specs.{sum}
 use Rattle.number.proofs.Sums.{sum-eq, sum-change}
 use Rattle.shades.specs.{mostShades}
-use Rattle.rounds.specs.{Tabled}
+use Rattle.method.specs.{Tabled}
 use Rattle.sums.specs.Summing.{twoOf, oneOf, weighed, given, raised, lowered, Summed}
 use Rattle.sums.proofs.Bounds.{two-at-most, one-at-most, group-fits}
 use Rattle.sums.proofs.Summing.{

@@ -7,7 +7,7 @@ use lib.ListN.{getD}
 use Rattle.colour.specs.{mostPixels, mostDistance}
 use Rattle.shades.specs.{mostShades, colourAt, packedNearest}
 use Rattle.shades.proofs.Nearest.{packed-found}
-use Rattle.rounds.specs.{coloursOf, joins}
+use Rattle.method.specs.{coloursOf, joins}
 use Rattle.sums.specs.{twoOf, oneOf, weighed, raised, Summed}
 use Rattle.sums.proofs.Bounds.{raises-fit}
 use Rattle.sums.proofs.Summing.{summed-more}

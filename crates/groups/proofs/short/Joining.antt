@@ -7,7 +7,7 @@ use native.Mathlib.Omega.{arith}
 use lib.ListN.{length, set, getD}
 use lib.Seq.{getD-set-same, getD-set-other, set-getD}
 use Rattle.number.proofs.Fills.{fill-at}
-use Rattle.rounds.specs.{coloursOf, joins}
+use Rattle.method.specs.{coloursOf, joins}
 use Rattle.sums.specs.{Summed, memberAt}
 use Rattle.sums.proofs.Moving.{Goes, summed-same}
 use Rattle.groups.specs.Grouping.{covered}

@@ -9,7 +9,7 @@ use lib.ListN.{getD, length}
 use Rattle.refusal.specs.{Refusal, numberOf, done, Given, NoneHolds}
 use Rattle.table.specs.{Record}
 use Rattle.shades.specs.{mostShades}
-use Rattle.rounds.specs.{State}
+use Rattle.method.specs.{State}
 use Rattle.steps.specs.{mostRounds}
 use Rattle.lloyd.specs.Refusals.{
   usualLimit,

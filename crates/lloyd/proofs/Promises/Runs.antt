@@ -13,7 +13,7 @@ use Rattle.refusal.specs.{done}
 use Rattle.table.specs.{Record}
 use Rattle.colour.specs.{Point, distance}
 use Rattle.shades.specs.{shadeAt, colourAt, nearestShade, OnGrid}
-use Rattle.rounds.specs.{
+use Rattle.method.specs.{
   Bounded,
   SumBounded,
   coloursOf,
@@ -34,10 +34,10 @@ use Rattle.rounds.specs.{
   begin,
   leastSum,
 }
-use Rattle.rounds.proofs.Begins.{begin-past, begin-kept}
-use Rattle.rounds.proofs.Bounds.{from-zero}
-use Rattle.rounds.proofs.Costs.{to-mean-means}
-use Rattle.rounds.proofs.Promises.{fraction-at-least, fraction-exactly}
+use Rattle.method.proofs.Begins.{begin-past, begin-kept}
+use Rattle.method.proofs.Bounds.{from-zero}
+use Rattle.method.proofs.Costs.{to-mean-means}
+use Rattle.method.proofs.Promises.{fraction-at-least, fraction-exactly}
 use Rattle.lloyd.specs.Refusals.{limitOf}
 use Rattle.lloyd.specs.Beginning.{FarthestColour}
 use Rattle.lloyd.specs.Outcomes.{RunOutcome, RunMeets, AcceptedRun, runOf, madeRun, left}

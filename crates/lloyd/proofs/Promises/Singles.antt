@@ -7,7 +7,7 @@ use lib.ListN.{getD, length}
 use Rattle.refusal.specs.{done}
 use Rattle.table.specs.{Record}
 use Rattle.shades.specs.{colourAt, nearestShade}
-use Rattle.rounds.specs.{State, coloursOf, toMean, plainDistances, shortDistances}
+use Rattle.method.specs.{State, coloursOf, toMean, plainDistances, shortDistances}
 use Rattle.lloyd.specs.Outcomes.{RoundOutcome, RoundMeets, plainRound, shortRound, madeRound}
 use Rattle.lloyd.specs.declared.Rounded.{Rounded}
 use Rattle.lloyd.proofs.Rounds as rounds

@@ -6,7 +6,7 @@ use native.Mathlib.Omega.{arith}
 use lib.ListN.{getD}
 use Rattle.number.specs.{sum}
 use Rattle.number.proofs.Sums.{sum-more}
-use Rattle.rounds.specs.{Tabled, coloursOf}
+use Rattle.method.specs.{Tabled, coloursOf}
 use Rattle.sums.specs.{twoOf, oneOf, weighed}
 use Rattle.moves.proofs.Pairs.{Parts, parts}
 

@@ -9,8 +9,8 @@ use Rattle.number.proofs.Fills.{fill-length, fill-at, fill-again, fill-same, fi
 use Rattle.number.proofs.Peaks.{peak-same}
 use Rattle.colour.specs.{Point, Within, mostCoordinate, distance}
 use Rattle.shades.specs.{colourAt, putShade}
-use Rattle.rounds.specs.{Base, startsFrom, over}
-use Rattle.rounds.proofs.Startings.{over-length, starts-more, next-given}
+use Rattle.method.specs.{Base, startsFrom, over}
+use Rattle.method.proofs.Startings.{over-length, starts-more, next-given}
 use Rattle.starts.specs.Keeping.{shadeFrom, lowered, kept}
 use Rattle.starts.proofs.Keeping.{kept-start, kept-more, start-within, farthest-is-next}
 

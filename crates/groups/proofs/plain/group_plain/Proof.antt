@@ -6,7 +6,7 @@ use native.Mathlib.Omega.{arith}
 use lib.ListN.{getD}
 use denote.Ref.{now}
 use borrow.Author.Needs.{needs}
-use Rattle.rounds.specs.{coloursOf, joins}
+use Rattle.method.specs.{coloursOf, joins}
 use Rattle.sums.specs.{Summed}
 use Rattle.sums.proofs.Summing.{summed-none}
 use Rattle.groups.proofs.Turns.{

@@ -1,5 +1,5 @@
 use borrow.Author.Needs.{needs}
-use Rattle.rounds.specs.{stateOf}
+use Rattle.method.specs.{stateOf}
 use Rattle.kohlenfloh.proofs.Arrays.{round-crosses}
 use mathlib.Core.Path.{ap}
 use Rattle.lloyd.specs.{shortRound}

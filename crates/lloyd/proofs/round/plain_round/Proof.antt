@@ -11,7 +11,7 @@ use Rattle.refusal.specs.{BAD-TABLE, BAD-COUNT, BAD-CENTRE, SHORT-ROOM}
 use Rattle.table.specs.{Record, badTable}
 use Rattle.shades.specs.{badCoordinates, badCentre}
 use Rattle.shades.proofs.Checks.{coordinates-at-most}
-use Rattle.rounds.specs.{State, stateOf}
+use Rattle.method.specs.{State, stateOf}
 use Rattle.lloyd.proofs.Rounds.{PlainGood, plain-steppable}
 use Rattle.lloyd.proofs.Ways.{plain-meets-refused, plain-meets-made}
 use Rattle.lloyd.proofs.round.plain_round.Statement.{statement}

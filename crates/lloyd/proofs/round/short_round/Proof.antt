@@ -11,7 +11,7 @@ use Rattle.refusal.specs.{BAD-TABLE, BAD-COUNT, BAD-CENTRE, SHORT-ROOM, BAD-MEM
 use Rattle.table.specs.{Record, badTable}
 use Rattle.shades.specs.{badCoordinates, badCentre}
 use Rattle.shades.proofs.Checks.{coordinates-at-most}
-use Rattle.rounds.specs.{State, stateOf}
+use Rattle.method.specs.{State, stateOf}
 use Rattle.lloyd.specs.Refusals.{badMember}
 use Rattle.lloyd.proofs.Rounds.{PlainGood, plain-steppable, short-walkable}
 use Rattle.lloyd.proofs.Ways.{short-meets-refused, short-meets-made}

@@ -1,7 +1,7 @@
 -- `whole_mean` answers the rounded mean on each coordinate: the table's sums, taken apart.
 use mathlib.Core.Path.{_∙_}
 use denote.Ref.{now}
-use Rattle.rounds.specs.{coloursOf}
+use Rattle.method.specs.{coloursOf}
 use Rattle.moves.proofs.Pairs.{Parts, mean-asked, mean-of-parts}
 use Rattle.moves.proofs.mean.Totals.{whole-parts}
 use borrow.Author.Needs.{needs}

@@ -5,7 +5,7 @@ use native.Mathlib.Omega.{arith}
 use denote.Ref.{now}
 use lib.ListN.{length}
 use Rattle.number.proofs.Fills.{fill-length}
-use Rattle.rounds.specs.{listed}
+use Rattle.method.specs.{listed}
 use Rattle.starts.proofs.fill.Choosing.{
   Storing,
   storing-start,

@@ -6,8 +6,8 @@ use denote.Ref.{now}
 use lib.Dec.{ltb}
 use Rattle.number.proofs.Searches.{first-below}
 use Rattle.shades.specs.{colourAt}
-use Rattle.rounds.specs.{listed}
-use Rattle.rounds.proofs.Startings.{listed-within}
+use Rattle.method.specs.{listed}
+use Rattle.method.proofs.Startings.{listed-within}
 use Rattle.starts.proofs.fill.Choosing.{
   Choosing,
   choosing-within,

@@ -1,7 +1,7 @@
 -- `make_run` meets its contract: the table's mean is the only given shade.
 use native.Mathlib.Omega.{arith}
 use borrow.Author.Needs.{needs}
-use Rattle.rounds.proofs.Startings.{flat-low}
+use Rattle.method.proofs.Startings.{flat-low}
 use Rattle.steps.proofs.full.make_run.Statement.{statement}
 use Rattle.steps.proofs.full.make_run.Tie as tie
 

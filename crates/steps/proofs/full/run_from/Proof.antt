@@ -6,9 +6,9 @@ use lib.ListN.{length-replicate}
 use denote.Ref.{now}
 use borrow.Author.Needs.{needs}
 use Rattle.colour.specs.{Within, mostCoordinate}
-use Rattle.rounds.specs.{stateOf, coloursOf, toMean, listed, beginFrom}
-use Rattle.rounds.proofs.Costs.{to-mean-good}
-use Rattle.rounds.proofs.Startings.{listed-within}
+use Rattle.method.specs.{stateOf, coloursOf, toMean, listed, beginFrom}
+use Rattle.method.proofs.Costs.{to-mean-good}
+use Rattle.method.proofs.Startings.{listed-within}
 use Rattle.steps.specs.Meeting.{SeriesMeets}
 use Rattle.steps.proofs.Turns.{begin-walkable, begun, series-walkable}
 use Rattle.steps.proofs.full.run_from.Statement.{statement}

@@ -5,9 +5,9 @@ use mathlib.Core.Path.{_≡_, refl}
 use native.Mathlib.Omega.{arith}
 use lib.ListN.{length}
 use borrow.Author.Needs.{needs}
-use Rattle.rounds.specs.{stateOf, coloursOf, toMean}
-use Rattle.rounds.proofs.Costs.{to-mean-good}
-use Rattle.rounds.proofs.Sizes.{fair-of-table}
+use Rattle.method.specs.{stateOf, coloursOf, toMean}
+use Rattle.method.proofs.Costs.{to-mean-good}
+use Rattle.method.proofs.Sizes.{fair-of-table}
 use Rattle.sums.specs.{Summed, memberAt}
 use Rattle.sums.proofs.Summing.{summed-none}
 use Rattle.groups.specs.{covered}

@@ -2,8 +2,8 @@
 use native.Mathlib.Omega.{arith}
 use denote.Ref.{now}
 use borrow.Author.Needs.{needs}
-use Rattle.rounds.specs.{coloursOf}
-use Rattle.rounds.proofs.Sizes.{fair-of-table, weight-at-most}
+use Rattle.method.specs.{coloursOf}
+use Rattle.method.proofs.Sizes.{fair-of-table, weight-at-most}
 use Rattle.steps.proofs.total.entry_cost.Statement.{statement}
 use Rattle.steps.proofs.total.entry_cost.Tie as tie
 

@@ -7,8 +7,8 @@ use denote.Ref.{now}
 use Rattle.number.specs.{sum}
 use Rattle.number.proofs.Sums.{sum-more}
 use Rattle.shades.specs.{toShade, colourAt}
-use Rattle.rounds.specs.{coloursOf}
-use Rattle.rounds.proofs.Sizes.{fair-of-table, spent-at-most}
+use Rattle.method.specs.{coloursOf}
+use Rattle.method.proofs.Sizes.{fair-of-table, spent-at-most}
 use Rattle.steps.proofs.total.final_total.Statement.{statement}
 use Rattle.steps.proofs.total.final_total.Tie as tie
 

@@ -8,8 +8,8 @@ use native.Mathlib.Omega.{arith}
 use lib.Dec.{eqb}
 use borrow.Author.Tests.{eqb-true, eqb-false}
 use Rattle.number.specs.{sumOf}
-use Rattle.rounds.specs.Colouring.{Colours, pixelsIn, leastOf}
-use Rattle.rounds.specs.Leasts.{Fraction, plus, leastSum, From, Bounded, SumBounded}
+use Rattle.method.specs.Colouring.{Colours, pixelsIn, leastOf}
+use Rattle.method.specs.Leasts.{Fraction, plus, leastSum, From, Bounded, SumBounded}
 
 -- one group more, which is not empty
 sum-bounded-more : (C : Colours) (k : ℕ) (least : Fraction) (pixels cost : ℕ) → 0 < pixelsIn C → Bounded C k

@@ -15,7 +15,7 @@ use Rattle.number.proofs.Searches.{below-or-last}
 use Rattle.colour.specs.{Point, Within, mostCoordinate}
 use Rattle.shades.specs.{shadeAt, putShade, OnGrid}
 use Rattle.shades.proofs.Laying.{shade-within}
-use Rattle.rounds.specs.Starting.{Base, remote, flat, listed, nextShade, startsFrom, over}
+use Rattle.method.specs.Starting.{Base, remote, flat, listed, nextShade, startsFrom, over}
 
 -- ---- a list over the front of another
 

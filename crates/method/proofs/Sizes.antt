@@ -13,8 +13,8 @@ use Rattle.table_entries.specs.{mostEntries}
 use Rattle.shades.specs.{mostShades, OnGrid, toShade, worked}
 use Rattle.shades.proofs.Laying.{to-shade-most}
 use Rattle.shades.proofs.Nearest.{worked-at-most}
-use Rattle.rounds.specs.Colouring.{Colours, coloursOf, Fair, Tabled}
-use Rattle.rounds.specs.Rounding.{State, shortDistances}
+use Rattle.method.specs.Colouring.{Colours, coloursOf, Fair, Tabled}
+use Rattle.method.specs.Rounding.{State, shortDistances}
 
 -- the colours of a table that lies in two slices are fair
 pub fair-of-table : {n : ℕ} {ks ws : List ℕ} → Tabled n ks ws → Fair (coloursOf n ks ws)

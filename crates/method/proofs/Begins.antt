@@ -7,12 +7,12 @@ use lib.ListN.{getD, length, replicate, length-replicate}
 use Rattle.number.proofs.Fills.{fill-at, fill-length, fill-kept, zeros-at}
 use Rattle.colour.specs.{Within, mostCoordinate}
 use Rattle.shades.specs.{mostShades, mostCoordinates, shadeAt}
-use Rattle.rounds.specs.Colouring.{Colours, pixelsIn, meanOf, Fair}
-use Rattle.rounds.specs.Rounding.{Fit, Joined}
-use Rattle.rounds.specs.Starting.{Base, flat, nextShade, startsFrom, onMean}
-use Rattle.rounds.specs.Running.{beginFrom, begin}
-use Rattle.rounds.proofs.Costs.{mean-within}
-use Rattle.rounds.proofs.Startings.{
+use Rattle.method.specs.Colouring.{Colours, pixelsIn, meanOf, Fair}
+use Rattle.method.specs.Rounding.{Fit, Joined}
+use Rattle.method.specs.Starting.{Base, flat, nextShade, startsFrom, onMean}
+use Rattle.method.specs.Running.{beginFrom, begin}
+use Rattle.method.proofs.Costs.{mean-within}
+use Rattle.method.proofs.Startings.{
   over-length,
   over-at,
   over-kept,

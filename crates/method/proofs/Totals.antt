@@ -11,7 +11,7 @@ use Rattle.number.proofs.Sums.{sum-eq, sum-le, sum-swap, sum-only}
 use Rattle.colour.specs.{Point, distance}
 use Rattle.shades.specs.{toShade, nearestShade}
 use Rattle.shades.proofs.Nearest.{nearest-least}
-use Rattle.rounds.specs.Colouring.{Colours, pixelsIn, costAt, groupOf}
+use Rattle.method.specs.Colouring.{Colours, pixelsIn, costAt, groupOf}
 
 -- a weight that counts or not, times a number
 pub weight-times : (t : Bool) (w d : ℕ) → cond t w 0 * d ≡ cond t (w * d) 0

@@ -8,7 +8,7 @@ use lib.ListN.{length}
 use Rattle.number.specs.{most}
 use Rattle.colour.specs.{Point}
 use Rattle.shades.specs.{shadeAt, toShade, nearestShade}
-use Rattle.rounds.specs.Colouring.{Colours, meanOf}
+use Rattle.method.specs.Colouring.{Colours, meanOf}
 
 -- how far a colour is from the nearest of k shades
 abbrev pub remote : List ℕ → ℕ → Point → ℕ

@@ -6,9 +6,9 @@ use lib.Dec.{ltb}
 use lib.ListN.{replicate}
 use Rattle.number.specs.{fill, firstThat}
 use Rattle.shades.specs.{mostCoordinates}
-use Rattle.rounds.specs.Colouring.{Colours}
-use Rattle.rounds.specs.Rounding.{State}
-use Rattle.rounds.specs.Starting.{Base, startsFrom, onMean, over}
+use Rattle.method.specs.Colouring.{Colours}
+use Rattle.method.specs.Rounding.{State}
+use Rattle.method.specs.Starting.{Base, startsFrom, onMean, over}
 
 -- a run from given shades begins with the starting shades, zeros past them, and with every colour in shade 0
 abbrev pub beginFrom : Base → Colours → ℕ → List ℕ → State

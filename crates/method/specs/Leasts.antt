@@ -5,7 +5,7 @@ use mathlib.Core.Bool.{cond}
 use mathlib.Core.List.{List, [], _∷_}
 use mathlib.Core.Path.{_≡_}
 use lib.Dec.{eqb}
-use Rattle.rounds.specs.Colouring.{Colours, pixelsIn, leastOf}
+use Rattle.method.specs.Colouring.{Colours, pixelsIn, leastOf}
 
 -- the number top / under
 pub record Fraction : Type 0 where

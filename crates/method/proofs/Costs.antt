@@ -11,8 +11,8 @@ use Rattle.number.proofs.Means.{mean-best, mean-bound, mean-fits}
 use Rattle.number.proofs.Sums.{sum-add, sum-none}
 use Rattle.colour.specs.{Point, Within, distance, mostCoordinate}
 use Rattle.colour.proofs.Distances.{each}
-use Rattle.rounds.specs.Colouring.{Colours, on, pixelsIn, sumsOf, leastOf, costAt, meanOf, drawn}
-use Rattle.rounds.specs.Rounding.{toMean, GoodRule, Means}
+use Rattle.method.specs.Colouring.{Colours, on, pixelsIn, sumsOf, leastOf, costAt, meanOf, drawn}
+use Rattle.method.specs.Rounding.{toMean, GoodRule, Means}
 
 -- a shade costs what its three coordinates cost
 pub cost-coordinates : (C : Colours) (z : Point)

@@ -8,7 +8,7 @@ use lib.ListN.{getD, length}
 use Rattle.number.specs.{sum, howMany, fill}
 use Rattle.colour.specs.{Point, Within, mostCoordinate}
 use Rattle.shades.specs.{shadeAt, laid, samePlace, Shades, toShade, nearestShade, worked}
-use Rattle.rounds.specs.Colouring.{Colours, pixelsIn, costAt, meanOf, groupOf}
+use Rattle.method.specs.Colouring.{Colours, pixelsIn, costAt, meanOf, groupOf}
 
 -- where a shade goes: given its number, its group, and where it stands
 abbrev pub Rule : Type 0

@@ -17,8 +17,8 @@ use Rattle.number.proofs.Sums.{sum-eq, sum-le, sum-zero}
 use Rattle.colour.specs.{Point, distance}
 use Rattle.shades.specs.{shadeAt, samePlace, toShade}
 use Rattle.shades.proofs.Laying.{same-place-is}
-use Rattle.rounds.specs.Colouring.{Colours, pixelsIn, costAt, meanOf, groupOf}
-use Rattle.rounds.specs.Rounding.{
+use Rattle.method.specs.Colouring.{Colours, pixelsIn, costAt, meanOf, groupOf}
+use Rattle.method.specs.Rounding.{
   Rule,
   toMean,
   Means,
@@ -34,16 +34,16 @@ use Rattle.rounds.specs.Rounding.{
   groupAt,
   groupCost,
 }
-use Rattle.rounds.specs.Leasts.{Bounded}
-use Rattle.rounds.proofs.Costs.{
+use Rattle.method.specs.Leasts.{Bounded}
+use Rattle.method.proofs.Costs.{
   empty-costs-nothing,
   cost-at-least,
   mean-cost-at-most,
   to-mean-moves,
   to-mean-least,
 }
-use Rattle.rounds.proofs.Totals.{total-by-groups, group-pixels-same, group-sum-same}
-use Rattle.rounds.proofs.Falls.{
+use Rattle.method.proofs.Totals.{total-by-groups, group-pixels-same, group-sum-same}
+use Rattle.method.proofs.Falls.{
   member-joined,
   grouped-below,
   shade-moved,

@@ -12,8 +12,8 @@ use Rattle.colour.specs.{distance}
 use Rattle.shades.specs.{shadeAt, coordinateOf}
 use Rattle.shades.proofs.Laying.{shade-laid, laid-low, laid-length, shade-within}
 use Rattle.shades.proofs.Nearest.{nearest-below}
-use Rattle.rounds.specs.Colouring.{Colours, costAt, Fair}
-use Rattle.rounds.specs.Rounding.{
+use Rattle.method.specs.Colouring.{Colours, costAt, Fair}
+use Rattle.method.specs.Rounding.{
   Rule,
   GoodRule,
   State,
@@ -27,7 +27,7 @@ use Rattle.rounds.specs.Rounding.{
   after,
   Fit,
 }
-use Rattle.rounds.proofs.Totals.{total-by-groups, nearest-total-least}
+use Rattle.method.proofs.Totals.{total-by-groups, nearest-total-least}
 
 -- ---- one round
 

@@ -10,7 +10,7 @@ use Rattle.number.specs.{firstThat}
 use Rattle.number.proofs.Cases.{never}
 use Rattle.number.proofs.Firsts.{First, first-that}
 use Rattle.number.proofs.Searches.{below-or-last}
-use Rattle.rounds.specs.Running.{roundsMade}
+use Rattle.method.specs.Running.{roundsMade}
 
 module _ (limit : ℕ) (quiet : ℕ → Bool) where
   -- where a round below the limit is quiet, the first such is the last made

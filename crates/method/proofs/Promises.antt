@@ -6,8 +6,8 @@ use mathlib.Core.Path.{_≡_}
 use Rattle.number.specs.{sum, sumOf, most, Best}
 use Rattle.number.proofs.Promises.{most-is-best, best-is-most}
 use Rattle.colour.specs.{Point, distance}
-use Rattle.rounds.specs.Colouring.{Colours, Fair, pixelsIn, sumsOf, leastOf, costAt, meanOf, groupOf, drawn}
-use Rattle.rounds.specs.Rounding.{
+use Rattle.method.specs.Colouring.{Colours, Fair, pixelsIn, sumsOf, leastOf, costAt, meanOf, groupOf, drawn}
+use Rattle.method.specs.Rounding.{
   Rule,
   toMean,
   GoodRule,
@@ -17,13 +17,13 @@ use Rattle.rounds.specs.Rounding.{
   finalOf,
   after,
 }
-use Rattle.rounds.specs.Starting.{Base, remote, nextShade}
-use Rattle.rounds.specs.Leasts.{Bounded, SumBounded, leastSum, From}
-use Rattle.rounds.proofs.Bounds as bounds
-use Rattle.rounds.proofs.Costs as costs
-use Rattle.rounds.proofs.Falls as falls
-use Rattle.rounds.proofs.Startings as startings
-use Rattle.rounds.proofs.Totals as totals
+use Rattle.method.specs.Starting.{Base, remote, nextShade}
+use Rattle.method.specs.Leasts.{Bounded, SumBounded, leastSum, From}
+use Rattle.method.proofs.Bounds as bounds
+use Rattle.method.proofs.Costs as costs
+use Rattle.method.proofs.Falls as falls
+use Rattle.method.proofs.Startings as startings
+use Rattle.method.proofs.Totals as totals
 
 -- ---- starting shades
 
