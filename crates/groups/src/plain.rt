@@ -29,7 +29,7 @@ pub fn group_plain(
         ≡ plainDistances (coloursOf used (now (keys .entry)) (now (weights .entry))) k
         (stateOf (now (s .entry)) (now (members .entry))) ⌝ }
 {
-    looking::search_all(keys, used, s, k, members);
+    search_all::search_all(keys, used, s, k, members);
     let mut total: u64 = 0;
     let mut count: u64 = 0;
     let mut i = 0;

@@ -8,7 +8,7 @@ use lib.Seq.{getD-append-add}
 use borrow.Rule.Slice.PartMut.{midOf}
 use Rattle.number.proofs.Parts.{part-at}
 use Rattle.colour.specs.{Within, Bytes, mostLevel}
-use Rattle.looking.specs.{PointsOnGrid}
+use Rattle.search_all.specs.{PointsOnGrid}
 use Rattle.misses.specs.Missing.{pixelAt}
 
 -- no level of a pixel is above that of a byte

@@ -11,8 +11,8 @@ use Rattle.number.proofs.Parts.{stretch-filled}
 use Rattle.colour.specs.{Within, mostCoordinate}
 use Rattle.colour.proofs.Promises.{levels-most}
 use Rattle.shades.specs.{packedNearest}
-use Rattle.looking.specs.{pointAt, PointsOnGrid, RoomFor}
-use Rattle.looking.proofs.Layouts.{LaidOut, laid-out-ready}
+use Rattle.search_all.specs.{pointAt, PointsOnGrid, RoomFor}
+use Rattle.search_all.proofs.Layouts.{LaidOut, laid-out-ready}
 use Rattle.places.specs.Gathering.{levelsAt}
 
 -- the levels read from a key are those of a point on the grid

@@ -5,7 +5,7 @@ ghost use Prim.Native.Nat.{_<_, _≤_};
 ghost use lib.ListN.{length};
 ghost use Rattle.number.specs.{fill};
 ghost use Rattle.shades.specs.{Shades, packedNearest};
-ghost use Rattle.looking.specs.{RoomFor};
+ghost use Rattle.search_all.specs.{RoomFor};
 ghost use Rattle.places.specs.Gathering.{levelsAt};
 use super::runs::lay_out;
 
@@ -29,5 +29,5 @@ pub fn search_places(
         (now (best .entry)) ⌝ }
 {
     lay_out(keys, n, reds, greens, blues);
-    looking::search_points(reds, greens, blues, s, k, &mut best[0..n]);
+    search_all::search_points(reds, greens, blues, s, k, &mut best[0..n]);
 }

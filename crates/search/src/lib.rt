@@ -1,5 +1,5 @@
 // The shortened search for the nearest shade: it tries only the shades near the former one, and
-// finds what the plain search of crate `looking` finds.
+// finds what the plain search of crate `search_all` finds.
 //
 // Calls; none refuses, and what one requires stands above it
 //   fill_rows      for each shade the shades by rising distance   rows.rt

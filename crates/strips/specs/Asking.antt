@@ -5,7 +5,7 @@ use mathlib.Core.Path.{_≡_}
 use lib.ListN.{length}
 use Rattle.colour.specs.{Point, mostCoordinate, mostPixels}
 use Rattle.shades.specs.{mostShades, nearestShade}
-use Rattle.looking.specs.{RoomFor}
+use Rattle.search_all.specs.{RoomFor}
 use Rattle.strips.specs.Meaning.{entryCount}
 use Rattle.places.specs.{mostPlaces, fewPlaces, placeOf}
 use Rattle.misses.specs.{Errors}

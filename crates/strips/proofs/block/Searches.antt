@@ -10,7 +10,7 @@ use Rattle.colour.specs.{Point, Bytes, mostPixels}
 use Rattle.colour.proofs.Promises.{levels-of-key}
 use Rattle.shades.specs.{mostShades, shadeAt, nearestShade, packedNearest, Shades}
 use Rattle.shades.proofs.Nearest.{nearest-below, packed-number}
-use Rattle.looking.specs.{RoomFor}
+use Rattle.search_all.specs.{RoomFor}
 use Rattle.misses.specs.{Errors, pixelAt, missesOf, Found, numberIn, numberOf}
 use Rattle.strips.specs.Meaning.{nearestTo}
 use Rattle.places.specs.{

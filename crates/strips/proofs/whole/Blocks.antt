@@ -11,7 +11,7 @@ use Rattle.number.proofs.Parts.{part-filled}
 use Rattle.colour.specs.{Point, Bytes, mostCoordinate, mostPixels}
 use Rattle.shades.specs.{shadeAt, nearestShade, OnGrid, Shades}
 use Rattle.shades.proofs.Laying.{shade-within}
-use Rattle.looking.specs.{PointsOnGrid}
+use Rattle.search_all.specs.{PointsOnGrid}
 use Rattle.misses.specs.{Errors, pixelAt, missOn, missesOf, plusErrors}
 use Rattle.strips.specs.Meaning.{nearestTo}
 use Rattle.places.specs.{mostPlaces}

@@ -3,7 +3,7 @@ use native.Mathlib.Nat.{le-refl}
 use native.Mathlib.Omega.{arith}
 use denote.Ref.{now}
 use borrow.Author.Needs.{needs}
-use Rattle.looking.proofs.Layouts.{LaidOut, fronts-done}
+use Rattle.search_all.proofs.Layouts.{LaidOut, fronts-done}
 use Rattle.places.specs.Gathering.{levelsAt}
 use Rattle.places.proofs.Finds.{keys-ready, keys-searched}
 use Rattle.places.proofs.find.search_places.Statement.{statement}

@@ -4,8 +4,8 @@ use mathlib.Core.Path.{_≡_, _∙_}
 use native.Mathlib.Omega.{arith}
 use denote.Ref.{now}
 use borrow.Author.Needs.{needs}
-use Rattle.looking.specs.{RoomFor}
-use Rattle.looking.proofs.Layouts.{Fronts, fronts-start, fronts-room, fronts-step, fronts-long}
+use Rattle.search_all.specs.{RoomFor}
+use Rattle.search_all.proofs.Layouts.{Fronts, fronts-start, fronts-room, fronts-step, fronts-long}
 use Rattle.places.specs.Gathering.{levelsAt}
 use Rattle.places.proofs.runs.lay_out.Statement.{statement}
 use Rattle.places.proofs.runs.lay_out.Tie as tie

@@ -7,7 +7,7 @@ ghost use lib.ListN.{length};
 ghost use Rattle.number.specs.{fill};
 ghost use Rattle.colour.specs.{Within, mostCoordinate};
 ghost use Rattle.shades.specs.{mostShades, colourAt, Shades, packedNearest};
-ghost use Rattle.looking.specs.Asking.{pointAt, lookedAt, PointsOnGrid, RoomFor};
+ghost use Rattle.search_all.specs.Asking.{pointAt, lookedAt, PointsOnGrid, RoomFor};
 use colour::Point;
 use shades::lesser;
 

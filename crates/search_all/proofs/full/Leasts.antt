@@ -14,7 +14,7 @@ use Rattle.colour.specs.{Point, Within, distance, mostCoordinate}
 use Rattle.shades.specs.{mostShades, shadeAt, pack, packedNearest, Shades}
 use Rattle.shades.proofs.Laying.{to-shade-most}
 use Rattle.shades.proofs.Nearest.{packed-only}
-use Rattle.looking.specs.Asking.{lookedAt, PointsOnGrid}
+use Rattle.search_all.specs.Asking.{lookedAt, PointsOnGrid}
 
 -- the greatest number that a place holds: no packed number is as great
 abbrev pub mostPlace : ℕ

@@ -8,7 +8,7 @@ use borrow.Rule.Slice.PartMut.{midOf, mid-len}
 use Rattle.number.specs.{fill}
 use Rattle.number.proofs.Fills.{fill-at, fill-length, fill-more, fill-same}
 use Rattle.colour.specs.{Point}
-use Rattle.looking.specs.Asking.{pointAt, PointsOnGrid, RoomFor}
+use Rattle.search_all.specs.Asking.{pointAt, PointsOnGrid, RoomFor}
 
 -- ---- one coordinate, given by f
 
