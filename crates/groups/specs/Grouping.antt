@@ -6,7 +6,7 @@ use mathlib.Core.List.{List}
 use lib.ListN.{getD, length}
 use Rattle.shades.specs.{Shades}
 use Rattle.method.specs.{Tabled, stateOf, coloursOf, joins, grouped, totalOf}
-use Rattle.search.specs.{Rows, Gaps}
+use Rattle.search_near.specs.{Rows, Gaps}
 use Rattle.sums.specs.{Summed}
 
 -- a table, some shades, and a former shade for each entry

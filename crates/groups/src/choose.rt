@@ -16,10 +16,10 @@ fn track(s: &[u32], k: usize, few: bool, g: &mut [u32])
     ensures { λ _. ⌜ Tracks few (now (s .entry)) k (now (g .exit)) ⌝ }
 {
     if few {
-        search::fill_gaps(s, k, g);
+        search_near::fill_gaps(s, k, g);
         return;
     }
-    search::fill_rows(s, k, g);
+    search_near::fill_rows(s, k, g);
 }
 
 // Groups the table from the former shades and leaves the grouping in the members, which stay past

@@ -7,7 +7,7 @@ ghost use Rattle.method.specs.{Tabled, stateOf, coloursOf, shortDistances};
 ghost use Rattle.sums.specs.{Summed, Assigned, memberAt};
 ghost use Rattle.groups.specs.Grouping.{Groupable, Tracks, Grouped, covered};
 use super::Regrouped;
-use search::Met;
+use search_near::Met;
 use sums::lower;
 use sums::one_of;
 use sums::raise;
@@ -39,9 +39,9 @@ fn rejoin(
     let p = members[i] as usize;
     let c = colour::colour_of(keys[i]);
     if few {
-        return search::walk_gaps(s, g, k, c, p);
+        return search_near::walk_gaps(s, g, k, c, p);
     }
-    search::walk(s, g, k, c, p)
+    search_near::walk(s, g, k, c, p)
 }
 
 // Entry `i` joins group `q`, and the sums over the entries before it, which are required, are then
