@@ -15,8 +15,8 @@ use Rattle.shades.proofs.Laying.{to-shade-most}
 use Rattle.shades.proofs.Nearest.{nearest-below}
 use Rattle.method.specs.{Tabled, coloursOf, joins, remote}
 use Rattle.method.proofs.Sizes.{fair-of-table, spent-at-most}
-use Rattle.sums.specs.{Summed}
-use Rattle.sums.proofs.Bounds.{weight-at-most}
+use Rattle.group_sums.specs.{Summed}
+use Rattle.group_sums.proofs.Bounds.{weight-at-most}
 use Rattle.groups.specs.Grouping.{Grouped}
 
 -- what both loops ask: a table, some shades where it has entries, a member for each entry, and at most 65 distances

@@ -7,7 +7,7 @@ use lib.ListN.{getD, length}
 use Rattle.shades.specs.{Shades}
 use Rattle.method.specs.{Tabled, stateOf, coloursOf, joins, grouped, totalOf}
 use Rattle.search_near.specs.{Rows, Gaps}
-use Rattle.sums.specs.{Summed}
+use Rattle.group_sums.specs.{Summed}
 
 -- a table, some shades, and a former shade for each entry
 pub record Groupable (used : ℕ) (ks ws s : List ℕ) (k : ℕ) (members : List ℕ) : Type 0 where

@@ -5,7 +5,7 @@ ghost use Prim.Native.Nat.{_*_, _≤_};
 ghost use lib.ListN.{length};
 ghost use Rattle.shades.specs.{mostShades, Shades};
 ghost use Rattle.method.specs.{stateOf, coloursOf, shortDistances};
-ghost use Rattle.sums.specs.{Summed, memberAt};
+ghost use Rattle.group_sums.specs.{Summed, memberAt};
 ghost use Rattle.groups.specs.Grouping.{Groupable, Tracks, Grouped, covered};
 use super::Regrouped;
 use super::short::group_short;

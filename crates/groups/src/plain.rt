@@ -6,8 +6,8 @@ ghost use Rattle.shades.specs.{Shades};
 ghost use Rattle.method.specs.{Tabled, stateOf, coloursOf, plainDistances};
 ghost use Rattle.groups.specs.Grouping.{Grouped};
 use super::Regrouped;
-use sums::gift_of;
-use sums::raise;
+use group_sums::gift_of;
+use group_sums::raise;
 
 // Groups the table by the plain search and leaves the grouping in the members, which stay past the
 // used entries, and the groups' sums in `t`. Requires a table, some shades, a member for each entry,

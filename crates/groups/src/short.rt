@@ -4,14 +4,14 @@ ghost use Prim.Native.Nat.{_+_, _≤_, _<_};
 ghost use lib.ListN.{length, getD, set};
 ghost use Rattle.shades.specs.{mostShades, colourAt, toShade, nearestShade, worked};
 ghost use Rattle.method.specs.{Tabled, stateOf, coloursOf, shortDistances};
-ghost use Rattle.sums.specs.{Summed, Assigned, memberAt};
+ghost use Rattle.group_sums.specs.{Summed, Assigned, memberAt};
 ghost use Rattle.groups.specs.Grouping.{Groupable, Tracks, Grouped, covered};
 use super::Regrouped;
 use search_near::Met;
-use sums::lower;
-use sums::one_of;
-use sums::raise;
-use sums::two_of;
+use group_sums::lower;
+use group_sums::one_of;
+use group_sums::raise;
+use group_sums::two_of;
 
 // The nearest shade of entry `i`, from its member, by the rows that `g` has.
 fn rejoin(

@@ -16,8 +16,8 @@ use Rattle.shades.specs.{mostShades, mostCoordinates, shadeAt, axis, coordinate
 use Rattle.shades.proofs.Laying.{coordinate-at, first-coordinate}
 use Rattle.method.specs.{Colours, Tabled, coloursOf, pixelsIn, sumsOf, meanOf, groupOf, toMean}
 use Rattle.method.proofs.Totals.{weight-times}
-use Rattle.sums.specs.{twoOf, oneOf, weighed, given, Summed}
-use Rattle.sums.proofs.Bounds.{given-at-most}
+use Rattle.group_sums.specs.{twoOf, oneOf, weighed, given, Summed}
+use Rattle.group_sums.proofs.Bounds.{given-at-most}
 use Rattle.moves.specs.Reading.{sumIn, goes, stays, Measured}
 use Rattle.moves.proofs.Pairs.{Parts, parts}
 

@@ -8,7 +8,7 @@ use Rattle.number.proofs.Sums.{sum-add, sum-eq, sum-le, sum-mul}
 use Rattle.colour.specs.{mostLevel, mostCoordinate, mostPixels, redOf, greenOf, blueOf, colourOf}
 use Rattle.shades.specs.{axis}
 use Rattle.method.specs.{Colours, pixelsIn, sumsOf}
-use Rattle.sums.specs.{twoOf, oneOf}
+use Rattle.group_sums.specs.{twoOf, oneOf}
 
 -- two numbers of 64 bits hold the pixel count and the coordinate sums of the colours, which are a table's
 pub record Parts (C : Colours) (two one : ℕ) : Type 0 where

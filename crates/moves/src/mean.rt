@@ -4,7 +4,7 @@ ghost use Prim.Native.Nat.{_<_};
 ghost use Rattle.number.specs.{sum};
 ghost use Rattle.colour.specs.{Within, mostCoordinate};
 ghost use Rattle.method.specs.{Tabled, coloursOf, pixelsIn, meanOf};
-ghost use Rattle.sums.specs.{twoOf, oneOf, weighed};
+ghost use Rattle.group_sums.specs.{twoOf, oneOf, weighed};
 use super::read::high;
 use super::read::low;
 use colour::Point;
@@ -27,8 +27,8 @@ fn whole_sums(keys: &[u32], weights: &[u32], used: usize) -> Pair
     let mut one: u64 = 0;
     let mut i = 0;
     while i < used {
-        two += sums::two_of(weights[i], keys[i]);
-        one += sums::one_of(weights[i], keys[i]);
+        two += group_sums::two_of(weights[i], keys[i]);
+        one += group_sums::one_of(weights[i], keys[i]);
         i += 1;
     }
     Pair { two, one }

@@ -9,8 +9,8 @@ use Rattle.number.specs.{fill, howMany}
 use Rattle.number.proofs.Fills.{fill-at}
 use Rattle.shades.specs.{mostShades}
 use Rattle.method.specs.{State, stateOf, coloursOf, toMean, joins}
-use Rattle.sums.specs.{Summed, memberAt}
-use Rattle.sums.proofs.Moving.{summed-same}
+use Rattle.group_sums.specs.{Summed, memberAt}
+use Rattle.group_sums.proofs.Moving.{summed-same}
 use Rattle.groups.specs.{Grouped}
 use Rattle.moves.specs.{Measured, goes, stays}
 use Rattle.moves.proofs.Moving.{measured, moves-laid, movers-are}

@@ -8,9 +8,9 @@ use Rattle.colour.specs.{mostPixels, mostDistance}
 use Rattle.shades.specs.{mostShades, colourAt, packedNearest}
 use Rattle.shades.proofs.Nearest.{packed-found}
 use Rattle.method.specs.{coloursOf, joins}
-use Rattle.sums.specs.{twoOf, oneOf, weighed, raised, Summed}
-use Rattle.sums.proofs.Bounds.{raises-fit}
-use Rattle.sums.proofs.Summing.{summed-more}
+use Rattle.group_sums.specs.{twoOf, oneOf, weighed, raised, Summed}
+use Rattle.group_sums.proofs.Bounds.{raises-fit}
+use Rattle.group_sums.proofs.Summing.{summed-more}
 use Rattle.groups.proofs.Turns.{Turned, Finds, turned-some, turned-low, number-below}
 
 module _ {used : ℕ} {ks ws s : List ℕ} {k : ℕ} {works : ℕ → ℕ} {before members : List ℕ} {total count i : ℕ}

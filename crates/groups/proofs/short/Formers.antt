@@ -9,7 +9,7 @@ use Rattle.number.proofs.Fills.{fill-at, fill-kept}
 use Rattle.shades.specs.{colourAt, worked}
 use Rattle.shades.proofs.Nearest.{nearest-below, worked-at-most}
 use Rattle.method.specs.{coloursOf, joins}
-use Rattle.sums.specs.{Assigned}
+use Rattle.group_sums.specs.{Assigned}
 use Rattle.groups.specs.Grouping.{Groupable}
 use Rattle.groups.proofs.Turns.{Fitted, Turned, turned-length, turned-kept}
 

@@ -8,8 +8,8 @@ use lib.ListN.{length, set, getD}
 use lib.Seq.{getD-set-same, getD-set-other, set-getD}
 use Rattle.number.proofs.Fills.{fill-at}
 use Rattle.method.specs.{coloursOf, joins}
-use Rattle.sums.specs.{Summed, memberAt}
-use Rattle.sums.proofs.Moving.{Goes, summed-same}
+use Rattle.group_sums.specs.{Summed, memberAt}
+use Rattle.group_sums.proofs.Moving.{Goes, summed-same}
 use Rattle.groups.specs.Grouping.{covered}
 use Rattle.groups.proofs.Turns.{Turned}
 

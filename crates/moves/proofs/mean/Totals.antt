@@ -7,7 +7,7 @@ use lib.ListN.{getD}
 use Rattle.number.specs.{sum}
 use Rattle.number.proofs.Sums.{sum-more}
 use Rattle.method.specs.{Tabled, coloursOf}
-use Rattle.sums.specs.{twoOf, oneOf, weighed}
+use Rattle.group_sums.specs.{twoOf, oneOf, weighed}
 use Rattle.moves.proofs.Pairs.{Parts, parts}
 
 -- the entries before place i are added up

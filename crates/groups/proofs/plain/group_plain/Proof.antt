@@ -7,8 +7,8 @@ use lib.ListN.{getD}
 use denote.Ref.{now}
 use borrow.Author.Needs.{needs}
 use Rattle.method.specs.{coloursOf, joins}
-use Rattle.sums.specs.{Summed}
-use Rattle.sums.proofs.Summing.{summed-none}
+use Rattle.group_sums.specs.{Summed}
+use Rattle.group_sums.proofs.Summing.{summed-none}
 use Rattle.groups.proofs.Turns.{
   Turned,
   Finds,

@@ -5,9 +5,9 @@ use native.Mathlib.Omega.{arith}
 use denote.Ref.{now}
 use lib.ListN.{set}
 use borrow.Author.Needs.{needs}
-use Rattle.sums.specs.{Summed, memberAt}
-use Rattle.sums.proofs.Bounds.{weight-at-most, raises-fit}
-use Rattle.sums.proofs.Summing.{summed-more}
+use Rattle.group_sums.specs.{Summed, memberAt}
+use Rattle.group_sums.proofs.Bounds.{weight-at-most, raises-fit}
+use Rattle.group_sums.proofs.Summing.{summed-more}
 use Rattle.groups.proofs.short.Joining.{joined-at, joined-before}
 use Rattle.groups.proofs.short.enter.Statement.{statement}
 use Rattle.groups.proofs.short.enter.Tie as tie

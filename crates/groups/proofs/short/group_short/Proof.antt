@@ -6,7 +6,7 @@ use native.Mathlib.Omega.{arith}
 use lib.ListN.{getD}
 use denote.Ref.{now}
 use borrow.Author.Needs.{needs}
-use Rattle.sums.specs.{Summed, memberAt}
+use Rattle.group_sums.specs.{Summed, memberAt}
 use Rattle.groups.specs.Grouping.{covered}
 use Rattle.groups.proofs.Turns.{
   Turned,

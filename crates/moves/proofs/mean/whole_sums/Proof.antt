@@ -2,8 +2,8 @@
 use Prim.Native.Nat.{_-_}
 use native.Mathlib.Omega.{arith}
 use denote.Ref.{now}
-use Rattle.sums.specs.{twoOf, oneOf}
-use Rattle.sums.proofs.Bounds.{two-at-most, one-at-most, weight-at-most, whole-adds-fit}
+use Rattle.group_sums.specs.{twoOf, oneOf}
+use Rattle.group_sums.proofs.Bounds.{two-at-most, one-at-most, weight-at-most, whole-adds-fit}
 use Rattle.moves.proofs.mean.Totals.{Totalling, totalling-start, totalling-step, totalling-done}
 use Rattle.moves.proofs.mean.whole_sums.Statement.{statement}
 use Rattle.moves.proofs.mean.whole_sums.Tie as tie

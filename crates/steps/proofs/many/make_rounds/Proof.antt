@@ -8,8 +8,8 @@ use borrow.Author.Needs.{needs}
 use Rattle.method.specs.{stateOf, coloursOf, toMean}
 use Rattle.method.proofs.Costs.{to-mean-good}
 use Rattle.method.proofs.Sizes.{fair-of-table}
-use Rattle.sums.specs.{Summed, memberAt}
-use Rattle.sums.proofs.Summing.{summed-none}
+use Rattle.group_sums.specs.{Summed, memberAt}
+use Rattle.group_sums.proofs.Summing.{summed-none}
 use Rattle.groups.specs.{covered}
 use Rattle.steps.proofs.Turns.{
   Going,

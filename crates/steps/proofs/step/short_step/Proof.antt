@@ -1,6 +1,6 @@
 -- `short_step` meets its contract: zeros are the sums over no entry.
 use borrow.Author.Needs.{needs}
-use Rattle.sums.proofs.Summing.{summed-none}
+use Rattle.group_sums.proofs.Summing.{summed-none}
 use Rattle.steps.proofs.step.short_step.Statement.{statement}
 use Rattle.steps.proofs.step.short_step.Tie as tie
 

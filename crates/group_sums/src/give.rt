@@ -4,7 +4,7 @@ ghost use Prim.Native.Nat.{_+_, _*_, _/_, _%_, _<_, _≤_};
 ghost use lib.ListN.{getD};
 ghost use Rattle.colour.specs.{mostPixels, mostDistance};
 ghost use Rattle.shades.specs.{mostShades};
-ghost use Rattle.sums.specs.Summing.{twoOf, oneOf, placed, raised, lowered};
+ghost use Rattle.group_sums.specs.Summing.{twoOf, oneOf, placed, raised, lowered};
 use super::Gift;
 
 // A sum of at most 2^24 levels, in 64 bits.

@@ -2,9 +2,9 @@
 use native.Mathlib.Omega.{arith}
 use borrow.Author.Needs.{needs}
 use Rattle.colour.specs.{blueOf}
-use Rattle.sums.proofs.Bounds.{times-fits, times-pair}
-use Rattle.sums.proofs.give.one_of.Statement.{statement}
-use Rattle.sums.proofs.give.one_of.Tie as tie
+use Rattle.group_sums.proofs.Bounds.{times-fits, times-pair}
+use Rattle.group_sums.proofs.give.one_of.Statement.{statement}
+use Rattle.group_sums.proofs.give.one_of.Tie as tie
 
 blue-of-requires : tie.Need-blue-of-requires
 blue-of-requires c κs = search needs

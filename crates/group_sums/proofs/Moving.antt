@@ -10,9 +10,9 @@ use Rattle.number.specs.{sum}
 use Rattle.number.proofs.Sums.{sum-eq, sum-change}
 use Rattle.shades.specs.{mostShades}
 use Rattle.method.specs.{Tabled}
-use Rattle.sums.specs.Summing.{twoOf, oneOf, weighed, given, raised, lowered, Summed}
-use Rattle.sums.proofs.Bounds.{two-at-most, one-at-most, group-fits}
-use Rattle.sums.proofs.Summing.{
+use Rattle.group_sums.specs.Summing.{twoOf, oneOf, weighed, given, raised, lowered, Summed}
+use Rattle.group_sums.proofs.Bounds.{two-at-most, one-at-most, group-fits}
+use Rattle.group_sums.proofs.Summing.{
   placed-two,
   placed-one,
   placed-other-two,

@@ -2,9 +2,9 @@
 use native.Mathlib.Omega.{arith}
 use borrow.Author.Needs.{needs}
 use Rattle.colour.specs.{redOf, greenOf}
-use Rattle.sums.proofs.Bounds.{times-fits, times-pair}
-use Rattle.sums.proofs.give.two_of.Statement.{statement}
-use Rattle.sums.proofs.give.two_of.Tie as tie
+use Rattle.group_sums.proofs.Bounds.{times-fits, times-pair}
+use Rattle.group_sums.proofs.give.two_of.Statement.{statement}
+use Rattle.group_sums.proofs.give.two_of.Tie as tie
 
 red-of-requires : tie.Need-red-of-requires
 red-of-requires c κs = search needs

@@ -14,8 +14,8 @@ use Rattle.shades.specs.{mostShades}
 use Rattle.method.specs.{Tabled, coloursOf}
 use Rattle.method.proofs.Sizes as sizes
 use Rattle.method.proofs.Sizes.{fair-of-table}
-use Rattle.sums.specs.Summing.{twoOf, oneOf, weighed, given, Summed}
-use Rattle.sums.proofs.Summing.{given-own}
+use Rattle.group_sums.specs.Summing.{twoOf, oneOf, weighed, given, Summed}
+use Rattle.group_sums.proofs.Summing.{given-own}
 
 -- two levels of 255 in one number
 abbrev pub mostPair : ℕ

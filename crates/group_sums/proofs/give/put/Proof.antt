@@ -1,7 +1,7 @@
 -- `put` meets its contract.
 use borrow.Author.Needs.{needs}
-use Rattle.sums.proofs.give.put.Statement.{statement}
-use Rattle.sums.proofs.give.put.Tie as tie
+use Rattle.group_sums.proofs.give.put.Statement.{statement}
+use Rattle.group_sums.proofs.give.put.Tie as tie
 
 mul-a : tie.Need-mul-a
 mul-a c = search needs

@@ -11,7 +11,7 @@ use borrow.Author.Tests.{eq-eqb, ne-eqb}
 use Rattle.number.specs.{sum}
 use Rattle.number.proofs.Sums.{sum-more}
 use Rattle.shades.specs.{mostShades}
-use Rattle.sums.specs.Summing.{twoOf, oneOf, weighed, given, placed, raised, Summed}
+use Rattle.group_sums.specs.Summing.{twoOf, oneOf, weighed, given, placed, raised, Summed}
 
 -- over no entry every sum is 0
 pub summed-none : (m : ℕ → ℕ) (ks ws : List ℕ) → Summed m ks ws 0 (replicate 128 0)
