@@ -12,7 +12,7 @@ use Rattle.method.specs.{coloursOf, meanOf, onMean, starts, toMean, begin}
 use Rattle.method.proofs.Begins.{mean-low}
 use Rattle.method.proofs.Costs.{to-mean-good}
 use Rattle.method.proofs.Sizes.{fair-of-table}
-use Rattle.steps.specs.{Runnable}
+use Rattle.rounds.specs.{Runnable}
 use Rattle.lloyd.specs.Refusals.{limitOf, runRows}
 use Rattle.lloyd.specs.Beginning.{FarthestColour}
 use Rattle.lloyd.specs.Outcomes.{runOf, AcceptedRun}

@@ -14,7 +14,7 @@ use Rattle.shades.specs.{colourAt, nearestShade, badCoordinates, badCentre}
 use Rattle.shades.proofs.Checks.{bad-coordinates-exactly, shades-of-tests}
 use Rattle.method.specs.{Colours, State, coloursOf, toMean, joins, plainDistances, shortDistances}
 use Rattle.method.proofs.Falls.{member-joined}
-use Rattle.steps.specs.{Steppable, Walkable}
+use Rattle.rounds.specs.{Steppable, Walkable}
 use Rattle.lloyd.specs.Refusals.{shortMembers, badMember, plainRows, memberRow, shortRows}
 use Rattle.lloyd.specs.Outcomes.{RoundOutcome, madeRound, keptRound, plainRound, shortRound}
 use Rattle.lloyd.proofs.Checks.{bad-member-exactly}

@@ -7,7 +7,7 @@ use lib.ListN.{length}
 use Rattle.refusal.specs.{Row, Refusal, numberOf, done, firstOf, Refuses}
 use Rattle.table.specs.{Record}
 use Rattle.method.specs.{Colours, State, coloursOf, toMean, plainDistances, shortDistances}
-use Rattle.steps.specs.{StepMeets}
+use Rattle.rounds.specs.{StepMeets}
 use Rattle.lloyd.specs.Refusals.{badMember, plainRows, shortRows}
 use Rattle.lloyd.specs.Outcomes.{
   RoundOutcome,

@@ -10,7 +10,7 @@ use Rattle.number.proofs.Cases.{neither}
 use Rattle.refusal.specs.{Refusal, numberOf, done, firstOf, NoneHolds, Refuses}
 use Rattle.table.specs.{Record, badTable}
 use Rattle.method.specs.{Colours, State, coloursOf, toMean, onMean, finalOf, begin}
-use Rattle.steps.specs.{mostRounds, Runnable, SeriesMeets}
+use Rattle.rounds.specs.{mostRounds, Runnable, SeriesMeets}
 use Rattle.lloyd.specs.Refusals.{limitOf, badCount, fewColours, badLimit, shortMembers, shortTotals, runRows}
 use Rattle.lloyd.specs.Outcomes.{RunMeets, refusedRun, keptRun, madeRun, runOf}
 use Rattle.lloyd.specs.declared.Ran.{Ran}

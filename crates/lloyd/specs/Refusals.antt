@@ -19,7 +19,7 @@ use Rattle.refusal.specs.{
 use Rattle.table.specs.{Record, badTable}
 use Rattle.shades.specs.{mostShades, badCoordinates, badCentre}
 use Rattle.method.specs.{State}
-use Rattle.steps.specs.{mostRounds}
+use Rattle.rounds.specs.{mostRounds}
 
 -- what a limit of 0 means
 abbrev pub usualLimit : ℕ

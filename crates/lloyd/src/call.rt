@@ -11,7 +11,7 @@ use refusal::BAD_TABLE;
 use refusal::DONE;
 use refusal::FEW_COLOURS;
 use refusal::SHORT_ROOM;
-use steps::Whole;
+use rounds::Whole;
 use table::Record;
 
 // 1 where a run is settled, else 0.
@@ -79,7 +79,7 @@ pub fn run(
         return refused(SHORT_ROOM);
     }
     let mut shades = [0u32; 192];
-    let a = steps::make_run(
+    let a = rounds::make_run(
         keys,
         weights,
         used,

@@ -10,7 +10,7 @@
 // For the crates above
 //   flag_of       settled as 1 or 0
 // A refusal answers its number and zeros and writes nothing. The tests stand in test.rt and in the
-// crates table and shades; the work is done by the crate steps.
+// crates table and shades; the work is done by the crate rounds.
 //
 // Read next: specs/Lib.antt (what the words mean), proofs/Promises.antt (what is shown).
 

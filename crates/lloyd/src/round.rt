@@ -10,7 +10,7 @@ use refusal::BAD_MEMBER;
 use refusal::BAD_TABLE;
 use refusal::DONE;
 use refusal::SHORT_ROOM;
-use steps::Stepped;
+use rounds::Stepped;
 use table::Record;
 
 // The answer of a refusal: its number and zeros.
@@ -76,7 +76,7 @@ pub fn plain_round(
         return refused(SHORT_ROOM);
     }
     let k = coordinates.len() / 3;
-    made(steps::plain_step(keys, weights, used, k, coordinates, members))
+    made(rounds::plain_step(keys, weights, used, k, coordinates, members))
 }
 
 // One round by the shortened search, which reads each colour's former shade from the members. It
@@ -114,5 +114,5 @@ pub fn short_round(
     if bad_member(members, used, k) {
         return refused(BAD_MEMBER);
     }
-    made(steps::short_step(keys, weights, used, k, coordinates, members))
+    made(rounds::short_step(keys, weights, used, k, coordinates, members))
 }

@@ -10,7 +10,7 @@ use Rattle.refusal.specs.{Refusal, numberOf, done, Given, NoneHolds}
 use Rattle.table.specs.{Record}
 use Rattle.shades.specs.{mostShades}
 use Rattle.method.specs.{State}
-use Rattle.steps.specs.{mostRounds}
+use Rattle.rounds.specs.{mostRounds}
 use Rattle.lloyd.specs.Refusals.{
   usualLimit,
   limitOf,

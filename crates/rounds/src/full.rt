@@ -12,7 +12,7 @@ ghost use Rattle.method.specs.{
   begin,
   finalOf,
 };
-ghost use Rattle.steps.specs.Meeting.{Runnable, SeriesMeets};
+ghost use Rattle.rounds.specs.Meeting.{Runnable, SeriesMeets};
 use super::Series;
 use super::Whole;
 use super::many::make_rounds;

@@ -9,8 +9,8 @@ use Rattle.number.proofs.Sums.{sum-more}
 use Rattle.shades.specs.{toShade, colourAt}
 use Rattle.method.specs.{coloursOf}
 use Rattle.method.proofs.Sizes.{fair-of-table, spent-at-most}
-use Rattle.steps.proofs.total.final_total.Statement.{statement}
-use Rattle.steps.proofs.total.final_total.Tie as tie
+use Rattle.rounds.proofs.total.final_total.Statement.{statement}
+use Rattle.rounds.proofs.total.final_total.Tie as tie
 
 abbrev Inv-loop : tie.InvT-loop
 Inv-loop keys weights used k s members total₀ i₀ total i =

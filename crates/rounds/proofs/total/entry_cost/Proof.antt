@@ -4,8 +4,8 @@ use denote.Ref.{now}
 use borrow.Author.Needs.{needs}
 use Rattle.method.specs.{coloursOf}
 use Rattle.method.proofs.Sizes.{fair-of-table, weight-at-most}
-use Rattle.steps.proofs.total.entry_cost.Statement.{statement}
-use Rattle.steps.proofs.total.entry_cost.Tie as tie
+use Rattle.rounds.proofs.total.entry_cost.Statement.{statement}
+use Rattle.rounds.proofs.total.entry_cost.Tie as tie
 
 mul-p : tie.Need-mul-p
 mul-p c = search needs

@@ -5,7 +5,7 @@ ghost use Prim.Native.Nat.{_<_, _≤_};
 ghost use lib.ListN.{length};
 ghost use lib.Dec.{eqb};
 ghost use Rattle.method.specs.{stateOf, coloursOf, toMean};
-ghost use Rattle.steps.specs.Meeting.{Walkable, SeriesMeets, mostRounds};
+ghost use Rattle.rounds.specs.Meeting.{Walkable, SeriesMeets, mostRounds};
 use super::Series;
 use super::Stepped;
 use super::step::next_step;
