@@ -5,7 +5,7 @@ use mathlib.Core.Path.{_≡_}
 use lib.ListN.{getD, length}
 use Rattle.colour.specs.{mostPixels}
 use Rattle.shades.specs.{mostShades, OnGrid}
-use Rattle.places.specs.{placeOf}
+use Rattle.map_slots.specs.{placeOf}
 
 -- the number in the packed number at place i
 abbrev pub numberIn : List ℕ → ℕ → ℕ

@@ -5,7 +5,7 @@ use lib.ListN.{getD, length}
 use Rattle.number.specs.{sum, sq}
 use Rattle.colour.specs.{Point, mostLevel, mostPixels}
 use Rattle.shades.specs.{shadeAt, OnGrid}
-use Rattle.places.specs.{placeOf}
+use Rattle.map_slots.specs.{placeOf}
 use Rattle.misses.specs.Finding.{numberOf}
 use Rattle.misses.specs.declared.Errors.{Errors}
 

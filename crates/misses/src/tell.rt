@@ -4,7 +4,7 @@ ghost use mathlib.Core.Path.{_≡_};
 ghost use Prim.Native.Nat.{_*_};
 ghost use lib.ListN.{length};
 ghost use Rattle.number.specs.{fill};
-ghost use Rattle.places.specs.{levelsOf};
+ghost use Rattle.map_slots.specs.{levelsOf};
 ghost use Rattle.misses.specs.Finding.{numberOf};
 ghost use Rattle.misses.specs.Telling.{cellsOf, toldOf, toldErrors, Tellable, Told};
 use super::Errors;

@@ -7,7 +7,7 @@ use Rattle.colour.specs.{Point, mostCoordinate, mostPixels}
 use Rattle.shades.specs.{mostShades, nearestShade}
 use Rattle.search_all.specs.{RoomFor}
 use Rattle.strips.specs.Meaning.{entryCount}
-use Rattle.places.specs.{mostPlaces, fewPlaces, placeOf}
+use Rattle.map_slots.specs.{mostPlaces, fewPlaces, placeOf}
 use Rattle.misses.specs.{Errors}
 
 -- the block that begins at pixel i of n ends at e: it has some pixels, and no more than a block may have

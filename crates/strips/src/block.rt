@@ -6,13 +6,13 @@ ghost use Rattle.number.specs.{fill};
 ghost use Rattle.shades.specs.{Shades};
 ghost use Rattle.misses.specs.{pixelAt, missesOf};
 ghost use Rattle.strips.specs.Meaning.{nearestTo};
-ghost use Rattle.places.specs.{mostPlaces, pixelKey, Gathered};
+ghost use Rattle.map_slots.specs.{mostPlaces, pixelKey, Gathered};
 ghost use Rattle.strips.specs.Asking.{Room};
 use super::few::map_few;
 use misses::Errors;
 use misses::settle::settle;
-use places::gather;
-use places::search_places;
+use map_slots::gather;
+use map_slots::search_places;
 
 // Maps a block of pixels that are gathered in the first `n` places of `keys` to the `k` shades of
 // `s`; the four lists before `index` are where it works. Requires that they are, some shades on the

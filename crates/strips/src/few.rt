@@ -5,13 +5,13 @@ ghost use lib.ListN.{length};
 ghost use Rattle.number.specs.{fill};
 ghost use Rattle.shades.specs.{Shades};
 ghost use Rattle.misses.specs.{missesOf};
-ghost use Rattle.places.specs.{mostPlaces, levelsOf};
+ghost use Rattle.map_slots.specs.{mostPlaces, levelsOf};
 ghost use Rattle.strips.specs.Asking.{Room, FewTaken, nearestAt};
 use misses::Errors;
 use misses::tell::add_told;
 use misses::tell::tell;
-use places::join;
-use places::search_places;
+use map_slots::join;
+use map_slots::search_places;
 
 // Maps pixels to the `k` shades of `s`: the colour of each is that with the key at its place in
 // `which`, one of the first `n`. The five lists before `index` are where it works. Requires some

@@ -13,7 +13,7 @@ use Rattle.shades.proofs.Nearest.{nearest-below, packed-number}
 use Rattle.search_all.specs.{RoomFor}
 use Rattle.misses.specs.{Errors, pixelAt, missesOf, Found, numberIn, numberOf}
 use Rattle.strips.specs.Meaning.{nearestTo}
-use Rattle.places.specs.{
+use Rattle.map_slots.specs.{
   fewPlaces,
   pixelKey,
   keyAt,

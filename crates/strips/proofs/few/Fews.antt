@@ -11,7 +11,7 @@ use Rattle.colour.specs.{Point, mostPixels}
 use Rattle.shades.specs.{nearestShade, Shades}
 use Rattle.shades.proofs.Nearest.{nearest-below}
 use Rattle.misses.specs.{Errors, missesOf, numberOf, cellOf, cellsOf, toldAt, toldOf, toldErrors, Tellable, Told}
-use Rattle.places.specs.{keyAt, placeOf, levelsAt, levelsOf, Gathered}
+use Rattle.map_slots.specs.{keyAt, placeOf, levelsAt, levelsOf, Gathered}
 use Rattle.strips.specs.Asking.{nearestAt, FewTaken}
 use Rattle.strips.proofs.block.Searches.{Searched, searched-inside}
 use Rattle.misses.proofs.tell.Tells.{told-at}

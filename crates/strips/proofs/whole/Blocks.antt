@@ -14,7 +14,7 @@ use Rattle.shades.proofs.Laying.{shade-within}
 use Rattle.search_all.specs.{PointsOnGrid}
 use Rattle.misses.specs.{Errors, pixelAt, missOn, missesOf, plusErrors}
 use Rattle.strips.specs.Meaning.{nearestTo}
-use Rattle.places.specs.{mostPlaces}
+use Rattle.map_slots.specs.{mostPlaces}
 use Rattle.strips.specs.Asking.{Room, SmallErrors}
 use Rattle.misses.proofs.Misses.{miss-most, misses-same, misses-parts}
 use Rattle.misses.proofs.Pixels.{pixels-on-grid, pixel-part}

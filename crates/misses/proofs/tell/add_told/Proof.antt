@@ -4,7 +4,7 @@ use mathlib.Core.Path.{refl}
 use native.Mathlib.Omega.{arith}
 use lib.ListN.{length}
 use denote.Ref.{now}
-use Rattle.places.specs.{placeOf}
+use Rattle.map_slots.specs.{placeOf}
 use Rattle.misses.specs.Telling.{toldOf}
 use Rattle.misses.proofs.settle.Settling.{
   Settled,

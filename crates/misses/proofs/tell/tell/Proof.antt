@@ -5,7 +5,7 @@ use native.Mathlib.Omega.{arith}
 use lib.ListN.{length, length-set}
 use denote.Ref.{now}
 use borrow.Author.Needs.{needs}
-use Rattle.places.specs.{levelsOf}
+use Rattle.map_slots.specs.{levelsOf}
 use Rattle.misses.specs.Finding.{numberOf}
 use Rattle.misses.proofs.tell.Tells.{Telling, telling-start, telling-long, telling-step}
 use Rattle.misses.proofs.tell.tell.Statement.{statement}

@@ -6,7 +6,7 @@ use denote.Ref.{now}
 use borrow.Author.Needs.{needs}
 use Rattle.colour.specs.{Bytes}
 use Rattle.strips.specs.Meaning.{pixelCount}
-use Rattle.places.specs.{pixelKey, Gathered}
+use Rattle.map_slots.specs.{pixelKey, Gathered}
 use Rattle.strips.specs.Asking.{Room}
 use Rattle.strips.proofs.block.Searches.{gathered-taken, gathered-index, gathered-errors}
 use Rattle.strips.proofs.block.map_block.Statement.{statement}

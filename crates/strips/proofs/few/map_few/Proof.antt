@@ -4,7 +4,7 @@ use native.Mathlib.Omega.{arith}
 use lib.ListN.{length}
 use denote.Ref.{now}
 use borrow.Author.Needs.{needs}
-use Rattle.places.specs.{keyAt, levelsAt, Gathered}
+use Rattle.map_slots.specs.{keyAt, levelsAt, Gathered}
 use Rattle.strips.proofs.block.Searches.{Searched, room-for, searched-all}
 use Rattle.strips.proofs.few.Fews.{
   NearestTold,

@@ -12,7 +12,7 @@ use borrow.Author.Tests.{eqb-true}
 use Rattle.number.proofs.Cases.{bool, cmp, lt, eq, gt}
 use Rattle.number.proofs.Searches.{below-or-last}
 use Rattle.colour.specs.{mostKey}
-use Rattle.places.specs.Gathering.{differ, pixelKey, keyAt, placeOf, Gathered, Takes, there, next}
+use Rattle.map_slots.specs.Gathering.{differ, pixelKey, keyAt, placeOf, Gathered, Takes, there, next}
 
 -- ---- one key more
 

@@ -5,10 +5,10 @@ use native.Mathlib.Omega.{arith}
 use lib.ListN.{length}
 use denote.Ref.{now}
 use borrow.Author.Needs.{needs}
-use Rattle.places.specs.Gathering.{Takes}
-use Rattle.places.proofs.Gathers.{Gathering, gathering-start, gathering-takes, gathering-step}
-use Rattle.places.proofs.runs.gather.Statement.{statement}
-use Rattle.places.proofs.runs.gather.Tie as tie
+use Rattle.map_slots.specs.Gathering.{Takes}
+use Rattle.map_slots.proofs.Gathers.{Gathering, gathering-start, gathering-takes, gathering-step}
+use Rattle.map_slots.proofs.runs.gather.Statement.{statement}
+use Rattle.map_slots.proofs.runs.gather.Tie as tie
 
 abbrev Inv-loop : tie.InvT-loop
 Inv-loop strip keys₀ which₀ n places₀ last₀ i₀ keys which places last i =

@@ -1,7 +1,7 @@
 // The places of a block joined: those with one key become one place, wherever they stand.
 ghost use Prim.Native.Nat.{_+_, _≤_, _<_};
 ghost use lib.ListN.{length};
-ghost use Rattle.places.specs.Gathering.{fewPlaces, keyAt, Gathered, Takes};
+ghost use Rattle.map_slots.specs.Gathering.{fewPlaces, keyAt, Gathered, Takes};
 
 // The place that `key` takes where `taken` places are taken: `place`, if it is one of them and the
 // key stands there, else the next. Requires the keys of the places taken.

@@ -6,7 +6,7 @@ ghost use lib.ListN.{length};
 ghost use Rattle.number.specs.{fill};
 ghost use Rattle.shades.specs.{Shades, packedNearest};
 ghost use Rattle.search_all.specs.{RoomFor};
-ghost use Rattle.places.specs.Gathering.{levelsAt};
+ghost use Rattle.map_slots.specs.Gathering.{levelsAt};
 use super::runs::lay_out;
 
 // The nearest of `k` shades of `s` to the colour of each of the first `n` keys, distance and number

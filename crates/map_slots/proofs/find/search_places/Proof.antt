@@ -4,10 +4,10 @@ use native.Mathlib.Omega.{arith}
 use denote.Ref.{now}
 use borrow.Author.Needs.{needs}
 use Rattle.search_all.proofs.Layouts.{LaidOut, fronts-done}
-use Rattle.places.specs.Gathering.{levelsAt}
-use Rattle.places.proofs.Finds.{keys-ready, keys-searched}
-use Rattle.places.proofs.find.search_places.Statement.{statement}
-use Rattle.places.proofs.find.search_places.Tie as tie
+use Rattle.map_slots.specs.Gathering.{levelsAt}
+use Rattle.map_slots.proofs.Finds.{keys-ready, keys-searched}
+use Rattle.map_slots.proofs.find.search_places.Statement.{statement}
+use Rattle.map_slots.proofs.find.search_places.Tie as tie
 
 -- where the function begins
 abbrev st : tie.After-lay-out → tie.Start

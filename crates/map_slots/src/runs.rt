@@ -5,7 +5,7 @@ ghost use Prim.Native.Nat.{_/_, _≤_};
 ghost use lib.ListN.{length};
 ghost use Rattle.number.specs.{fill};
 ghost use Rattle.search_all.specs.{RoomFor};
-ghost use Rattle.places.specs.Gathering.{mostPlaces, differ, pixelKey, levelsAt, Gathered};
+ghost use Rattle.map_slots.specs.Gathering.{mostPlaces, differ, pixelKey, levelsAt, Gathered};
 
 // 1 where two keys differ, 0 where they are equal.
 fn differs(a: u32, b: u32) -> usize
