@@ -12,7 +12,7 @@ use Rattle.refusal.specs.{done}
 use Rattle.colour.specs.{badStrip, mostPixels}
 use Rattle.colour.proofs.Strips.{whole-exactly}
 use Rattle.palette.specs.{badPalette}
-use Rattle.misses.specs.{plusErrors}
+use Rattle.map_errors.specs.{plusErrors}
 use Rattle.strips.specs.{pixelCount, entryFor, errorOf, errorsOf}
 use Rattle.strips.proofs.Totals.{entry-first, entry-second, error-joined, errors-joined}
 use Rattle.mapping.specs.Outcomes.{MapOutcome, mapStrip}

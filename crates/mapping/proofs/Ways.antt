@@ -16,7 +16,7 @@ use Rattle.colour.proofs.Strips.{whole-exactly}
 use Rattle.shades.proofs.Checks.{bad-coordinates-exactly}
 use Rattle.palette.specs.{badPalette}
 use Rattle.figures.specs.{Mean, Means, meanOf, meansOf}
-use Rattle.misses.specs.{Errors}
+use Rattle.map_errors.specs.{Errors}
 use Rattle.strips.specs.{Mappable, SmallErrors, pixelCount, entryFor, errorsOf}
 use Rattle.strips.proofs.Totals.{channels-add, errors-most}
 use Rattle.mapping.specs.Outcomes.{

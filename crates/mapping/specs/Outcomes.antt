@@ -10,7 +10,7 @@ use Rattle.refusal.specs.{Row, row, outcomeOf, done, BAD-STRIP, BAD-PALETTE, MA
 use Rattle.colour.specs.{badStrip, mostPixels}
 use Rattle.palette.specs.{badPalette}
 use Rattle.figures.specs.{meanOf, meansOf}
-use Rattle.misses.specs.{Errors}
+use Rattle.map_errors.specs.{Errors}
 use Rattle.strips.specs.{pixelCount, entryFor, errorsOf, errorOf}
 use Rattle.mapping.specs.declared.Mapped.{Mapped}
 

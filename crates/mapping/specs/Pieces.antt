@@ -5,7 +5,7 @@ use mathlib.Core.List.{List, [], _∷_, _++_}
 use mathlib.Core.Path.{_≡_}
 use Rattle.refusal.specs.{done}
 use Rattle.colour.specs.{badStrip}
-use Rattle.misses.specs.{Errors, plusErrors}
+use Rattle.map_errors.specs.{Errors, plusErrors}
 use Rattle.strips.specs.{pixelCount}
 use Rattle.mapping.specs.Outcomes.{MapOutcome, mapStrip}
 

@@ -9,7 +9,7 @@ ghost use Rattle.mapping.specs.Outcomes.{refusedMap, answerOf, mapStrip,
 use super::Mapped;
 use figures::Mean;
 use figures::Means;
-use misses::Errors;
+use map_errors::Errors;
 use refusal::BAD_PALETTE;
 use refusal::BAD_STRIP;
 use refusal::DONE;

@@ -9,7 +9,7 @@
 // Read next: specs/Lib.antt (what the words mean), proofs/Promises.antt (what is shown).
 use figures::Mean;
 use figures::Means;
-use misses::Errors;
+use map_errors::Errors;
 
 mod call;
 

@@ -6,7 +6,7 @@ use native.Mathlib.Omega.{arith}
 use Rattle.shades.specs.{toShade}
 use Rattle.shades.proofs.Nearest.{nearest-below, nearest-least, nearest-lowest}
 use Rattle.shades.proofs.Promises.{nearest-only}
-use Rattle.misses.specs.{pixelAt}
+use Rattle.map_errors.specs.{pixelAt}
 use Rattle.strips.specs.Meaning.{entryCount, entryFor, NearestEntry}
 
 module _ (p s : List ℕ) (i : ℕ) (some : 0 < entryCount p) where

@@ -4,7 +4,7 @@ use mathlib.Core.List.{List, _++_}
 use mathlib.Core.Path.{_≡_}
 use lib.ListN.{length}
 use Rattle.colour.specs.{Bytes, mostLevel}
-use Rattle.misses.specs.{plusErrors}
+use Rattle.map_errors.specs.{plusErrors}
 use Rattle.strips.specs.Meaning.{entryCount, entryFor, NearestEntry, errorsOf, errorOf}
 use Rattle.strips.proofs.Nears as nears
 use Rattle.strips.proofs.Totals as totals

@@ -9,10 +9,10 @@ use Rattle.number.proofs.Sums.{sum-add, sum-eq, sum-bound, sum-parts}
 use Rattle.colour.specs.{Point, Bytes, distance, mostLevel}
 use Rattle.colour.proofs.Distances.{distance-within}
 use Rattle.shades.specs.{nearestShade}
-use Rattle.misses.specs.{pixelAt, missOn, plusErrors}
+use Rattle.map_errors.specs.{pixelAt, missOn, plusErrors}
 use Rattle.strips.specs.Meaning.{entryCount, entryAt, entryFor, errorsOf, errorOf}
-use Rattle.misses.proofs.Misses.{miss-most, misses-same, misses-parts}
-use Rattle.misses.proofs.Pixels.{pixel-within, pixel-first, pixel-second}
+use Rattle.map_errors.proofs.Misses.{miss-most, misses-same, misses-parts}
+use Rattle.map_errors.proofs.Pixels.{pixel-within, pixel-first, pixel-second}
 
 -- the channels together are the error
 pub channels-add : (palette strip : List ℕ) (n : ℕ)

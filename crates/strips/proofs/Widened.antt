@@ -11,10 +11,10 @@ use Rattle.number.proofs.Searches.{first-same}
 use Rattle.colour.specs.{Point, Bytes, distance, mostCoordinate}
 use Rattle.shades.specs.{mostCoordinates, shadeAt, toShade, nearestShade, Shades}
 use Rattle.shades.proofs.Nearest.{nearest-below}
-use Rattle.misses.specs.{Errors, pixelAt, missesOf}
+use Rattle.map_errors.specs.{Errors, pixelAt, missesOf}
 use Rattle.strips.specs.Meaning.{entryCount, nearestTo, entryFor, errorsOf}
 use Rattle.strips.specs.Asking.{Mappable}
-use Rattle.misses.proofs.Misses.{misses-same}
+use Rattle.map_errors.proofs.Misses.{misses-same}
 
 -- ---- two lists whose first k shades agree
 

@@ -8,7 +8,7 @@ use Rattle.shades.specs.{mostShades, nearestShade}
 use Rattle.search_all.specs.{RoomFor}
 use Rattle.strips.specs.Meaning.{entryCount}
 use Rattle.map_slots.specs.{mostPlaces, fewPlaces, placeOf}
-use Rattle.misses.specs.{Errors}
+use Rattle.map_errors.specs.{Errors}
 
 -- the block that begins at pixel i of n ends at e: it has some pixels, and no more than a block may have
 pub record BlockEnd (i n e : ℕ) : Type 0 where

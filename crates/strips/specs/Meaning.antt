@@ -6,7 +6,7 @@ use lib.ListN.{length}
 use Rattle.number.specs.{sum}
 use Rattle.colour.specs.{Point, distance}
 use Rattle.shades.specs.{shadeAt, nearestShade}
-use Rattle.misses.specs.{Errors, pixelAt, missesOf}
+use Rattle.map_errors.specs.{Errors, pixelAt, missesOf}
 
 -- a strip's pixel count
 abbrev pub pixelCount : List ℕ → ℕ

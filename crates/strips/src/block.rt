@@ -4,13 +4,13 @@ ghost use Prim.Native.Nat.{_*_, _<_, _≤_};
 ghost use lib.ListN.{length};
 ghost use Rattle.number.specs.{fill};
 ghost use Rattle.shades.specs.{Shades};
-ghost use Rattle.misses.specs.{pixelAt, missesOf};
+ghost use Rattle.map_errors.specs.{pixelAt, missesOf};
 ghost use Rattle.strips.specs.Meaning.{nearestTo};
 ghost use Rattle.map_slots.specs.{mostPlaces, pixelKey, Gathered};
 ghost use Rattle.strips.specs.Asking.{Room};
 use super::few::map_few;
-use misses::Errors;
-use misses::settle::settle;
+use map_errors::Errors;
+use map_errors::settle::settle;
 use map_slots::gather;
 use map_slots::search_places;
 

@@ -4,12 +4,12 @@ ghost use Prim.Native.Nat.{_<_, _≤_};
 ghost use lib.ListN.{length};
 ghost use Rattle.number.specs.{fill};
 ghost use Rattle.shades.specs.{Shades};
-ghost use Rattle.misses.specs.{missesOf};
+ghost use Rattle.map_errors.specs.{missesOf};
 ghost use Rattle.map_slots.specs.{mostPlaces, levelsOf};
 ghost use Rattle.strips.specs.Asking.{Room, FewTaken, nearestAt};
-use misses::Errors;
-use misses::tell::add_told;
-use misses::tell::tell;
+use map_errors::Errors;
+use map_errors::tell::add_told;
+use map_errors::tell::tell;
 use map_slots::join;
 use map_slots::search_places;
 

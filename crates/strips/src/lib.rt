@@ -5,7 +5,7 @@
 //   map_pixels   maps a strip against a palette of bytes     whole.rt
 // Crate `places` gathers the pixels of a block in places, and searches these as the plain round does,
 // on levels in place of sixteenths. Where the places are few (few.rt) those with one colour are
-// joined, and crate `misses` tells numbers and errors place by place; where they are many (block.rt)
+// joined, and crate `map_errors` tells numbers and errors place by place; where they are many (block.rt)
 // it tells them pixel by pixel.
 //
 // Read next: specs/Lib.antt (what the words mean), proofs/Promises.antt (what is shown).

@@ -5,11 +5,11 @@ ghost use lib.ListN.{length, getD};
 ghost use Rattle.number.specs.{fill};
 ghost use Rattle.colour.specs.{mostLevel, mostPixels};
 ghost use Rattle.shades.specs.{Shades};
-ghost use Rattle.misses.specs.{pixelAt, missesOf, plusErrors};
+ghost use Rattle.map_errors.specs.{pixelAt, missesOf, plusErrors};
 ghost use Rattle.strips.specs.Meaning.{nearestTo, entryFor, errorsOf};
 ghost use Rattle.strips.specs.Asking.{BlockEnd, Mappable, SmallErrors};
 use super::block::map_block;
-use misses::Errors;
+use map_errors::Errors;
 
 // The errors of two blocks together, which are required to be as small as a strip's.
 fn plus(a: Errors, b: Errors) -> Errors

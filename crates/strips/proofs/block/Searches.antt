@@ -11,7 +11,7 @@ use Rattle.colour.proofs.Promises.{levels-of-key}
 use Rattle.shades.specs.{mostShades, shadeAt, nearestShade, packedNearest, Shades}
 use Rattle.shades.proofs.Nearest.{nearest-below, packed-number}
 use Rattle.search_all.specs.{RoomFor}
-use Rattle.misses.specs.{Errors, pixelAt, missesOf, Found, numberIn, numberOf}
+use Rattle.map_errors.specs.{Errors, pixelAt, missesOf, Found, numberIn, numberOf}
 use Rattle.strips.specs.Meaning.{nearestTo}
 use Rattle.map_slots.specs.{
   fewPlaces,
@@ -23,8 +23,8 @@ use Rattle.map_slots.specs.{
   Gathered,
 }
 use Rattle.strips.specs.Asking.{FewTaken, nearestAt}
-use Rattle.misses.proofs.Misses.{misses-same}
-use Rattle.misses.proofs.Pixels.{pixel-within}
+use Rattle.map_errors.proofs.Misses.{misses-same}
+use Rattle.map_errors.proofs.Pixels.{pixel-within}
 
 -- the number of the nearest of k shades is found for each of the points c 0 to c (n - 1), at its place
 pub record Searched (c : ℕ → Point) (s : List ℕ) (k n : ℕ) (which best : List ℕ) : Type 0 where

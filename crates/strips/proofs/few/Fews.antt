@@ -10,11 +10,11 @@ use Rattle.number.proofs.Sums.{sum-eq}
 use Rattle.colour.specs.{Point, mostPixels}
 use Rattle.shades.specs.{nearestShade, Shades}
 use Rattle.shades.proofs.Nearest.{nearest-below}
-use Rattle.misses.specs.{Errors, missesOf, numberOf, cellOf, cellsOf, toldAt, toldOf, toldErrors, Tellable, Told}
+use Rattle.map_errors.specs.{Errors, missesOf, numberOf, cellOf, cellsOf, toldAt, toldOf, toldErrors, Tellable, Told}
 use Rattle.map_slots.specs.{keyAt, placeOf, levelsAt, levelsOf, Gathered}
 use Rattle.strips.specs.Asking.{nearestAt, FewTaken}
 use Rattle.strips.proofs.block.Searches.{Searched, searched-inside}
-use Rattle.misses.proofs.tell.Tells.{told-at}
+use Rattle.map_errors.proofs.tell.Tells.{told-at}
 
 -- equal keys have the same levels
 pub levels-same : (keys d : List ℕ) (i q : ℕ) → keyAt keys q ≡ keyAt d i → levelsAt keys q ≡ levelsAt d i

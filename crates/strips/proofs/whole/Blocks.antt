@@ -12,12 +12,12 @@ use Rattle.colour.specs.{Point, Bytes, mostCoordinate, mostPixels}
 use Rattle.shades.specs.{shadeAt, nearestShade, OnGrid, Shades}
 use Rattle.shades.proofs.Laying.{shade-within}
 use Rattle.search_all.specs.{PointsOnGrid}
-use Rattle.misses.specs.{Errors, pixelAt, missOn, missesOf, plusErrors}
+use Rattle.map_errors.specs.{Errors, pixelAt, missOn, missesOf, plusErrors}
 use Rattle.strips.specs.Meaning.{nearestTo}
 use Rattle.map_slots.specs.{mostPlaces}
 use Rattle.strips.specs.Asking.{Room, SmallErrors}
-use Rattle.misses.proofs.Misses.{miss-most, misses-same, misses-parts}
-use Rattle.misses.proofs.Pixels.{pixels-on-grid, pixel-part}
+use Rattle.map_errors.proofs.Misses.{miss-most, misses-same, misses-parts}
+use Rattle.map_errors.proofs.Pixels.{pixels-on-grid, pixel-part}
 
 -- the pixels before place i are mapped to the k shades of s, and their errors are added up
 pub record Mapped (strip s : List ℕ) (k : ℕ) (before index : List ℕ) (errors : Errors) (i : ℕ) : Type 0 where

@@ -4,7 +4,7 @@ use lib.ListN.{length}
 use denote.Ref.{now}
 use borrow.Author.Needs.{needs}
 use Rattle.colour.specs.{Bytes}
-use Rattle.misses.specs.{pixelAt}
+use Rattle.map_errors.specs.{pixelAt}
 use Rattle.strips.proofs.block.Searches.{
   Searched,
   levels-of-pixel,

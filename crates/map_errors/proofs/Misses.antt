@@ -8,7 +8,7 @@ use Rattle.number.proofs.Sums.{sum-eq, sum-bound, sum-parts}
 use Rattle.colour.specs.{Point, Within}
 use Rattle.shades.specs.{shadeAt, axis}
 use Rattle.shades.proofs.Laying.{axis-within}
-use Rattle.misses.specs.Missing.{missOn, missesOf, plusErrors}
+use Rattle.map_errors.specs.Missing.{missOn, missesOf, plusErrors}
 
 -- ---- place by place
 

@@ -5,11 +5,11 @@ use lib.ListN.{length}
 use denote.Ref.{now}
 use Rattle.colour.specs.{mostCoordinate}
 use Rattle.shades.proofs.Laying.{shade-within}
-use Rattle.misses.specs.Missing.{pixelAt}
-use Rattle.misses.specs.Finding.{numberOf}
-use Rattle.misses.proofs.Misses.{missAt, misses-low}
-use Rattle.misses.proofs.Pixels.{pixels-on-grid}
-use Rattle.misses.proofs.settle.Settling.{
+use Rattle.map_errors.specs.Missing.{pixelAt}
+use Rattle.map_errors.specs.Finding.{numberOf}
+use Rattle.map_errors.proofs.Misses.{missAt, misses-low}
+use Rattle.map_errors.proofs.Pixels.{pixels-on-grid}
+use Rattle.map_errors.proofs.settle.Settling.{
   Settled,
   settled-start,
   settled-long,
@@ -17,8 +17,8 @@ use Rattle.misses.proofs.settle.Settling.{
   settled-step,
   settled-done,
 }
-use Rattle.misses.proofs.settle.settle.Statement.{statement}
-use Rattle.misses.proofs.settle.settle.Tie as tie
+use Rattle.map_errors.proofs.settle.settle.Statement.{statement}
+use Rattle.map_errors.proofs.settle.settle.Tie as tie
 
 abbrev Inv-loop : tie.InvT-loop
 Inv-loop strip which s best index₀ n red₀ green₀ blue₀ i₀ index red green blue i =

@@ -7,7 +7,7 @@ use lib.ListN.{length, set}
 use Rattle.number.specs.{fill, sum}
 use Rattle.number.proofs.Fills.{fill-length, fill-more}
 use Rattle.number.proofs.Sums.{sum-bound, sum-more}
-use Rattle.misses.specs.declared.Errors.{Errors}
+use Rattle.map_errors.specs.declared.Errors.{Errors}
 
 -- the first i numbers of f are in front of `before`, and the first i of x, y and z are added up
 pub record Settled (f x y z : ℕ → ℕ) (before index : List ℕ) (red green blue i : ℕ) : Type 0 where

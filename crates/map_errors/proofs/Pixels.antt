@@ -9,7 +9,7 @@ use borrow.Rule.Slice.PartMut.{midOf}
 use Rattle.number.proofs.Parts.{part-at}
 use Rattle.colour.specs.{Within, Bytes, mostLevel}
 use Rattle.search_all.specs.{PointsOnGrid}
-use Rattle.misses.specs.Missing.{pixelAt}
+use Rattle.map_errors.specs.Missing.{pixelAt}
 
 -- no level of a pixel is above that of a byte
 pub pixel-within : (strip : List ℕ) (i : ℕ) → Bytes strip → Within mostLevel (pixelAt strip i)

@@ -4,7 +4,7 @@ use mathlib.Core.List.{List}
 use Rattle.number.specs.{sum, sq}
 use Rattle.colour.specs.{Point}
 use Rattle.shades.specs.{shadeAt, axis}
-use Rattle.misses.specs.declared.Errors.{Errors}
+use Rattle.map_errors.specs.declared.Errors.{Errors}
 
 -- pixel i of a strip, in whole levels
 abbrev pub pixelAt : List ℕ → ℕ → Point

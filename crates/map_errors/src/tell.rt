@@ -5,8 +5,8 @@ ghost use Prim.Native.Nat.{_*_};
 ghost use lib.ListN.{length};
 ghost use Rattle.number.specs.{fill};
 ghost use Rattle.map_slots.specs.{levelsOf};
-ghost use Rattle.misses.specs.Finding.{numberOf};
-ghost use Rattle.misses.specs.Telling.{cellsOf, toldOf, toldErrors, Tellable, Told};
+ghost use Rattle.map_errors.specs.Finding.{numberOf};
+ghost use Rattle.map_errors.specs.Telling.{cellsOf, toldOf, toldErrors, Tellable, Told};
 use super::Errors;
 
 // Tells of `n` places, in the front of `told`, the rest of which stays: how far the colour that a

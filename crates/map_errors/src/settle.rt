@@ -5,8 +5,8 @@ ghost use Prim.Native.Nat.{_*_, _≤_};
 ghost use lib.ListN.{length};
 ghost use Rattle.number.specs.{fill, sq};
 ghost use Rattle.colour.specs.{mostCoordinate};
-ghost use Rattle.misses.specs.Missing.{pixelAt, missesOf};
-ghost use Rattle.misses.specs.Finding.{Found, numberOf};
+ghost use Rattle.map_errors.specs.Missing.{pixelAt, missesOf};
+ghost use Rattle.map_errors.specs.Finding.{Found, numberOf};
 use super::Errors;
 
 // The squared difference of a level and a coordinate, which is required to be that of a shade.
