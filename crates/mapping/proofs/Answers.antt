@@ -14,9 +14,9 @@ use Rattle.shades.proofs.Checks.{bad-coordinates-exactly}
 use Rattle.figures.specs.{mostExact, figure, meanOf, meansOf, meanValues, NearestTo, zeroFigure}
 use Rattle.figures.proofs.Promises as figures
 use Rattle.figures.proofs.Nearest.{power-le}
-use Rattle.strips.specs.{pixelCount, NearestEntry, errorOf, errorsOf}
-use Rattle.strips.proofs.Promises as strips
-use Rattle.strips.proofs.Totals.{errors-most}
+use Rattle.map_blocks.specs.{pixelCount, NearestEntry, errorOf, errorsOf}
+use Rattle.map_blocks.proofs.Promises as strips
+use Rattle.map_blocks.proofs.Totals.{errors-most}
 use Rattle.mapping.specs.Outcomes.{MapOutcome, mapRows, madeMap, keptMap, mapStrip, OfEachError}
 use Rattle.mapping.specs.declared.Mapped.{Mapped}
 use Rattle.mapping.proofs.Meaning.{map-refuses, index-at}

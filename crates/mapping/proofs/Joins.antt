@@ -13,8 +13,8 @@ use Rattle.colour.specs.{badStrip, mostPixels}
 use Rattle.colour.proofs.Strips.{whole-exactly}
 use Rattle.palette.specs.{badPalette}
 use Rattle.map_errors.specs.{plusErrors}
-use Rattle.strips.specs.{pixelCount, entryFor, errorOf, errorsOf}
-use Rattle.strips.proofs.Totals.{entry-first, entry-second, error-joined, errors-joined}
+use Rattle.map_blocks.specs.{pixelCount, entryFor, errorOf, errorsOf}
+use Rattle.map_blocks.proofs.Totals.{entry-first, entry-second, error-joined, errors-joined}
 use Rattle.mapping.specs.Outcomes.{MapOutcome, mapStrip}
 use Rattle.mapping.specs.Pieces.{joined, EachWhole, Pieced, leftBy, inStrips, EachAccepted}
 use Rattle.mapping.proofs.Meaning.{

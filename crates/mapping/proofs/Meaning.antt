@@ -12,7 +12,7 @@ use Rattle.number.proofs.Parts.{from-at, from-before, from-behind, from-length}
 use Rattle.refusal.specs.{done, Refuses}
 use Rattle.refusal.proofs.Outcomes.{refuses}
 use Rattle.colour.specs.{mostPixels}
-use Rattle.strips.specs.{pixelCount, entryFor}
+use Rattle.map_blocks.specs.{pixelCount, entryFor}
 use Rattle.mapping.specs.Outcomes.{manyPixels, shortIndex, mapRows, MapOutcome, madeMap, keptMap, mapStrip}
 
 -- ---- the tests

@@ -12,7 +12,7 @@ use lib.Ieee.Exact.{HasValue}
 use Rattle.refusal.specs.{Refusal, numberOf, done, Given, NoneHolds}
 use Rattle.colour.specs.{Bytes, mostPixels}
 use Rattle.figures.specs.{figure, meanValues, NearestTo, zeroFigure}
-use Rattle.strips.specs.{pixelCount, NearestEntry, errorOf, errorsOf}
+use Rattle.map_blocks.specs.{pixelCount, NearestEntry, errorOf, errorsOf}
 use Rattle.mapping.specs.Outcomes.{
   manyPixels,
   shortIndex,

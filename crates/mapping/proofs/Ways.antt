@@ -17,8 +17,8 @@ use Rattle.shades.proofs.Checks.{bad-coordinates-exactly}
 use Rattle.palette.specs.{badPalette}
 use Rattle.figures.specs.{Mean, Means, meanOf, meansOf}
 use Rattle.map_errors.specs.{Errors}
-use Rattle.strips.specs.{Mappable, SmallErrors, pixelCount, entryFor, errorsOf}
-use Rattle.strips.proofs.Totals.{channels-add, errors-most}
+use Rattle.map_blocks.specs.{Mappable, SmallErrors, pixelCount, entryFor, errorsOf}
+use Rattle.map_blocks.proofs.Totals.{channels-add, errors-most}
 use Rattle.mapping.specs.Outcomes.{
   answerWith,
   answerOf,

@@ -11,7 +11,7 @@ use Rattle.colour.specs.{badStrip, mostPixels}
 use Rattle.palette.specs.{badPalette}
 use Rattle.figures.specs.{meanOf, meansOf}
 use Rattle.map_errors.specs.{Errors}
-use Rattle.strips.specs.{pixelCount, entryFor, errorsOf, errorOf}
+use Rattle.map_blocks.specs.{pixelCount, entryFor, errorsOf, errorOf}
 use Rattle.mapping.specs.declared.Mapped.{Mapped}
 
 -- MANY PIXELS: mapping over 16,777,216 pixels

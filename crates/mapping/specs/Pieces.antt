@@ -6,7 +6,7 @@ use mathlib.Core.Path.{_≡_}
 use Rattle.refusal.specs.{done}
 use Rattle.colour.specs.{badStrip}
 use Rattle.map_errors.specs.{Errors, plusErrors}
-use Rattle.strips.specs.{pixelCount}
+use Rattle.map_blocks.specs.{pixelCount}
 use Rattle.mapping.specs.Outcomes.{MapOutcome, mapStrip}
 
 -- the strips joined, from first to last

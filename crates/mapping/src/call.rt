@@ -4,7 +4,7 @@ ghost use Prim.Native.Nat.{_+_, _≤_};
 ghost use lib.ListN.{length};
 ghost use Rattle.number.specs.{fillFrom};
 ghost use Rattle.colour.specs.{mostPixels};
-ghost use Rattle.strips.specs.{entryFor, errorsOf, Mappable, SmallErrors};
+ghost use Rattle.map_blocks.specs.{entryFor, errorsOf, Mappable, SmallErrors};
 ghost use Rattle.mapping.specs.Outcomes.{refusedMap, answerOf, mapStrip, MapMeets};
 use super::Mapped;
 use figures::Mean;
@@ -73,7 +73,7 @@ fn map_stretch(
     ensures errors { λ r. ⌜ r ≡ errorsOf (now (palette .entry)) (now (strip .entry)) pixels ⌝ }
 {
     let end = first + pixels;
-    strips::map_pixels(strip, palette, &mut index[first..end])
+    map_blocks::map_pixels(strip, palette, &mut index[first..end])
 }
 
 // Maps a strip into its own stretch of the index picture: from place `first` on, one byte a pixel,

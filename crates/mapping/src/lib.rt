@@ -4,7 +4,7 @@
 //   map_strip   maps a strip into the stretch of the index picture that begins at a place. call.rt
 //               Refuses 1 BAD STRIP, 10 BAD PALETTE, 11 MANY PIXELS, 7 SHORT ROOM, in this order.
 // A refusal answers its number, zeros and "no pixels", and writes nothing. The pixels are mapped by
-// the crate strips, the figures made by the crate figures.
+// the crate map_blocks, the figures made by the crate figures.
 //
 // Read next: specs/Lib.antt (what the words mean), proofs/Promises.antt (what is shown).
 use figures::Mean;

@@ -5,7 +5,7 @@ use native.Mathlib.Omega.{arith}
 use denote.Ref.{now}
 use borrow.Author.Needs.{needs}
 use borrow.Rule.Slice.PartMut.{mid-len}
-use Rattle.strips.specs.{entryFor, errorsOf}
+use Rattle.map_blocks.specs.{entryFor, errorsOf}
 use Rattle.mapping.proofs.Ways.{stretch-mapped}
 use Rattle.mapping.proofs.call.map_stretch.Statement.{statement}
 use Rattle.mapping.proofs.call.map_stretch.Tie as tie

@@ -9,7 +9,7 @@ use denote.Ref.{now}
 use Rattle.refusal.specs.{BAD-STRIP, BAD-PALETTE, MANY-PIXELS, SHORT-ROOM}
 use Rattle.colour.specs.{badStrip, mostPixels}
 use Rattle.palette.specs.{badPalette}
-use Rattle.strips.specs.{pixelCount}
+use Rattle.map_blocks.specs.{pixelCount}
 use Rattle.mapping.proofs.Ways.{mappable, small-errors, short-room, map-meets-refused, map-meets-made}
 use borrow.Author.Needs.{needs}
 use Rattle.mapping.proofs.call.map_strip.Statement.{statement}

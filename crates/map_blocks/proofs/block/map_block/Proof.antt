@@ -1,0 +1,148 @@
+-- `map_block` meets its contract: the pixels are gathered, and mapped by their places.
+use mathlib.Core.Path.{_≡_}
+use native.Mathlib.Omega.{arith}
+use lib.ListN.{length}
+use denote.Ref.{now}
+use borrow.Author.Needs.{needs}
+use Rattle.colour.specs.{Bytes}
+use Rattle.map_blocks.specs.Meaning.{pixelCount}
+use Rattle.map_slots.specs.{pixelKey, Gathered}
+use Rattle.map_blocks.specs.Asking.{Room}
+use Rattle.map_blocks.proofs.block.Searches.{gathered-taken, gathered-index, gathered-errors}
+use Rattle.map_blocks.proofs.block.map_block.Statement.{statement}
+use Rattle.map_blocks.proofs.block.map_block.Tie as tie
+
+-- where the function begins
+abbrev st : tie.After-gather → tie.Start
+st c = c .before .before .before .before .before .before .before .before .before .before .before .before
+
+-- where the pixels are gathered, before their places are counted
+abbrev here : tie.After-slice-known9 → tie.After-gather
+here c = c .before .before .before .before
+
+-- where few places are mapped
+abbrev few : tie.After-slice-known15 → tie.After-map-few
+few c = c .before .before .before .before .before .before .before .before .before .before .before .before
+
+-- the strip is of bytes
+bytes : (c : tie.After-gather) → Bytes (now (st c .args .strip))
+bytes c i =
+    let known = c .before .before .before .before .before .before .before .before .before .before .before in
+    omega (arith, known .shared-slice-known .given i)
+
+-- the pixels are gathered, one for each place of the index
+gathered : (c : tie.After-gather)
+    → Gathered (pixelKey (now (st c .args .strip))) (length (now (st c .args .index))) (c .gather .last .1 .0)
+    (c .gather .last .1 .1 .0) (c .gather .result)
+gathered c =
+    let n : pixelCount (now (st c .args .strip)) ≡ length (now (st c .args .index)) = omega (arith, st c .pre .0) in
+    rw n at (c .gather .ensures)
+
+-- there is room to work
+room : (c : tie.After-gather)
+    → let a = st c .args in
+    Room (length (now (a .index))) (c .gather .last .1 .0) (c .gather .last .1 .1 .0) (now (a .reds))
+    (now (a .greens)) (now (a .blues)) (now (a .best))
+room c =
+    let p = st c .pre .4 in
+    record {
+      key = omega (arith, p .key, c .gather .kept .1 .0);
+      place = omega (arith, p .place, c .gather .kept .1 .1 .0);
+      point = p .point;
+      number = p .number;
+    }
+
+gather-requires : tie.Need-gather-requires
+gather-requires c κs = search needs
+
+map-few-requires : tie.Need-map-few-requires
+map-few-requires c κs =
+    let taken = c .before .before .before .before .before .before .before in
+    let g = here (taken .before) in
+    let p = st g .pre in
+    (p .1, p .2, p .3, gathered-taken (gathered g) (omega (arith, taken .if1 .taken)), room g)
+
+map-many-requires : tie.Need-map-many-requires
+map-many-requires c κs =
+    let g = here (c .before .before .before .before .before .before .before .before) in
+    let p = st g .pre in
+    (p .0, p .1, p .2, p .3, room g, gathered g)
+
+same-length : tie.Need-same-length
+same-length c = search needs
+
+same-length-2 : tie.Need-same-length-2
+same-length-2 c = search needs
+
+same-length-3 : tie.Need-same-length-3
+same-length-3 c = search needs
+
+same-length-4 : tie.Need-same-length-4
+same-length-4 c = search needs
+
+same-length-5 : tie.Need-same-length-5
+same-length-5 c = search needs
+
+same-length-6 : tie.Need-same-length-6
+same-length-6 c = search needs
+
+same-length-7 : tie.Need-same-length-7
+same-length-7 c = search needs
+
+returns : tie.Need-returns
+returns c =
+    let m = few c in
+    let g = here (m .before .before .before .before .before .before .before .before .before) in
+    let a = st g .args in
+    let e = m .map-few .ensures in (
+      gathered-index (now (a .strip)) (bytes g) (gathered g) (now (a .s)) (a .k) (now (a .index)) (e .0),
+      gathered-errors (now (a .strip)) (bytes g) (gathered g) (now (a .s)) (a .k) (e .1),
+    )
+
+same-length-8 : tie.Need-same-length-8
+same-length-8 c = search needs
+
+same-length-9 : tie.Need-same-length-9
+same-length-9 c = search needs
+
+same-length-10 : tie.Need-same-length-10
+same-length-10 c = search needs
+
+same-length-11 : tie.Need-same-length-11
+same-length-11 c = search needs
+
+same-length-12 : tie.Need-same-length-12
+same-length-12 c = search needs
+
+same-length-13 : tie.Need-same-length-13
+same-length-13 c = search needs
+
+same-length-14 : tie.Need-same-length-14
+same-length-14 c = search needs
+
+returns-2 : tie.Need-returns-2
+returns-2 c = c .before .before .before .before .before .before .before .before .before .before .map-many .ensures
+
+pub map-block-spec : {M : Type 1} → statement M
+map-block-spec =
+    tie.close
+    (tie.spec
+    gather-requires
+    map-few-requires
+    map-many-requires
+    same-length
+    same-length-2
+    same-length-3
+    same-length-4
+    same-length-5
+    same-length-6
+    same-length-7
+    returns
+    same-length-8
+    same-length-9
+    same-length-10
+    same-length-11
+    same-length-12
+    same-length-13
+    same-length-14
+    returns-2)

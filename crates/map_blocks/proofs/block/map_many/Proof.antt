@@ -1,0 +1,90 @@
+-- `map_many` meets its contract: the places are searched, and the pixels settled.
+use native.Mathlib.Omega.{arith}
+use lib.ListN.{length}
+use denote.Ref.{now}
+use borrow.Author.Needs.{needs}
+use Rattle.colour.specs.{Bytes}
+use Rattle.map_errors.specs.{pixelAt}
+use Rattle.map_blocks.proofs.block.Searches.{
+  Searched,
+  levels-of-pixel,
+  room-for,
+  searched-all,
+  searched-found,
+  searched-index,
+  searched-errors,
+}
+use Rattle.map_blocks.proofs.block.map_many.Statement.{statement}
+use Rattle.map_blocks.proofs.block.map_many.Tie as tie
+
+-- where the function begins
+abbrev st : tie.After-search-places-arg4 → tie.Start
+st c = c .before .before .before .before .before .before .before .before .before .before .before .before .before
+
+-- where the places are searched
+abbrev found : tie.After-settle-arg2 → tie.After-search-places
+found c = c .before .before .before .before .before .before .before .before .before .before
+
+-- the strip is of bytes
+bytes : (c : tie.After-search-places-arg4) → Bytes (now (st c .args .strip))
+bytes c i =
+    let known = c .before .before .before .before .before .before .before .before .before .before .before .before in
+    omega (arith, known .shared-slice-known .given i)
+
+-- the places are searched
+all : (c : tie.After-search-places)
+    → let a = st (c .before) .args in
+    Searched (pixelAt (now (a .strip))) (now (a .s)) (a .k) (length (now (a .index))) (now (a .which))
+    (c .search-places .last .1 .1 .1 .1 .1 .1 .1 .0)
+all c =
+    let a = st (c .before) .args in
+    let p = st (c .before) .pre in
+    searched-all (p .1) (p .2) (p .5)
+    (λ i q l. levels-of-pixel (now (a .strip)) (now (a .keys)) i q (bytes (c .before))) (now (a .best))
+    (omega (arith, p .4 .number, p .5 .few)) (c .search-places .ensures)
+
+search-places-requires : tie.Need-search-places-requires
+search-places-requires c κs =
+    let p = st c .pre in
+    let few = p .5 .few in
+    (p .1, p .2, omega (arith, few, p .4 .key), omega (arith, few, p .4 .number), room-for few (p .4 .point))
+
+settle-requires : tie.Need-settle-requires
+settle-requires c κs =
+    let start = st (found c .before) in
+    let p = start .pre in
+    searched-found (now (start .args .strip)) (all (found c)) (p .1) (p .2) (p .0) (p .4 .place) (omega (arith, p .3))
+
+same-length : tie.Need-same-length
+same-length c = search needs
+
+same-length-2 : tie.Need-same-length-2
+same-length-2 c = search needs
+
+same-length-3 : tie.Need-same-length-3
+same-length-3 c = search needs
+
+same-length-4 : tie.Need-same-length-4
+same-length-4 c = search needs
+
+same-length-5 : tie.Need-same-length-5
+same-length-5 c = search needs
+
+returns : tie.Need-returns
+returns c =
+    let f = found (c .before .before .before) in
+    let e = c .before .before .settle .ensures in
+    (searched-index (all f) (now (st (f .before) .args .index)) (e .0), searched-errors (all f) (e .1))
+
+pub map-many-spec : {M : Type 1} → statement M
+map-many-spec =
+    tie.close
+    (tie.spec
+    search-places-requires
+    settle-requires
+    same-length
+    same-length-2
+    same-length-3
+    same-length-4
+    same-length-5
+    returns)

@@ -1,0 +1,54 @@
+-- `map_pixels` meets its contract: the palette is widened, and the strip is mapped to it as shades.
+use native.Mathlib.Omega.{arith}
+use denote.Ref.{now}
+use borrow.Author.Needs.{needs}
+use Rattle.map_blocks.proofs.Widened.{widened-shades, widened-index, widened-errors}
+use Rattle.map_blocks.proofs.whole.map_pixels.Statement.{statement}
+use Rattle.map_blocks.proofs.whole.map_pixels.Tie as tie
+
+-- where the function begins
+abbrev st : tie.After-widen → tie.Start
+st c = c .before .before .before .before .before
+
+slice-aggregate-widen : tie.Need-slice-aggregate-widen
+slice-aggregate-widen c = search needs
+
+widen-requires : tie.Need-widen-requires
+widen-requires c κs = search needs
+
+slice-aggregate-map-blocks : tie.Need-slice-aggregate-map-blocks
+slice-aggregate-map-blocks c = search needs
+
+map-blocks-requires : tie.Need-map-blocks-requires
+map-blocks-requires c κs =
+    let w = c .before .before .before in
+    let p = st w .pre in
+    let known = w .before .before .before in (
+      p .pixels,
+      widened-shades p (w .widen .ensures) (λ i. omega (arith, known .shared-slice-known2 .given i)),
+      p .some,
+      p .few,
+    )
+
+same-length : tie.Need-same-length
+same-length c = search needs
+
+returns : tie.Need-returns
+returns c =
+    let w = c .before .before .before .before .before .before in
+    let p = st w .pre in
+    let e = c .before .before .map-blocks .ensures in (
+      widened-index p (w .widen .ensures) (now (st w .args .index)) (e .0),
+      widened-errors p (w .widen .ensures) (e .1),
+    )
+
+pub map-pixels-spec : {M : Type 1} → statement M
+map-pixels-spec =
+    tie.close
+    (tie.spec
+    slice-aggregate-widen
+    widen-requires
+    slice-aggregate-map-blocks
+    map-blocks-requires
+    same-length
+    returns)

@@ -1,0 +1,93 @@
+// A block of pixels: gathered, and then mapped by its places, be they few or many.
+ghost use mathlib.Core.Path.{_≡_};
+ghost use Prim.Native.Nat.{_*_, _<_, _≤_};
+ghost use lib.ListN.{length};
+ghost use Rattle.number.specs.{fill};
+ghost use Rattle.shades.specs.{Shades};
+ghost use Rattle.map_errors.specs.{pixelAt, missesOf};
+ghost use Rattle.map_blocks.specs.Meaning.{nearestTo};
+ghost use Rattle.map_slots.specs.{mostPlaces, pixelKey, Gathered};
+ghost use Rattle.map_blocks.specs.Asking.{Room};
+use super::few::map_few;
+use map_errors::Errors;
+use map_errors::settle::settle;
+use map_slots::gather;
+use map_slots::search_places;
+
+// Maps a block of pixels that are gathered in the first `n` places of `keys` to the `k` shades of
+// `s`; the four lists before `index` are where it works. Requires that they are, some shades on the
+// grid, three bytes for each place of `index`, at most 1024 pixels, and room to work.
+fn map_many(
+    strip: &[u8],
+    keys: &[u32],
+    which: &[u16],
+    n: usize,
+    s: &[u32],
+    k: usize,
+    reds: &mut [u16],
+    greens: &mut [u16],
+    blues: &mut [u16],
+    best: &mut [u32],
+    index: &mut [u8],
+) -> Errors
+    requires { ⌜ (length (now strip) ≡ 3 * length (now index)) × Shades k (now s) × (0 < k)
+        × (length (now index) ≤ mostPlaces)
+        × Room (length (now index)) (now keys) (now which) (now reds) (now greens) (now blues)
+        (now best)
+        × Gathered (pixelKey (now strip)) (length (now index)) (now keys) (now which) n ⌝ }
+    ensures index { λ _. ⌜ now (index .exit)
+        ≡ fill (length (now (index .entry))) (nearestTo (now (s .entry)) k (now (strip .entry)))
+        (now (index .entry)) ⌝ }
+    ensures errors { λ r. ⌜ r
+        ≡ missesOf (pixelAt (now (strip .entry))) (now (s .entry))
+        (nearestTo (now (s .entry)) k (now (strip .entry))) (length (now (index .entry))) ⌝ }
+{
+    search_places(keys, n, s, k, reds, greens, blues, best);
+    settle(strip, which, s, best, index)
+}
+
+// Maps a block of pixels to the `k` shades of `s`; the six lists before `index` are where it works.
+// Requires some shades on the grid, three bytes for each place of `index`, at most 1024 pixels, and
+// room to work.
+pub fn map_block(
+    strip: &[u8],
+    s: &[u32],
+    k: usize,
+    keys: &mut [u32],
+    which: &mut [u16],
+    reds: &mut [u16],
+    greens: &mut [u16],
+    blues: &mut [u16],
+    best: &mut [u32],
+    index: &mut [u8],
+) -> Errors
+    requires { ⌜ (length (now strip) ≡ 3 * length (now index)) × Shades k (now s) × (0 < k)
+        × (length (now index) ≤ mostPlaces)
+        × Room (length (now index)) (now keys) (now which) (now reds) (now greens) (now blues)
+        (now best) ⌝ }
+    ensures index { λ _. ⌜ now (index .exit)
+        ≡ fill (length (now (index .entry))) (nearestTo (now (s .entry)) k (now (strip .entry)))
+        (now (index .entry)) ⌝ }
+    ensures errors { λ r. ⌜ r
+        ≡ missesOf (pixelAt (now (strip .entry))) (now (s .entry))
+        (nearestTo (now (s .entry)) k (now (strip .entry))) (length (now (index .entry))) ⌝ }
+{
+    let places = gather(strip, keys, which);
+    if places <= 256 {
+        map_few(which, places, s, k, keys, reds, greens, blues, best, index)
+    } else {
+        map_many(
+            strip,
+            keys,
+            which,
+            places,
+            s,
+            k,
+            reds,
+            greens,
+            blues,
+            best,
+            index,
+        )
+    }
+}

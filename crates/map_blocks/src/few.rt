@@ -1,0 +1,50 @@
+// A block with few places: these are joined, searched, and told of.
+ghost use mathlib.Core.Path.{_≡_};
+ghost use Prim.Native.Nat.{_<_, _≤_};
+ghost use lib.ListN.{length};
+ghost use Rattle.number.specs.{fill};
+ghost use Rattle.shades.specs.{Shades};
+ghost use Rattle.map_errors.specs.{missesOf};
+ghost use Rattle.map_slots.specs.{mostPlaces, levelsOf};
+ghost use Rattle.map_blocks.specs.Asking.{Room, FewTaken, nearestAt};
+use map_errors::Errors;
+use map_errors::tell::add_told;
+use map_errors::tell::tell;
+use map_slots::join;
+use map_slots::search_places;
+
+// Maps pixels to the `k` shades of `s`: the colour of each is that with the key at its place in
+// `which`, one of the first `n`. The five lists before `index` are where it works. Requires some
+// shades on the grid, at most 256 places and 1024 pixels, and room to work.
+pub fn map_few(
+    which: &[u16],
+    n: usize,
+    s: &[u32],
+    k: usize,
+    keys: &mut [u32],
+    reds: &mut [u16],
+    greens: &mut [u16],
+    blues: &mut [u16],
+    best: &mut [u32],
+    index: &mut [u8],
+) -> Errors
+    requires { ⌜ Shades k (now s) × (0 < k) × (length (now index) ≤ mostPlaces)
+        × FewTaken (length (now index)) (now which) n
+        × Room (length (now index)) (now keys) (now which) (now reds) (now greens) (now blues)
+        (now best) ⌝ }
+    ensures index { λ _. ⌜ now (index .exit)
+        ≡ fill (length (now (index .entry)))
+        (nearestAt (now (s .entry)) k (levelsOf (now (keys .entry)) (now (which .entry))))
+        (now (index .entry)) ⌝ }
+    ensures errors { λ r. ⌜ r
+        ≡ missesOf (levelsOf (now (keys .entry)) (now (which .entry))) (now (s .entry))
+        (nearestAt (now (s .entry)) k (levelsOf (now (keys .entry)) (now (which .entry))))
+        (length (now (index .entry))) ⌝ }
+{
+    let mut link = [0u8; 256];
+    let mut told = [0u32; 1024];
+    let joined = join(keys, n, &mut link);
+    search_places(keys, joined, s, k, reds, greens, blues, best);
+    tell(keys, &link, best, n, s, &mut told);
+    add_told(which, &told, index)
+}
