@@ -15,7 +15,7 @@ use Rattle.table.specs.{Record, Outcome, handsBack, addStrip}
 use Rattle.method.specs.{State}
 use Rattle.lloyd.specs.{RoundOutcome, RunOutcome, plainRound, shortRound, runOf}
 use Rattle.mapping.specs.{MapOutcome, mapStrip}
-use Rattle.headers.specs.{headerOf, offsetIn}
+use Rattle.p6_header.specs.{headerOf, offsetIn}
 use Rattle.p6.specs.{Picture, readPicture}
 use Rattle.kohlenfloh.specs.Arrays.{recordIn, recordNumbers}
 use Rattle.kohlenfloh.specs.Crossing.{AddCrosses, RoundCrosses, RunCrosses, MapCrosses, PictureCrosses}

@@ -15,7 +15,7 @@ use Rattle.lloyd.specs.{RoundOutcome, keptRound, plainRound, shortRound, runOf}
 use Rattle.lloyd.proofs.Promises as lloyd
 use Rattle.mapping.specs.{mapStrip}
 use Rattle.mapping.proofs.Promises as mapping
-use Rattle.headers.specs.{headerOf, offsetIn}
+use Rattle.p6_header.specs.{headerOf, offsetIn}
 use Rattle.p6.specs.{readPicture}
 use Rattle.p6.proofs.Promises as p6
 use Rattle.kohlenfloh.specs.Arrays.{

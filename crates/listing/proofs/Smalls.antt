@@ -9,8 +9,8 @@ use borrow.Author.Tests.{lt-ltb, le-ltb, ltb-false}
 use Rattle.number.proofs.Cases.{neither}
 use Rattle.refusal.specs.{numberOf, done, firstOf, BAD-HEADER, BAD-SIZE}
 use Rattle.refusal.proofs.Order.{none-of-first}
-use Rattle.headers.specs.{headerOf}
-use Rattle.headers.specs.declared.Header.the-variants.{Read, Bad}
+use Rattle.p6_header.specs.{headerOf}
+use Rattle.p6_header.specs.declared.Header.the-variants.{Read, Bad}
 use Rattle.p6.specs.{
   widthIn,
   heightIn,

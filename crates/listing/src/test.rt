@@ -3,7 +3,7 @@ ghost use mathlib.Core.Path.{_≡_};
 ghost use Rattle.refusal.specs.{firstOf};
 ghost use Rattle.listing.specs.Refusals.{smallRows};
 use super::MOST_LISTED;
-use headers::Header;
+use p6_header::Header;
 use refusal::BAD_HEADER;
 use refusal::BAD_SIZE;
 
@@ -12,7 +12,7 @@ use refusal::BAD_SIZE;
 pub fn picture_refusal(picture: &[u8]) -> u8
     ensures { λ r. ⌜ r ≡ firstOf (smallRows (now (picture .entry))) ⌝ }
 {
-    let h = headers::read_header(picture);
+    let h = p6_header::read_header(picture);
     let Header::Read {
         width,
         height,

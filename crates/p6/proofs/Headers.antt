@@ -7,7 +7,7 @@ use mathlib.Core.Path.{_≡_, refl, sym, ap}
 use native.Mathlib.Omega.{arith}
 use Rattle.number.proofs.Cases.{never}
 use Rattle.refusal.specs.{numberOf, done, Given, BAD-HEADER}
-use Rattle.headers.specs.{
+use Rattle.p6_header.specs.{
   Header,
   headerOf,
   headerNumber,
@@ -17,9 +17,9 @@ use Rattle.headers.specs.{
   HeaderIn,
   FirstWrong,
 }
-use Rattle.headers.specs.declared.Header.the-variants.{Read, Bad}
-use Rattle.headers.proofs.Wholes.{header-reads-exactly}
-use Rattle.headers.proofs.Wrongs.{header-fails-exactly}
+use Rattle.p6_header.specs.declared.Header.the-variants.{Read, Bad}
+use Rattle.p6_header.proofs.Wholes.{header-reads-exactly}
+use Rattle.p6_header.proofs.Wrongs.{header-fails-exactly}
 use Rattle.p6.specs.Refusals.{theDepth, isBad, pictureRows}
 use Rattle.p6.specs.Outcomes.{readPicture}
 use Rattle.p6.proofs.Meaning.{picture-refuses, accepted-header}

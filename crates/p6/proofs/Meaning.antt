@@ -12,9 +12,9 @@ use Rattle.refusal.specs.{Refusal, numberOf, done, Refuses}
 use Rattle.refusal.proofs.Numbers.{number-not-done}
 use Rattle.refusal.proofs.Outcomes.{refuses, refuses-all}
 use Rattle.colour.specs.{mostPixels}
-use Rattle.headers.specs.{Header, headerOf, offsetIn}
-use Rattle.headers.specs.declared.Header.the-variants.{Read, Bad}
-use Rattle.headers.proofs.Wholes.{start-inside}
+use Rattle.p6_header.specs.{Header, headerOf, offsetIn}
+use Rattle.p6_header.specs.declared.Header.the-variants.{Read, Bad}
+use Rattle.p6_header.proofs.Wholes.{start-inside}
 use Rattle.p6.specs.Refusals.{
   mostSide,
   theDepth,

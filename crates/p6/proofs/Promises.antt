@@ -8,7 +8,7 @@ use mathlib.Core.Path.{_≡_, sym, _∙_}
 use lib.ListN.{length, drop}
 use Rattle.refusal.specs.{Refusal, numberOf, done, Given, NoneHolds, BAD-HEADER}
 use Rattle.colour.specs.{mostPixels}
-use Rattle.headers.specs.{headerOf, HeaderSays, offsetIn, HeaderIn, FirstWrong}
+use Rattle.p6_header.specs.{headerOf, HeaderSays, offsetIn, HeaderIn, FirstWrong}
 use Rattle.p6.specs.Refusals.{mostSide, theDepth, badHeader, badSize, badDepth, badRaster, pictureRows}
 use Rattle.p6.specs.Outcomes.{refusedPicture, readPicture, rasterOf}
 use Rattle.p6.specs.declared.Picture.{Picture}

@@ -17,8 +17,8 @@ use Rattle.refusal.specs.{
   firstOf,
 }
 use Rattle.refusal.proofs.Outcomes.{outcome-made, outcome-refused}
-use Rattle.headers.specs.{Header, headerOf, offsetIn}
-use Rattle.headers.specs.declared.Header.the-variants.{Read, Bad}
+use Rattle.p6_header.specs.{Header, headerOf, offsetIn}
+use Rattle.p6_header.specs.declared.Header.the-variants.{Read, Bad}
 use Rattle.p6.specs.Refusals.{badSize, badDepth, badRaster, widthIn, heightIn, startIn, pictureRows}
 use Rattle.p6.specs.Outcomes.{refusedPicture, madePicture, readPicture}
 use Rattle.p6.specs.declared.Picture.{Picture}

@@ -5,7 +5,7 @@ use mathlib.Core.List.{List, []}
 use lib.Dec.{eqb}
 use lib.ListN.{drop}
 use Rattle.refusal.specs.{done, outcomeOf}
-use Rattle.headers.specs.{headerOf, offsetIn}
+use Rattle.p6_header.specs.{headerOf, offsetIn}
 use Rattle.p6.specs.Refusals.{widthIn, heightIn, startIn, pictureRows}
 use Rattle.p6.specs.declared.Picture.{Picture}
 

@@ -6,8 +6,8 @@ use lib.Dec.{ltb, eqb}
 use lib.ListN.{length}
 use Rattle.refusal.specs.{Row, row, BAD-HEADER, BAD-SIZE, BAD-DEPTH, BAD-RASTER}
 use Rattle.colour.specs.{mostPixels}
-use Rattle.headers.specs.{Header, headerOf}
-use Rattle.headers.specs.declared.Header.the-variants.{Read, Bad}
+use Rattle.p6_header.specs.{Header, headerOf}
+use Rattle.p6_header.specs.declared.Header.the-variants.{Read, Bad}
 
 -- the longest side
 abbrev pub mostSide : ℕ

@@ -5,7 +5,7 @@ use super::DEPTH;
 use super::Picture;
 use super::test::bad_raster;
 use super::test::bad_size;
-use headers::Header;
+use p6_header::Header;
 use refusal::BAD_DEPTH;
 use refusal::BAD_HEADER;
 use refusal::BAD_RASTER;
@@ -36,7 +36,7 @@ fn refused(number: u8, offset: usize) -> Picture
 pub fn read_picture(input: &[u8]) -> Picture
     ensures { λ r. ⌜ r ≡ readPicture (now (input .entry)) ⌝ }
 {
-    let h = headers::read_header(input);
+    let h = p6_header::read_header(input);
     let Header::Read {
         width,
         height,
@@ -44,7 +44,7 @@ pub fn read_picture(input: &[u8]) -> Picture
         start,
     } = h
     else {
-        return refused(BAD_HEADER, headers::bad_at(h));
+        return refused(BAD_HEADER, p6_header::bad_at(h));
     };
     if bad_size(width, height) {
         return refused(BAD_SIZE, 0);

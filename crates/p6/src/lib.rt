@@ -9,7 +9,7 @@
 // For the crates above, with what is required above each
 //   bad_size       the test of 13 BAD SIZE                      test.rt
 //   area           the pixels of two sides
-// The header is read by the crate headers; the tests stand in test.rt.
+// The header is read by the crate p6_header; the tests stand in test.rt.
 //
 // Read next: specs/Lib.antt (what the words mean), proofs/Promises.antt (what is shown).
 

@@ -3,7 +3,7 @@ use Prim.Native.Nat.{ℕ, _^_, _≤_, _<_}
 use mathlib.Core.Bool.{true}
 use mathlib.Core.Path.{_≡_}
 use lib.ListN.{length, getD}
-use Rattle.headers.specs.{digitZero, isDigit, decimal}
+use Rattle.p6_header.specs.{digitZero, isDigit, decimal}
 use Rattle.texts.specs.Decimals.{mostDecimal, decimalText}
 use Rattle.texts.proofs.Texts as texts
 use Rattle.texts.proofs.Values as values

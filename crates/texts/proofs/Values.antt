@@ -10,8 +10,8 @@ use lib.ListN.{length, getD, length-append, List·getD-append}
 use lib.Seq.{getD-append-seam}
 use borrow.Author.Tests.{le-leb}
 use Rattle.number.proofs.Searches.{below-or-last}
-use Rattle.headers.specs.{digitZero, isDigit, decimal}
-use Rattle.headers.proofs.Decimals.{decimal-start, decimal-more, decimal-same}
+use Rattle.p6_header.specs.{digitZero, isDigit, decimal}
+use Rattle.p6_header.proofs.Decimals.{decimal-start, decimal-more, decimal-same}
 use Rattle.texts.specs.Decimals.{digitByte, shortText}
 use Rattle.texts.proofs.Texts.{short-digit, short-more, short-some, more-room, tenth-below}
 

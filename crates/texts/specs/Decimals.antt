@@ -3,7 +3,7 @@ use Prim.Native.Nat.{ℕ, zero, suc, _+_, _/_, _%_}
 use mathlib.Core.Bool.{cond}
 use mathlib.Core.List.{List, [], _∷_, _++_}
 use lib.Dec.{ltb}
-use Rattle.headers.specs.{blank, lineFeed, digitZero}
+use Rattle.p6_header.specs.{blank, lineFeed, digitZero}
 
 -- the most bytes of a number of 64 bits
 abbrev pub mostDecimal : ℕ

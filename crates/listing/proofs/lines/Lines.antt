@@ -9,7 +9,7 @@ use lib.Seq.{append-snoc}
 use Rattle.shades.specs.{mostCoordinates}
 use Rattle.palette.specs.{paletteFromShades, PaletteMeets}
 use Rattle.mapping.specs.{Mapped, mapStrip, MapMeets}
-use Rattle.headers.specs.{blank, lineFeed}
+use Rattle.p6_header.specs.{blank, lineFeed}
 use Rattle.texts.specs.{decimalText, lineOf, linesOf, PutMeets}
 use Rattle.texts.proofs.Texts.{put-then, put-length, bytes-start, decimal-length}
 use Rattle.listing.specs.Refusals.{mostListed, listedZeros}

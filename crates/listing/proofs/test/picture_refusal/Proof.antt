@@ -5,8 +5,8 @@ use mathlib.Core.List.{List}
 use mathlib.Core.Path.{_≡_, sym, ap, _∙_}
 use native.Mathlib.Omega.{arith}
 use denote.Ref.{now}
-use Rattle.headers.specs.{headerOf}
-use Rattle.headers.specs.declared.Header.the-variants.{Read}
+use Rattle.p6_header.specs.{headerOf}
+use Rattle.p6_header.specs.declared.Header.the-variants.{Read}
 use Rattle.p6.specs.{Picture, badSize}
 use Rattle.p6.proofs.Meaning.{sides-at-most}
 use Rattle.listing.proofs.Smalls.{small-bad-header, small-bad-size, small-over, small-rest}

@@ -1,0 +1,66 @@
+-- What is shown of headers, for whoever cites it. Each body names the proof.
+use Prim.Native.Nat.{ℕ, _≤_}
+use mathlib.Core.List.{List, [], _∷_}
+use mathlib.Core.Logic.{_↔_}
+use mathlib.Core.Path.{_≡_}
+use lib.ListN.{length}
+use Rattle.refusal.specs.{numberOf, done, BAD-HEADER}
+use Rattle.p6_header.specs.Numbers.{fieldAt, readingNumber, readingValues, ReadingSays}
+use Rattle.p6_header.specs.Headers.{headerOf, headerNumber, headerValues, HeaderSays}
+use Rattle.p6_header.specs.declared.Reading.{Reading}
+use Rattle.p6_header.specs.declared.Header.{Header}
+use Rattle.p6_header.specs.declared.Header.the-variants.{Read}
+use Rattle.p6_header.specs.Standing.{FieldFailed, FieldRead, FirstWrong, HeaderIn}
+use Rattle.p6_header.proofs.Fields as fields
+use Rattle.p6_header.proofs.Cases as cases
+use Rattle.p6_header.proofs.Wholes as wholes
+use Rattle.p6_header.proofs.Wrongs as wrongs
+
+-- ---- one number
+
+-- White bytes and a number are read, which is said by 0, the number and where it ended, exactly where they stand: a
+-- number of less than five digits ends before a byte that is no digit.
+pub field-reads-exactly : (s : List ℕ) (a b value : ℕ)
+    → ReadingSays (fieldAt s a) done (value ∷ b ∷ []) ↔ FieldRead s a b value
+field-reads-exactly = cases.field-says-read
+
+-- They fail, which is said by the number of BAD HEADER and the place, exactly at the first byte that is not white where
+-- one must be, or no digit where one must be.
+pub field-fails-exactly : (s : List ℕ) (a at : ℕ)
+    → ReadingSays (fieldAt s a) (numberOf BAD-HEADER) (at ∷ []) ↔ FieldFailed s a at
+field-fails-exactly = cases.field-says-failed
+
+-- Number and values together tell the reading.
+pub reading-only : (q r : Reading) → readingNumber q ≡ readingNumber r → readingValues q ≡ readingValues r → q ≡ r
+reading-only = cases.reading-only
+
+-- ---- the header
+
+-- A header is read, which is said by 0, its numbers and the first place after it, exactly where one stands at the front
+-- of the input.
+pub header-reads-exactly : (s : List ℕ) (w h d n : ℕ)
+    → HeaderSays (headerOf s) done (w ∷ h ∷ d ∷ n ∷ []) ↔ HeaderIn s w h d n
+header-reads-exactly = cases.header-says-read
+
+-- It fails, which is said by the number of BAD HEADER and the place, exactly at the first byte that cannot stand there,
+-- or at the input's length if the input ends early: some header has all bytes before that place and goes on, and none
+-- has the byte at that place too.
+pub header-fails-exactly : (s : List ℕ) (at : ℕ)
+    → HeaderSays (headerOf s) (numberOf BAD-HEADER) (at ∷ []) ↔ FirstWrong s at
+header-fails-exactly = cases.header-says-failed
+
+-- An input has at most one first wrong byte.
+pub wrong-only : (s : List ℕ) (a b : ℕ) → FirstWrong s a → FirstWrong s b → a ≡ b
+wrong-only = wrongs.wrong-only
+
+-- An input that begins with a header has none.
+pub stands-not-wrong : (s : List ℕ) (w h d n at : ℕ) → HeaderIn s w h d n → ¬ FirstWrong s at
+stands-not-wrong = wrongs.stands-not-wrong
+
+-- Number and values together tell the header.
+pub header-only : (g h : Header) → headerNumber g ≡ headerNumber h → headerValues g ≡ headerValues h → g ≡ h
+header-only = cases.header-only
+
+-- The place after a header that is read is inside the input, or its end.
+pub start-inside : (s : List ℕ) (w h d n : ℕ) → headerOf s ≡ Read w h d n → n ≤ length s
+start-inside = wholes.start-inside

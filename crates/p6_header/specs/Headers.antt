@@ -1,0 +1,55 @@
+-- The header: "P6"; one or more white bytes; width; white bytes; height; white bytes; depth; exactly one white byte.
+use Prim.Native.Nat.{ℕ, _+_}
+use mathlib.Core.Bool.{cond}
+use mathlib.Core.List.{List, [], _∷_}
+use mathlib.Core.Path.{_≡_}
+use lib.Dec.{eqb}
+use Rattle.refusal.specs.{numberOf, done, BAD-HEADER}
+use Rattle.p6_header.specs.Bytes.{byteAt, isWhite, letterP, figureSix}
+use Rattle.p6_header.specs.Numbers.{fieldAt}
+use Rattle.p6_header.specs.declared.Reading.{Reading}
+use Rattle.p6_header.specs.declared.Reading.the-variants.{Number, Failed}
+use Rattle.p6_header.specs.declared.Header.{Header}
+use Rattle.p6_header.specs.declared.Header.the-variants.{Read, Bad}
+
+-- ---- how a header is read
+
+-- what follows a number, where it was read; where it failed, the header fails there
+abbrev pub andThen : Reading → (ℕ → ℕ → Header) → Header
+andThen (Number value next) f = f value next
+andThen (Failed at) f = Bad at
+
+-- exactly one white byte after the depth ends the header
+abbrev pub lastWhite : List ℕ → ℕ → ℕ → ℕ → ℕ → Header
+lastWhite s width height depth at = cond (isWhite (byteAt s at)) (Read width height depth (at + 1)) (Bad at)
+
+-- the three numbers after "P6", and the white byte
+abbrev pub fieldsOf : List ℕ → Header
+fieldsOf s =
+    andThen (fieldAt s 2)
+    (λ w a. andThen (fieldAt s a) (λ h b. andThen (fieldAt s b) (λ d e. lastWhite s w h d e)))
+
+-- the header at the front of an input
+unfoldable pub headerOf : List ℕ → Header
+headerOf s = cond (eqb (byteAt s 0) letterP) (cond (eqb (byteAt s 1) figureSix) (fieldsOf s) (Bad 1)) (Bad 0)
+
+-- ---- what it says, case by case
+
+-- its number in document 01
+abbrev pub headerNumber : Header → ℕ
+headerNumber (Read width height depth start) = done
+headerNumber (Bad at) = numberOf BAD-HEADER
+
+-- its values: width, height, depth and the first place after the header, or the place it failed
+abbrev pub headerValues : Header → List ℕ
+headerValues (Read width height depth start) = width ∷ height ∷ depth ∷ start ∷ []
+headerValues (Bad at) = at ∷ []
+
+-- it says this number and these values
+abbrev pub HeaderSays : Header → ℕ → List ℕ → Type 0
+HeaderSays h number values = (headerNumber h ≡ number) × (headerValues h ≡ values)
+
+-- the place it failed; 0 where it did not
+abbrev pub offsetIn : Header → ℕ
+offsetIn (Read width height depth start) = 0
+offsetIn (Bad at) = at
