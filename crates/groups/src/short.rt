@@ -7,11 +7,11 @@ ghost use Rattle.method.specs.{Tabled, stateOf, coloursOf, shortDistances};
 ghost use Rattle.group_sums.specs.{Summed, Assigned, memberAt};
 ghost use Rattle.groups.specs.Grouping.{Groupable, Tracks, Grouped, covered};
 use super::Regrouped;
-use search_near::Met;
 use group_sums::lower;
 use group_sums::one_of;
 use group_sums::raise;
 use group_sums::two_of;
+use search_near::Met;
 
 // The nearest shade of entry `i`, from its member, by the rows that `g` has.
 fn rejoin(
