@@ -6,7 +6,7 @@ use Prim.Native.Nat.{ℕ, zero, suc, _+_, _≤_, _<_}
 use native.Mathlib.Nat.{le-suc-iff, not-suc-le-zero, suc-inj}
 use native.Mathlib.Numerals.{add-one}
 use native.Mathlib.Omega.{arith}
-use Rattle.number.specs.Count.{howMany}
+use Rattle.number.specs.Count.{bit, howMany}
 use Rattle.number.proofs.Cases.{bool}
 
 -- one place more is counted where it passes the test
@@ -25,8 +25,8 @@ howMany-at-most (suc n) b = go (b n) (howMany-at-most n b)
     go false h = omega arith
 
 -- a place more adds 1 where it passes the test, else 0
-pub howMany-counted : (n one : ℕ) (b : ℕ → Bool) → one ≡ cond (b n) 1 0 → howMany (n + 1) b ≡ howMany n b + one
-howMany-counted n one b e = elim (bool (b n)) [
+pub howMany-counted : (n x : ℕ) (b : ℕ → Bool) → x ≡ bit (b n) → howMany (n + 1) b ≡ howMany n b + x
+howMany-counted n x b e = elim (bool (b n)) [
   | inl t ↦ rw (howMany-more n b, e, t)
   | inr t ↦ rw (howMany-more n b, e, t) (omega arith)
 ]

@@ -8,22 +8,18 @@ use native.Mathlib.Nat.{le-refl, add-zero}
 use native.Mathlib.Omega.{arith}
 use lib.Dec.{eqb}
 use borrow.Author.Tests.{eq-eqb, ne-eqb}
-use Rattle.number.specs.Count.{howMany}
+use Rattle.number.specs.Count.{bit, howMany}
 use Rattle.number.proofs.Cases.{bool, both, never}
 use Rattle.number.proofs.Counts.{howMany-at-most, howMany-counted}
 use Rattle.number.proofs.Searches.{below-or-last}
 
--- what one test adds to a count
-abbrev pub one : Bool → ℕ
-one t = cond t 1 0
-
 -- a count goes up by what the test adds
-step : (t : Bool) (n : ℕ) → cond t (n + 1) n ≡ n + one t
+step : (t : Bool) (n : ℕ) → cond t (n + 1) n ≡ n + bit t
 step true n = omega arith
 step false n = omega arith
 
 -- the last place is counted by its own test
-pub howMany-last : (n : ℕ) (b : ℕ → Bool) → howMany (suc n) b ≡ howMany n b + one (b n)
+pub howMany-last : (n : ℕ) (b : ℕ → Bool) → howMany (suc n) b ≡ howMany n b + bit (b n)
 unfolding howMany
 howMany-last n b = step (b n) (howMany n b)
 
@@ -33,7 +29,7 @@ unfolding howMany
 howMany-zero b = refl
 
 -- the first place, and then the others
-pub howMany-first : (n : ℕ) (b : ℕ → Bool) → howMany (suc n) b ≡ one (b 0) + howMany n (λ i. b (suc i))
+pub howMany-first : (n : ℕ) (b : ℕ → Bool) → howMany (suc n) b ≡ bit (b 0) + howMany n (λ i. b (suc i))
 howMany-first zero b = omega (arith, howMany-last 0 b, howMany-zero b, howMany-zero (λ i. b (suc i)))
 howMany-first (suc n) b =
     omega (arith, howMany-last (suc n) b, howMany-first n b, howMany-last n (λ i. b (suc i)))
@@ -46,7 +42,7 @@ howMany-same (suc n) b d e =
       arith,
       howMany-last n b,
       howMany-last n d,
-      ap one (e n (omega arith)),
+      ap bit (e n (omega arith)),
       howMany-same n b d (λ i l. e i (omega arith)),
     )
 
@@ -59,13 +55,13 @@ howMany-below (suc n) m b h inside out =
     (λ l. omega (
       arith,
       howMany-last n b,
-      ap one (out n (omega arith) (omega arith)),
+      ap bit (out n (omega arith) (omega arith)),
       howMany-below n m b (omega arith) inside (λ i g t. out i g (omega arith)),
     ))
     (λ e. omega (
       arith,
       howMany-last n b,
-      ap one (inside n (omega arith)),
+      ap bit (inside n (omega arith)),
       howMany-below n n b (le-refl n) (λ i l. inside i (omega arith)) (λ i g t. absurd (omega arith)),
     ))
     (below-or-last (suc n) m (omega arith))
@@ -75,12 +71,12 @@ pub howMany-all : (n : ℕ) (b : ℕ → Bool) → ((i : ℕ) → i < n → b i 
 howMany-all n b h = howMany-below n n b (le-refl n) h (λ i g t. absurd (omega arith))
 
 -- a test that adds something holds
-one-true : (t : Bool) → 0 < one t → t ≡ true
+one-true : (t : Bool) → 0 < bit t → t ≡ true
 one-true true h = refl
 one-true false h = absurd (omega arith)
 
 -- a test adds at most 1
-one-at-most : (t : Bool) → one t ≤ 1
+one-at-most : (t : Bool) → bit t ≤ 1
 one-at-most true = omega arith
 one-at-most false = omega arith
 
@@ -102,7 +98,7 @@ howMany-find (suc n) b h = go (b n) refl (λ l. howMany-find n b l)
         → (i : ℕ) × (i < suc n) × (b i ≡ true)
     go true e f = (n, omega arith, e)
     go false e f =
-        let r = f (omega (arith, howMany-last n b, ap one e)) in
+        let r = f (omega (arith, howMany-last n b, ap bit e)) in
         (r .0, omega (arith, r .1), r .2)
 
 -- where one passes, some are counted
@@ -111,7 +107,7 @@ howMany-some zero i b l e = absurd (omega arith)
 howMany-some (suc n) i b l e =
     ⊎-elim
     (λ h. omega (arith, howMany-last n b, howMany-some n i b h e))
-    (λ h. omega (arith, howMany-last n b, ap one (ap b (sym h) ∙ e)))
+    (λ h. omega (arith, howMany-last n b, ap bit (ap b (sym h) ∙ e)))
     (below-or-last n i (omega arith))
 
 -- a test that leaves place p out
@@ -128,15 +124,15 @@ howMany-others (suc n) p b h e =
       arith,
       howMany-last n b,
       howMany-last n (other b p),
-      ap one (kept n (λ x. omega arith)),
+      ap bit (kept n (λ x. omega arith)),
       howMany-others n p b l e,
     ))
     (λ l. omega (
       arith,
       howMany-last n b,
       howMany-last n (other b p),
-      ap one (ap b (sym l) ∙ e),
-      ap one (left-out n (sym l)),
+      ap bit (ap b (sym l) ∙ e),
+      ap bit (left-out n (sym l)),
       howMany-same n b (other b p) (λ i t. sym (kept i (λ x. omega arith))),
     ))
     (below-or-last n p (omega arith))
@@ -177,12 +173,12 @@ pub counting-start : (n : ℕ) (b : ℕ → Bool) → Counting n b 0 0
 counting-start n b = record { within = omega arith; is = sym (howMany-zero b); few = omega arith }
 
 -- one place more
-pub counting-step : {n count i : ℕ} {b : ℕ → Bool} → Counting n b count i → i < n → (one : ℕ) → one ≡ cond (b i) 1 0
-    → Counting n b (count + one) (i + 1)
-counting-step {n} {count} {i} {b} t h one e = record {
+pub counting-step : {n count i : ℕ} {b : ℕ → Bool} → Counting n b count i → i < n → (x : ℕ) → x ≡ bit (b i)
+    → Counting n b (count + x) (i + 1)
+counting-step {n} {count} {i} {b} t h x e = record {
   within = omega arith;
-  is = omega (arith, t .is, howMany-counted i one b e);
-  few = omega (arith, t .is, howMany-counted i one b e, howMany-at-most (i + 1) b);
+  is = omega (arith, t .is, howMany-counted i x b e);
+  few = omega (arith, t .is, howMany-counted i x b e, howMany-at-most (i + 1) b);
 }
 
 -- one place more, where the count itself goes up by 1 if the place passes

@@ -1,6 +1,7 @@
 -- Glossary. Places are the numbers below a count; the count comes first.
 --   sum n f           f 0 + .. + f (n - 1)
 --   sumOf f xs        f added up over the elements of a list
+--   bit test          1 where the test holds, else 0
 --   howMany n b       how many places below n pass the test b
 --   fill n f d        the list d with f 0 .. f (n - 1) in front, the rest kept
 --   fillFrom a n f d  the same from place a on
@@ -24,7 +25,7 @@ pub mod Search
 pub mod Square
 pub mod Groups
 unfoldable pub use Sum.{sum, sumOf}
-unfoldable pub use Count.{howMany}
+unfoldable pub use Count.{bit, howMany}
 unfoldable pub use Fill.{fill, fillFrom}
 unfoldable pub use Search.{firstBest, least, most, lesserOf, greaterOf, peak, lowest, firstThat}
 pub use Search.{Best, Order}

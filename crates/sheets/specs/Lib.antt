@@ -7,7 +7,6 @@
 --   keysG, weightsG, recordG   sheet G's table
 --   keysH, weightsH            sheet H's table
 --   members, totals   what is lent to rounds and runs
---   bit b             a test as 1 or 0
 --   addNumbers, roundNumbers, runNumbers, paletteNumbers, mapNumbers   the numbers of an outcome, in rows
 --   figureNumbers, meanNumbers   those of a figure and of a mean square error
 --   Example           computed, written: what the definitions give, and what document 01 writes down
@@ -38,7 +37,6 @@ unfoldable pub use Drawing.{
   totals,
 }
 unfoldable pub use Numbers.{
-  bit,
   addNumbers,
   roundNumbers,
   runNumbers,

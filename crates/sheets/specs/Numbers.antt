@@ -1,18 +1,14 @@
 -- What a definition gives, in rows of numbers: all that the answer says, and every lent slice at exit.
 use Prim.Native.Nat.{ℕ}
-use mathlib.Core.Bool.{Bool, cond}
 use mathlib.Core.List.{List, [], _∷_, _++_, map}
 use lib.IntN.{pos, negsuc}
 use lib.Ieee.{Float, nan, inf, fin}
+use Rattle.number.specs.{bit}
 use Rattle.table.specs.{Outcome}
 use Rattle.lloyd.specs.{RoundOutcome, RunOutcome}
 use Rattle.palette.specs.{PaletteOutcome}
 use Rattle.figures.specs.{Mean, meanNumber, meanValues}
 use Rattle.mapping.specs.{MapOutcome}
-
--- a test as document 01 writes it: 1 or 0
-abbrev pub bit : Bool → ℕ
-bit b = cond b 1 0
 
 -- of an add: refusal, taken, used, pixels; the keys; the weights
 abbrev pub addNumbers : Outcome → List (List ℕ)
