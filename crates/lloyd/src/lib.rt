@@ -5,7 +5,7 @@
 //                 Refuses 2 BAD TABLE, 4 BAD COUNT, 8 BAD CENTRE, 7 SHORT ROOM, in this order.
 //   short_round   one round by the shortened search.
 //                 Refuses 2, 4, 8, 7, 9 BAD MEMBER, in this order.
-//   run           starting shades and shortened rounds.       call.rt
+//   run           starting shades and shortened rounds.       run.rt
 //                 Refuses 2, 4, 5 FEW COLOURS, 6 BAD LIMIT, 7, in this order.
 // For the crates above
 //   flag_of       settled as 1 or 0
@@ -14,14 +14,14 @@
 //
 // Read next: specs/Lib.antt (what the words mean), proofs/Promises.antt (what is shown).
 
-mod call;
 mod round;
+mod run;
 mod test;
 
-pub use call::flag_of;
-pub use call::run;
 pub use round::plain_round;
 pub use round::short_round;
+pub use run::flag_of;
+pub use run::run;
 
 // The most rounds of a run.
 pub const MOST_ROUNDS: usize = 200;

@@ -1,7 +1,7 @@
 -- `refused` meets its contract: the number, and zeros.
 use mathlib.Core.Path.{refl}
-use Rattle.lloyd.proofs.call.refused.Statement.{statement}
-use Rattle.lloyd.proofs.call.refused.Tie as tie
+use Rattle.lloyd.proofs.run.refused.Statement.{statement}
+use Rattle.lloyd.proofs.run.refused.Tie as tie
 
 returns : tie.Need-returns
 returns c = refl

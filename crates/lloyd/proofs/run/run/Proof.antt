@@ -12,8 +12,8 @@ use Rattle.refusal.specs.{BAD-TABLE, BAD-COUNT, FEW-COLOURS, BAD-LIMIT, SHORT-R
 use Rattle.table.specs.{Record, badTable}
 use Rattle.lloyd.specs.Refusals.{limitOf, badCount, fewColours, badLimit, shortTotals}
 use Rattle.lloyd.proofs.Wholes.{RunGood, runnable, run-none, run-meets-refused, run-meets-made}
-use Rattle.lloyd.proofs.call.run.Statement.{statement}
-use Rattle.lloyd.proofs.call.run.Tie as tie
+use Rattle.lloyd.proofs.run.run.Statement.{statement}
+use Rattle.lloyd.proofs.run.run.Tie as tie
 
 -- what the call was given
 abbrev st : tie.After-bad-table → tie.Start
