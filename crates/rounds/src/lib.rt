@@ -7,19 +7,19 @@
 //   next_step     the same, from the sums of the former groups
 //   make_rounds   shortened rounds to the first quiet one or a limit   many.rt
 //   final_total   the members against the shades                     total.rt
-//   run_from      starting shades from given ones, rounds, final total   full.rt
-//   make_run      starting shades, rounds, final total               full.rt
+//   run_from      starting shades from given ones, rounds, final total   run.rt
+//   make_run      starting shades, rounds, final total               run.rt
 //
 // Read next: specs/Lib.antt (what the words mean), proofs/Lib.antt (what is shown).
 
-mod full;
 mod many;
+mod run;
 mod step;
 mod total;
 
-pub use full::make_run;
-pub use full::run_from;
 pub use many::make_rounds;
+pub use run::make_run;
+pub use run::run_from;
 pub use step::next_step;
 pub use step::plain_step;
 pub use step::short_step;

@@ -2,8 +2,8 @@
 use native.Mathlib.Omega.{arith}
 use borrow.Author.Needs.{needs}
 use Rattle.method.proofs.Startings.{flat-low}
-use Rattle.rounds.proofs.full.make_run.Statement.{statement}
-use Rattle.rounds.proofs.full.make_run.Tie as tie
+use Rattle.rounds.proofs.run.make_run.Statement.{statement}
+use Rattle.rounds.proofs.run.make_run.Tie as tie
 
 whole-mean-requires : tie.Need-whole-mean-requires
 whole-mean-requires c κs = search needs

@@ -11,8 +11,8 @@ use Rattle.method.proofs.Costs.{to-mean-good}
 use Rattle.method.proofs.Startings.{listed-within}
 use Rattle.rounds.specs.Meeting.{SeriesMeets}
 use Rattle.rounds.proofs.Turns.{begin-walkable, begun, series-walkable}
-use Rattle.rounds.proofs.full.run_from.Statement.{statement}
-use Rattle.rounds.proofs.full.run_from.Tie as tie
+use Rattle.rounds.proofs.run.run_from.Statement.{statement}
+use Rattle.rounds.proofs.run.run_from.Tie as tie
 
 -- where the run is called
 abbrev st : tie.After-fill-starts → tie.Start
