@@ -2,7 +2,7 @@
 // rounds to the first that moves no shade or to a limit; a whole run.
 //
 // Calls; none refuses, and what one requires stands above it
-//   plain_step    one round by the plain search                      step.rt
+//   plain_step    one round by the plain search                      round.rt
 //   short_step    one round by the shortened search
 //   next_step     the same, from the sums of the former groups
 //   make_rounds   shortened rounds to the first quiet one or a limit   many.rt
@@ -13,16 +13,16 @@
 // Read next: specs/Lib.antt (what the words mean), proofs/Lib.antt (what is shown).
 
 mod many;
+mod round;
 mod run;
-mod step;
 mod total;
 
 pub use many::make_rounds;
+pub use round::next_step;
+pub use round::plain_step;
+pub use round::short_step;
 pub use run::make_run;
 pub use run::run_from;
-pub use step::next_step;
-pub use step::plain_step;
-pub use step::short_step;
 pub use total::final_total;
 
 // What a round answers: its total, the shades that moved, the distances worked out.

@@ -8,7 +8,7 @@ ghost use Rattle.method.specs.{stateOf, coloursOf, toMean};
 ghost use Rattle.rounds.specs.Meeting.{Walkable, SeriesMeets, mostRounds};
 use super::Series;
 use super::Stepped;
-use super::step::next_step;
+use super::round::next_step;
 
 // Whether no shade moved.
 fn none(moved: u32) -> bool
