@@ -14,7 +14,7 @@ use Rattle.shades.specs.{mostShades}
 use Rattle.method.specs.{Tabled, coloursOf}
 use Rattle.method.proofs.Sizes as sizes
 use Rattle.method.proofs.Sizes.{fair-of-table}
-use Rattle.group_sums.specs.Summing.{twoOf, oneOf, weighed, given, Summed}
+use Rattle.group_sums.specs.Summing.{redGreen, bluePixels, weighed, given, Summed}
 use Rattle.group_sums.proofs.Summing.{given-own}
 
 -- two levels of 255 in one number
@@ -22,12 +22,12 @@ abbrev pub mostPair : ℕ
 mostPair = 1095216660735
 
 -- red and green level are at most two levels of 255
-pub two-at-most : (key : ℕ) → twoOf key ≤ mostPair
-two-at-most key = omega arith
+pub red-green-at-most : (key : ℕ) → redGreen key ≤ mostPair
+red-green-at-most key = omega arith
 
 -- blue level and 1 are at most two levels of 255
-pub one-at-most : (key : ℕ) → oneOf key ≤ mostPair
-one-at-most key = omega arith
+pub blue-pixels-at-most : (key : ℕ) → bluePixels key ≤ mostPair
+blue-pixels-at-most key = omega arith
 
 -- a table's weight times a level fits in 32 bits
 pub times-fits : (w x : ℕ) → w ≤ mostPixels → x ≤ mostLevel → w * x ≤ 4294967295
@@ -91,9 +91,9 @@ module _ (used : ℕ) (ks ws : List ℕ) (t : Tabled used ks ws) where
 
   -- the sums of a group with what its next entry gives fit
   pub raises-fit : (m : ℕ → ℕ) (i : ℕ) {a : List ℕ} → i < used → m i < mostShades → Summed m ks ws i a
-      → (getD a (2 * m i) 0 + weighed twoOf ks ws i ≤ 18446744073709551615)
-      × (getD a (2 * m i + 1) 0 + weighed oneOf ks ws i ≤ 18446744073709551615)
+      → (getD a (2 * m i) 0 + weighed redGreen ks ws i ≤ 18446744073709551615)
+      × (getD a (2 * m i + 1) 0 + weighed bluePixels ks ws i ≤ 18446744073709551615)
   raises-fit m i h few s = (
-    rw (s .two (m i) few) (adds-fit twoOf two-at-most m i h),
-    rw (s .one (m i) few) (adds-fit oneOf one-at-most m i h),
+    rw (s .red-green (m i) few) (adds-fit redGreen red-green-at-most m i h),
+    rw (s .blue-pixels (m i) few) (adds-fit bluePixels blue-pixels-at-most m i h),
   )

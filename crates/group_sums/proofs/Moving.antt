@@ -10,13 +10,13 @@ use Rattle.number.specs.{sum}
 use Rattle.number.proofs.Sums.{sum-eq, sum-change}
 use Rattle.shades.specs.{mostShades}
 use Rattle.method.specs.{Tabled}
-use Rattle.group_sums.specs.Summing.{twoOf, oneOf, weighed, given, raised, lowered, Summed}
-use Rattle.group_sums.proofs.Bounds.{two-at-most, one-at-most, group-fits}
+use Rattle.group_sums.specs.Summing.{redGreen, bluePixels, weighed, given, raised, lowered, Summed}
+use Rattle.group_sums.proofs.Bounds.{red-green-at-most, blue-pixels-at-most, group-fits}
 use Rattle.group_sums.proofs.Summing.{
-  placed-two,
-  placed-one,
-  placed-other-two,
-  placed-other-one,
+  placed-first,
+  placed-second,
+  placed-other-first,
+  placed-other-second,
   given-own,
   given-other,
 }
@@ -83,57 +83,57 @@ module _ {m m′ : ℕ → ℕ} {n i : ℕ} (g : Goes m m′ i) (h : i < n) (f :
 pub summed-moved : {m m′ : ℕ → ℕ} (ks ws : List ℕ) {n i : ℕ} {t : List ℕ} → Summed m ks ws n t → Goes m m′ i → i < n
     → m i < mostShades → m′ i < mostShades
     → Summed m′ ks ws n
-    (raised (lowered t (m i) (weighed twoOf ks ws i) (weighed oneOf ks ws i)) (m′ i) (weighed twoOf ks ws i)
-    (weighed oneOf ks ws i))
+    (raised (lowered t (m i) (weighed redGreen ks ws i) (weighed bluePixels ks ws i)) (m′ i) (weighed redGreen ks ws i)
+    (weighed bluePixels ks ws i))
 summed-moved {m} {m′} ks ws {n} {i} {t} s g h few few′ =
-    let x = weighed twoOf ks ws i in
-    let y = weighed oneOf ks ws i in
+    let x = weighed redGreen ks ws i in
+    let y = weighed bluePixels ks ws i in
     let u = lowered t (m i) x y in
     let v = raised u (m′ i) x y in
     let long : length u ≡ 2 * mostShades = simp length-set (s .long) in
     record {
       long = simp length-set (s .long);
-      two =
-          given-moved g h (weighed twoOf ks ws) (λ q. getD t (2 * q) 0) (λ q. getD u (2 * q) 0) (λ q. getD v (2 * q) 0)
-          (s .two) few few′ (placed-two t (m i) _ _ (s .long) few) (placed-other-two t (m i) _ _)
-          (placed-two u (m′ i) _ _ long few′) (placed-other-two u (m′ i) _ _);
-      one =
-          given-moved g h (weighed oneOf ks ws) (λ q. getD t (2 * q + 1) 0) (λ q. getD u (2 * q + 1) 0)
-          (λ q. getD v (2 * q + 1) 0) (s .one) few few′ (placed-one t (m i) _ _ (s .long) few)
-          (placed-other-one t (m i) _ _) (placed-one u (m′ i) _ _ long few′) (placed-other-one u (m′ i) _ _);
+      red-green =
+          given-moved g h (weighed redGreen ks ws) (λ q. getD t (2 * q) 0) (λ q. getD u (2 * q) 0) (λ q. getD v (2 * q) 0)
+          (s .red-green) few few′ (placed-first t (m i) _ _ (s .long) few) (placed-other-first t (m i) _ _)
+          (placed-first u (m′ i) _ _ long few′) (placed-other-first u (m′ i) _ _);
+      blue-pixels =
+          given-moved g h (weighed bluePixels ks ws) (λ q. getD t (2 * q + 1) 0) (λ q. getD u (2 * q + 1) 0)
+          (λ q. getD v (2 * q + 1) 0) (s .blue-pixels) few few′ (placed-second t (m i) _ _ (s .long) few)
+          (placed-other-second t (m i) _ _) (placed-second u (m′ i) _ _ long few′) (placed-other-second u (m′ i) _ _);
     }
 
 -- what the entry gives is in the sums of the group that it leaves
 pub leaves-fit : {m m′ : ℕ → ℕ} (ks ws : List ℕ) {n i : ℕ} {t : List ℕ} → Summed m ks ws n t → Goes m m′ i → i < n
     → m i < mostShades
-    → (weighed twoOf ks ws i ≤ getD t (2 * m i) 0) × (weighed oneOf ks ws i ≤ getD t (2 * m i + 1) 0)
+    → (weighed redGreen ks ws i ≤ getD t (2 * m i) 0) × (weighed bluePixels ks ws i ≤ getD t (2 * m i + 1) 0)
 leaves-fit {m} ks ws {t = t} s g h few = (
-  omega (arith, s .two (m _) few, left-sum g h (weighed twoOf ks ws)),
-  omega (arith, s .one (m _) few, left-sum g h (weighed oneOf ks ws)),
+  omega (arith, s .red-green (m _) few, left-sum g h (weighed redGreen ks ws)),
+  omega (arith, s .blue-pixels (m _) few, left-sum g h (weighed bluePixels ks ws)),
 )
 
 -- and the sums of the group that it joins stay below 2^64
 pub joins-fit : {m m′ : ℕ → ℕ} {ks ws : List ℕ} {n i : ℕ} {t : List ℕ} → Tabled n ks ws → Summed m ks ws n t
     → Goes m m′ i → i < n → m′ i < mostShades
-    → let u = lowered t (m i) (weighed twoOf ks ws i) (weighed oneOf ks ws i) in
-    (getD u (2 * m′ i) 0 + weighed twoOf ks ws i ≤ 18446744073709551615)
-    × (getD u (2 * m′ i + 1) 0 + weighed oneOf ks ws i ≤ 18446744073709551615)
+    → let u = lowered t (m i) (weighed redGreen ks ws i) (weighed bluePixels ks ws i) in
+    (getD u (2 * m′ i) 0 + weighed redGreen ks ws i ≤ 18446744073709551615)
+    × (getD u (2 * m′ i + 1) 0 + weighed bluePixels ks ws i ≤ 18446744073709551615)
 joins-fit {m} {m′} {ks} {ws} {n} {i} {t} tab s g h few =
-    let x = getD t (2 * m i) 0 - weighed twoOf ks ws i in
-    let y = getD t (2 * m i + 1) 0 - weighed oneOf ks ws i in (
+    let x = getD t (2 * m i) 0 - weighed redGreen ks ws i in
+    let y = getD t (2 * m i + 1) 0 - weighed bluePixels ks ws i in (
       omega (
         arith,
-        placed-other-two t (m i) x y (m′ i) (λ z. g .other (sym z)),
-        s .two (m′ i) few,
-        joined-sum g h (weighed twoOf ks ws),
-        group-fits n ks ws tab twoOf two-at-most m′ (m′ i),
+        placed-other-first t (m i) x y (m′ i) (λ z. g .other (sym z)),
+        s .red-green (m′ i) few,
+        joined-sum g h (weighed redGreen ks ws),
+        group-fits n ks ws tab redGreen red-green-at-most m′ (m′ i),
       ),
       omega (
         arith,
-        placed-other-one t (m i) x y (m′ i) (λ z. g .other (sym z)),
-        s .one (m′ i) few,
-        joined-sum g h (weighed oneOf ks ws),
-        group-fits n ks ws tab oneOf one-at-most m′ (m′ i),
+        placed-other-second t (m i) x y (m′ i) (λ z. g .other (sym z)),
+        s .blue-pixels (m′ i) few,
+        joined-sum g h (weighed bluePixels ks ws),
+        group-fits n ks ws tab bluePixels blue-pixels-at-most m′ (m′ i),
       ),
     )
 
@@ -142,6 +142,6 @@ pub summed-same : (m m′ : ℕ → ℕ) (ks ws : List ℕ) (n : ℕ) (t : List 
     → Summed m ks ws n t → Summed m′ ks ws n t
 summed-same m m′ ks ws n t e s = record {
   long = s .long;
-  two = λ q h. s .two q h ∙ sum-eq n _ _ (λ i l. rw (e i l));
-  one = λ q h. s .one q h ∙ sum-eq n _ _ (λ i l. rw (e i l));
+  red-green = λ q h. s .red-green q h ∙ sum-eq n _ _ (λ i l. rw (e i l));
+  blue-pixels = λ q h. s .blue-pixels q h ∙ sum-eq n _ _ (λ i l. rw (e i l));
 }

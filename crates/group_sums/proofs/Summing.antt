@@ -11,41 +11,41 @@ use borrow.Author.Tests.{eq-eqb, ne-eqb}
 use Rattle.number.specs.{sum}
 use Rattle.number.proofs.Sums.{sum-more}
 use Rattle.shades.specs.{mostShades}
-use Rattle.group_sums.specs.Summing.{twoOf, oneOf, weighed, given, placed, raised, Summed}
+use Rattle.group_sums.specs.Summing.{redGreen, bluePixels, weighed, given, placed, raised, Summed}
 
 -- over no entry every sum is 0
 pub summed-none : (m : ℕ → ℕ) (ks ws : List ℕ) → Summed m ks ws 0 (replicate 128 0)
 unfolding sum
 summed-none m ks ws = record {
   long = refl;
-  two = λ q h. getD-replicate 128 (2 * q) 0 0 (omega arith);
-  one = λ q h. getD-replicate 128 (2 * q + 1) 0 0 (omega arith);
+  red-green = λ q h. getD-replicate 128 (2 * q) 0 0 (omega arith);
+  blue-pixels = λ q h. getD-replicate 128 (2 * q + 1) 0 0 (omega arith);
 }
 
 -- ---- two places of the sums
 
 module _ (t : List ℕ) (p x y : ℕ) where
   -- the first sum of the group is x
-  pub placed-two : length t ≡ 2 * mostShades → p < mostShades → getD (placed t p x y) (2 * p) 0 ≡ x
-  placed-two long few =
+  pub placed-first : length t ≡ 2 * mostShades → p < mostShades → getD (placed t p x y) (2 * p) 0 ≡ x
+  placed-first long few =
       getD-set-other (set t (2 * p) x) (2 * p + 1) (2 * p) y 0 (λ z. omega arith)
       ∙ getD-set-same t (2 * p) x 0 (omega arith)
 
   -- the second sum of the group is y
-  pub placed-one : length t ≡ 2 * mostShades → p < mostShades → getD (placed t p x y) (2 * p + 1) 0 ≡ y
-  placed-one long few = getD-set-same (set t (2 * p) x) (2 * p + 1) y 0 (simp length-set (omega arith))
+  pub placed-second : length t ≡ 2 * mostShades → p < mostShades → getD (placed t p x y) (2 * p + 1) 0 ≡ y
+  placed-second long few = getD-set-same (set t (2 * p) x) (2 * p + 1) y 0 (simp length-set (omega arith))
 
   -- every other place stays
   placed-other : (n : ℕ) → (n ≡ 2 * p → ⊥) → (n ≡ 2 * p + 1 → ⊥) → getD (placed t p x y) n 0 ≡ getD t n 0
   placed-other n d e = getD-set-other (set t (2 * p) x) (2 * p + 1) n y 0 e ∙ getD-set-other t (2 * p) n x 0 d
 
   -- the first sum of every other group stays
-  pub placed-other-two : (q : ℕ) → (q ≡ p → ⊥) → getD (placed t p x y) (2 * q) 0 ≡ getD t (2 * q) 0
-  placed-other-two q d = placed-other (2 * q) (λ z. d (omega arith)) (λ z. omega arith)
+  pub placed-other-first : (q : ℕ) → (q ≡ p → ⊥) → getD (placed t p x y) (2 * q) 0 ≡ getD t (2 * q) 0
+  placed-other-first q d = placed-other (2 * q) (λ z. d (omega arith)) (λ z. omega arith)
 
   -- and so does the second
-  pub placed-other-one : (q : ℕ) → (q ≡ p → ⊥) → getD (placed t p x y) (2 * q + 1) 0 ≡ getD t (2 * q + 1) 0
-  placed-other-one q d = placed-other (2 * q + 1) (λ z. omega arith) (λ z. d (omega arith))
+  pub placed-other-second : (q : ℕ) → (q ≡ p → ⊥) → getD (placed t p x y) (2 * q + 1) 0 ≡ getD t (2 * q + 1) 0
+  placed-other-second q d = placed-other (2 * q + 1) (λ z. omega arith) (λ z. d (omega arith))
 
 -- ---- what an entry gives
 
@@ -72,17 +72,17 @@ given-more m f a b i sums mine others q h = elim (ℕ-discrete q (m i)) [
 
 -- entry i raises the sums of its group
 pub summed-more : (m : ℕ → ℕ) (ks ws : List ℕ) (i : ℕ) (t : List ℕ) → Summed m ks ws i t → m i < mostShades
-    → Summed m ks ws (i + 1) (raised t (m i) (weighed twoOf ks ws i) (weighed oneOf ks ws i))
+    → Summed m ks ws (i + 1) (raised t (m i) (weighed redGreen ks ws i) (weighed bluePixels ks ws i))
 summed-more m ks ws i t s few =
-    let x = weighed twoOf ks ws i in
-    let y = weighed oneOf ks ws i in
+    let x = weighed redGreen ks ws i in
+    let y = weighed bluePixels ks ws i in
     let u = raised t (m i) x y in
     record {
       long = simp length-set (s .long);
-      two =
-          given-more m (weighed twoOf ks ws) (λ q. getD t (2 * q) 0) (λ q. getD u (2 * q) 0) i (s .two)
-          (placed-two t (m i) _ _ (s .long) few) (placed-other-two t (m i) _ _);
-      one =
-          given-more m (weighed oneOf ks ws) (λ q. getD t (2 * q + 1) 0) (λ q. getD u (2 * q + 1) 0) i (s .one)
-          (placed-one t (m i) _ _ (s .long) few) (placed-other-one t (m i) _ _);
+      red-green =
+          given-more m (weighed redGreen ks ws) (λ q. getD t (2 * q) 0) (λ q. getD u (2 * q) 0) i (s .red-green)
+          (placed-first t (m i) _ _ (s .long) few) (placed-other-first t (m i) _ _);
+      blue-pixels =
+          given-more m (weighed bluePixels ks ws) (λ q. getD t (2 * q + 1) 0) (λ q. getD u (2 * q + 1) 0) i (s .blue-pixels)
+          (placed-second t (m i) _ _ (s .long) few) (placed-other-second t (m i) _ _);
     }

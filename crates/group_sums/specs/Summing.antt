@@ -10,12 +10,12 @@ use Rattle.colour.specs.{redOf, greenOf, blueOf}
 use Rattle.shades.specs.{mostShades}
 
 -- the red and the green level of a key, in one
-abbrev pub twoOf : ℕ → ℕ
-twoOf key = 4294967296 * redOf key + greenOf key
+abbrev pub redGreen : ℕ → ℕ
+redGreen key = 4294967296 * redOf key + greenOf key
 
 -- the blue level of a key and 1, in one
-abbrev pub oneOf : ℕ → ℕ
-oneOf key = 4294967296 * blueOf key + 1
+abbrev pub bluePixels : ℕ → ℕ
+bluePixels key = 4294967296 * blueOf key + 1
 
 -- the weight of entry i times f of its key
 abbrev pub weighed : (ℕ → ℕ) → List ℕ → List ℕ → ℕ → ℕ
@@ -40,8 +40,8 @@ lowered t q x y = placed t q (getD t (2 * q) 0 - x) (getD t (2 * q + 1) 0 - y)
 -- the sums of 64 groups over the first n entries
 pub record Summed (m : ℕ → ℕ) (ks ws : List ℕ) (n : ℕ) (t : List ℕ) : Type 0 where
   pub long : length t ≡ 2 * mostShades
-  pub two : (q : ℕ) → q < mostShades → getD t (2 * q) 0 ≡ sum n (given m (weighed twoOf ks ws) q)
-  pub one : (q : ℕ) → q < mostShades → getD t (2 * q + 1) 0 ≡ sum n (given m (weighed oneOf ks ws) q)
+  pub red-green : (q : ℕ) → q < mostShades → getD t (2 * q) 0 ≡ sum n (given m (weighed redGreen ks ws) q)
+  pub blue-pixels : (q : ℕ) → q < mostShades → getD t (2 * q + 1) 0 ≡ sum n (given m (weighed bluePixels ks ws) q)
 
 -- the group of entry i, as the members tell
 abbrev pub memberAt : List ℕ → ℕ → ℕ

@@ -4,7 +4,7 @@ ghost use Prim.Native.Nat.{_+_, _*_, _/_, _%_, _<_, _≤_};
 ghost use lib.ListN.{getD};
 ghost use Rattle.colour.specs.{mostPixels, mostDistance};
 ghost use Rattle.shades.specs.{mostShades};
-ghost use Rattle.group_sums.specs.Summing.{twoOf, oneOf, placed, raised, lowered};
+ghost use Rattle.group_sums.specs.Summing.{redGreen, bluePixels, placed, raised, lowered};
 use super::Gift;
 
 // A sum of at most 2^24 levels, in 64 bits.
@@ -23,17 +23,17 @@ fn pair(x: u32, y: u32) -> u64
 
 // The weight times red and green level, in one: products of 32 bits, put side by side. Requires a
 // table's weight.
-pub fn two_of(weight: u32, key: u32) -> u64
+pub fn red_green(weight: u32, key: u32) -> u64
     requires { ⌜ weight ≤ mostPixels ⌝ }
-    ensures { λ r. ⌜ r ≡ weight * twoOf key ⌝ }
+    ensures { λ r. ⌜ r ≡ weight * redGreen key ⌝ }
 {
     pair(weight * colour::red_of(key), weight * colour::green_of(key))
 }
 
 // The weight times blue level, and the weight, in one. Requires a table's weight.
-pub fn one_of(weight: u32, key: u32) -> u64
+pub fn blue_pixels(weight: u32, key: u32) -> u64
     requires { ⌜ weight ≤ mostPixels ⌝ }
-    ensures { λ r. ⌜ r ≡ weight * oneOf key ⌝ }
+    ensures { λ r. ⌜ r ≡ weight * bluePixels key ⌝ }
 {
     pair(weight * colour::blue_of(key), weight)
 }
@@ -44,14 +44,14 @@ pub fn gift_of(weight: u32, key: u32, best: u32) -> Gift
     requires { ⌜ (weight ≤ mostPixels) × (best / mostShades ≤ mostDistance) ⌝ }
     ensures number { λ r. ⌜ r .number ≡ best % mostShades ⌝ }
     ensures cost { λ r. ⌜ r .cost ≡ weight * (best / mostShades) ⌝ }
-    ensures two { λ r. ⌜ r .two ≡ weight * twoOf key ⌝ }
-    ensures one { λ r. ⌜ r .one ≡ weight * oneOf key ⌝ }
+    ensures first { λ r. ⌜ r .first ≡ weight * redGreen key ⌝ }
+    ensures second { λ r. ⌜ r .second ≡ weight * bluePixels key ⌝ }
 {
     Gift {
         number: best % 64,
         cost: shades::cost(weight, best / 64),
-        two: two_of(weight, key),
-        one: one_of(weight, key),
+        first: red_green(weight, key),
+        second: blue_pixels(weight, key),
     }
 }
 
@@ -72,9 +72,9 @@ pub fn raise(t: &mut [u64; 128], q: usize, x: u64, y: u64)
     ensures { λ _. ⌜ now (t .exit) ≡ raised (now (t .entry)) q x y ⌝ }
 {
     let a = 2 * q;
-    let two = t[a] + x;
-    let one = t[a + 1] + y;
-    put(t, q, two, one);
+    let red_green = t[a] + x;
+    let blue_pixels = t[a + 1] + y;
+    put(t, q, red_green, blue_pixels);
 }
 
 // Takes `x` and `y` from the two sums of group `q`. Requires that they are in them.
@@ -84,7 +84,7 @@ pub fn lower(t: &mut [u64; 128], q: usize, x: u64, y: u64)
     ensures { λ _. ⌜ now (t .exit) ≡ lowered (now (t .entry)) q x y ⌝ }
 {
     let a = 2 * q;
-    let two = t[a] - x;
-    let one = t[a + 1] - y;
-    put(t, q, two, one);
+    let red_green = t[a] - x;
+    let blue_pixels = t[a + 1] - y;
+    put(t, q, red_green, blue_pixels);
 }

@@ -2,26 +2,26 @@
 // how they are raised.
 //
 // Calls; none refuses, and what one requires stands above it
-//   two_of    weight times red and green level          give.rt
-//   one_of    weight times blue level, and the weight
-//   gift_of   what an entry gives to its group
-//   raise     adds to the two sums of a group
-//   lower     takes from them
+//   red_green     weight times red and green level, in one    give.rt
+//   blue_pixels   weight times blue level, and the weight
+//   gift_of       what an entry gives to its group
+//   raise         adds to the two sums of a group
+//   lower         takes from them
 //
 // Read next: specs/Lib.antt (what the words mean), proofs/Lib.antt (what is shown).
 
 mod give;
 
+pub use give::blue_pixels;
 pub use give::gift_of;
 pub use give::lower;
-pub use give::one_of;
 pub use give::raise;
-pub use give::two_of;
+pub use give::red_green;
 
-// What an entry joins, what that costs, and what it gives to its group's sums.
+// What an entry joins, what that costs, and what it gives to its group's two sums.
 pub struct Gift {
     pub number: u32,
     pub cost: u64,
-    pub two: u64,
-    pub one: u64,
+    pub first: u64,
+    pub second: u64,
 }

@@ -39,7 +39,7 @@ pub fn group_plain(
         members[i] = q;
         total += a.cost;
         count += k as u64;
-        raise(t, q as usize, a.two, a.one);
+        raise(t, q as usize, a.first, a.second);
         i += 1;
     }
     Regrouped { total, count }

@@ -7,10 +7,10 @@ ghost use Rattle.method.specs.{Tabled, stateOf, coloursOf, shortDistances};
 ghost use Rattle.group_sums.specs.{Summed, Assigned, memberAt};
 ghost use Rattle.groups.specs.Grouping.{Groupable, Tracks, Grouped, covered};
 use super::Regrouped;
+use group_sums::blue_pixels;
 use group_sums::lower;
-use group_sums::one_of;
 use group_sums::raise;
-use group_sums::two_of;
+use group_sums::red_green;
 use search_near::Met;
 
 // The nearest shade of entry `i`, from its member, by the rows that `g` has.
@@ -62,9 +62,9 @@ fn enter(
     ensures sums { λ _. ⌜ Summed (memberAt (now (members .exit))) (now (keys .entry))
         (now (weights .entry)) (i + 1) (now (t .exit)) ⌝ }
 {
-    let two = two_of(weights[i], keys[i]);
-    let one = one_of(weights[i], keys[i]);
-    raise(t, q as usize, two, one);
+    let red_green = red_green(weights[i], keys[i]);
+    let blue_pixels = blue_pixels(weights[i], keys[i]);
+    raise(t, q as usize, red_green, blue_pixels);
     members[i] = q;
 }
 
@@ -93,10 +93,10 @@ fn go_over(
     }
     let from = p as usize;
     let to = q as usize;
-    let two = two_of(weights[i], keys[i]);
-    let one = one_of(weights[i], keys[i]);
-    lower(t, from, two, one);
-    raise(t, to, two, one);
+    let red_green = red_green(weights[i], keys[i]);
+    let blue_pixels = blue_pixels(weights[i], keys[i]);
+    lower(t, from, red_green, blue_pixels);
+    raise(t, to, red_green, blue_pixels);
     members[i] = q;
 }
 

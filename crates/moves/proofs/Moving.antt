@@ -16,7 +16,7 @@ use Rattle.shades.specs.{mostShades, mostCoordinates, shadeAt, axis, coordinate
 use Rattle.shades.proofs.Laying.{coordinate-at, first-coordinate}
 use Rattle.method.specs.{Colours, Tabled, coloursOf, pixelsIn, sumsOf, meanOf, groupOf, toMean}
 use Rattle.method.proofs.Totals.{weight-times}
-use Rattle.group_sums.specs.{twoOf, oneOf, weighed, given, Summed}
+use Rattle.group_sums.specs.{redGreen, bluePixels, weighed, given, Summed}
 use Rattle.group_sums.proofs.Bounds.{given-at-most}
 use Rattle.moves.specs.Reading.{sumIn, goes, stays, Measured}
 use Rattle.moves.proofs.Pairs.{Parts, parts}
@@ -69,7 +69,7 @@ module _ (used : ℕ) (ks ws : List ℕ) (t : Tabled used ks ws)
   group-parts : (q : ℕ) → q < mostShades → Parts (group q) (getD sums (2 * q) 0) (getD sums (2 * q + 1) 0)
   group-parts q l =
       parts used (group q .w) (λ i. getD ks i 0) _ _ (le-trans (group-few q) (t .pixels))
-      (h .two q l ∙ group-given twoOf q) (h .one q l ∙ group-given oneOf q)
+      (h .red-green q l ∙ group-given redGreen q) (h .blue-pixels q l ∙ group-given bluePixels q)
 
   -- one of its coordinate sums
   sum-is : (e q : ℕ) → q < mostShades → sumIn sums e q ≡ axis e (sumsOf (group q))

@@ -8,7 +8,7 @@ use Rattle.number.proofs.Sums.{sum-add, sum-eq, sum-le, sum-mul}
 use Rattle.colour.specs.{mostLevel, mostCoordinate, mostPixels, redOf, greenOf, blueOf, colourOf}
 use Rattle.shades.specs.{axis}
 use Rattle.method.specs.{Colours, pixelsIn, sumsOf}
-use Rattle.group_sums.specs.{twoOf, oneOf}
+use Rattle.group_sums.specs.{redGreen, bluePixels}
 
 -- two numbers of 64 bits hold the pixel count and the coordinate sums of the colours, which are a table's
 pub record Parts (C : Colours) (two one : ℕ) : Type 0 where
@@ -54,8 +54,8 @@ module _ (n : ℕ) (w key : ℕ → ℕ) where
   keyed = record { n = n; w = w; c = λ i. colourOf (key i) }
 
   -- the sums of two levels in one, and of the third and 1 in one, are the parts of the colours
-  pub parts : (two one : ℕ) → sum n w ≤ mostPixels → two ≡ sum n (λ i. w i * twoOf (key i))
-      → one ≡ sum n (λ i. w i * oneOf (key i)) → Parts keyed two one
+  pub parts : (two one : ℕ) → sum n w ≤ mostPixels → two ≡ sum n (λ i. w i * redGreen (key i))
+      → one ≡ sum n (λ i. w i * bluePixels (key i)) → Parts keyed two one
   parts two one few e f =
       let pair = level-pair redOf greenOf in
       let last = level-pair blueOf (λ k. 1) in

@@ -8,7 +8,7 @@ use Rattle.colour.specs.{mostPixels, mostDistance}
 use Rattle.shades.specs.{mostShades, colourAt, packedNearest}
 use Rattle.shades.proofs.Nearest.{packed-found}
 use Rattle.method.specs.{coloursOf, joins}
-use Rattle.group_sums.specs.{twoOf, oneOf, weighed, raised, Summed}
+use Rattle.group_sums.specs.{redGreen, bluePixels, weighed, raised, Summed}
 use Rattle.group_sums.proofs.Bounds.{raises-fit}
 use Rattle.group_sums.proofs.Summing.{summed-more}
 use Rattle.groups.proofs.Turns.{Turned, Finds, turned-some, turned-low, number-below}
@@ -29,7 +29,7 @@ module _ {used : ℕ} {ks ws s : List ℕ} {k : ℕ} {works : ℕ → ℕ} {befo
       record { number-is = n ∙ f .0; cost-is = c ∙ ap (λ d. getD ws i 0 * d) (f .1) }
 
   module _ {t : List ℕ} (sums : Summed (joins (coloursOf used ks ws) k s) ks ws i t) {number cost two one : ℕ}
-      (g : Finds ks ws s k i number cost) (p : two ≡ weighed twoOf ks ws i) (q : one ≡ weighed oneOf ks ws i) where
+      (g : Finds ks ws s k i number cost) (p : two ≡ weighed redGreen ks ws i) (q : one ≡ weighed bluePixels ks ws i) where
     -- the sums of the entry's group are there and stay below 2^64
     pub raised-fit : (number < mostShades) × (getD t (2 * number) 0 + two ≤ 18446744073709551615)
         × (getD t (2 * number + 1) 0 + one ≤ 18446744073709551615)

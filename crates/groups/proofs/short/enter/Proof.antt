@@ -26,35 +26,35 @@ before : (st : tie.Start)
     → Summed (groups st) (now (st .args .keys)) (now (st .args .weights)) (st .args .i) (now (st .args .t))
 before st = joined-before (now (st .args .members)) (st .args .i) (st .args .q) (st .pre .2)
 
-mul-two-of : tie.Need-mul-two-of
-mul-two-of c = search needs
+mul-red-green : tie.Need-mul-red-green
+mul-red-green c = search needs
 
-shared-slice-read-two-of : tie.Need-shared-slice-read-two-of
-shared-slice-read-two-of c = search needs
+shared-slice-read-red-green : tie.Need-shared-slice-read-red-green
+shared-slice-read-red-green c = search needs
 
-mul-two-of-2 : tie.Need-mul-two-of-2
-mul-two-of-2 c = search needs
+mul-red-green-2 : tie.Need-mul-red-green-2
+mul-red-green-2 c = search needs
 
-shared-slice-read-two-of-2 : tie.Need-shared-slice-read-two-of-2
-shared-slice-read-two-of-2 c = search needs
+shared-slice-read-red-green-2 : tie.Need-shared-slice-read-red-green-2
+shared-slice-read-red-green-2 c = search needs
 
-two-of-requires : tie.Need-two-of-requires
-two-of-requires c κs = let p = c .before .before .before .before .before .pre in weight-at-most _ _ _ (p .0) _ (p .3)
+red-green-requires : tie.Need-red-green-requires
+red-green-requires c κs = let p = c .before .before .before .before .before .pre in weight-at-most _ _ _ (p .0) _ (p .3)
 
-mul-one-of : tie.Need-mul-one-of
-mul-one-of c = search needs
+mul-blue-pixels : tie.Need-mul-blue-pixels
+mul-blue-pixels c = search needs
 
-shared-slice-read-one-of : tie.Need-shared-slice-read-one-of
-shared-slice-read-one-of c = search needs
+shared-slice-read-blue-pixels : tie.Need-shared-slice-read-blue-pixels
+shared-slice-read-blue-pixels c = search needs
 
-mul-one-of-2 : tie.Need-mul-one-of-2
-mul-one-of-2 c = search needs
+mul-blue-pixels-2 : tie.Need-mul-blue-pixels-2
+mul-blue-pixels-2 c = search needs
 
-shared-slice-read-one-of-2 : tie.Need-shared-slice-read-one-of-2
-shared-slice-read-one-of-2 c = search needs
+shared-slice-read-blue-pixels-2 : tie.Need-shared-slice-read-blue-pixels-2
+shared-slice-read-blue-pixels-2 c = search needs
 
-one-of-requires : tie.Need-one-of-requires
-one-of-requires c κs = let p = c .before .before .before .before .before .before .before .before .pre in weight-at-most _ _ _ (p .0) _ (p .3)
+blue-pixels-requires : tie.Need-blue-pixels-requires
+blue-pixels-requires c κs = let p = c .before .before .before .before .before .before .before .before .pre in weight-at-most _ _ _ (p .0) _ (p .3)
 
 raise-requires : tie.Need-raise-requires
 raise-requires c κs =
@@ -62,7 +62,7 @@ raise-requires c κs =
     let p = st .pre in
     let e = there st in
     let f = raises-fit _ _ _ (p .0) (groups st) (st .args .i) (p .3) (rw e (p .4)) (before st) in
-    rw (c .before .before .before .before .two-of .ensures, c .before .one-of .ensures) (p .4, rw e at (f .0), rw e at (f .1))
+    rw (c .before .before .before .before .red-green .ensures, c .before .blue-pixels .ensures) (p .4, rw e at (f .0), rw e at (f .1))
 
 mul-members : tie.Need-mul-members
 mul-members c = search needs
@@ -78,22 +78,22 @@ returns c =
     let st = c .before .before .before .before .before .before .before .before .before .before .before in
     let e = there st in
     let f = summed-more (groups st) _ _ (st .args .i) _ (before st) (rw e (st .pre .4)) in
-    (refl, rw (c .raise .ensures, c .before .before .before .before .before .two-of .ensures, c .before .before .one-of .ensures) (rw e at f))
+    (refl, rw (c .raise .ensures, c .before .before .before .before .before .red-green .ensures, c .before .before .blue-pixels .ensures) (rw e at f))
 
 pub enter-spec : {M : Type 1} → statement M
 enter-spec =
     tie.close
     (tie.spec
-    mul-two-of
-    shared-slice-read-two-of
-    mul-two-of-2
-    shared-slice-read-two-of-2
-    two-of-requires
-    mul-one-of
-    shared-slice-read-one-of
-    mul-one-of-2
-    shared-slice-read-one-of-2
-    one-of-requires
+    mul-red-green
+    shared-slice-read-red-green
+    mul-red-green-2
+    shared-slice-read-red-green-2
+    red-green-requires
+    mul-blue-pixels
+    shared-slice-read-blue-pixels
+    mul-blue-pixels-2
+    shared-slice-read-blue-pixels-2
+    blue-pixels-requires
     raise-requires
     mul-members
     slice-write-members

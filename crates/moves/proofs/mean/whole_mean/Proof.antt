@@ -13,7 +13,7 @@ read-off : (c : tie.After-whole-sums)
     → Parts
     (coloursOf (c .before .before .before .args .used) (now (c .before .before .before .args .keys))
     (now (c .before .before .before .args .weights)))
-    (c .whole-sums .result .two) (c .whole-sums .result .one)
+    (c .whole-sums .result .first) (c .whole-sums .result .second)
 read-off c =
     let st = c .before .before .before in
     let e = c .whole-sums .ensures in

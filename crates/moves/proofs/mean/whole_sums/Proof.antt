@@ -2,72 +2,72 @@
 use Prim.Native.Nat.{_-_}
 use native.Mathlib.Omega.{arith}
 use denote.Ref.{now}
-use Rattle.group_sums.specs.{twoOf, oneOf}
-use Rattle.group_sums.proofs.Bounds.{two-at-most, one-at-most, weight-at-most, whole-adds-fit}
+use Rattle.group_sums.specs.{redGreen, bluePixels}
+use Rattle.group_sums.proofs.Bounds.{red-green-at-most, blue-pixels-at-most, weight-at-most, whole-adds-fit}
 use Rattle.moves.proofs.mean.Totals.{Totalling, totalling-start, totalling-step, totalling-done}
 use Rattle.moves.proofs.mean.whole_sums.Statement.{statement}
 use Rattle.moves.proofs.mean.whole_sums.Tie as tie
 
 abbrev Inv-loop : tie.InvT-loop
-Inv-loop keys weights used two₀ one₀ i₀ two one i = Totalling keys weights used two one i
+Inv-loop keys weights used red-green₀ blue-pixels₀ i₀ red-green blue-pixels i = Totalling keys weights used red-green blue-pixels i
 
 abbrev μ-loop : tie.MeasureT-loop
-μ-loop keys weights used two₀ one₀ i₀ two one i = used - i
+μ-loop keys weights used red-green₀ blue-pixels₀ i₀ red-green blue-pixels i = used - i
 
 loop-holds : tie.Need-loop-holds Inv-loop μ-loop
 loop-holds c =
     let a = c .before .before .args in
     totalling-start (now (a .keys)) (now (a .weights)) (a .used)
 
-mul-two-of : tie.Need-mul-two-of Inv-loop μ-loop
-mul-two-of c = omega arith
+mul-red-green : tie.Need-mul-red-green Inv-loop μ-loop
+mul-red-green c = omega arith
 
-shared-slice-read-two-of : tie.Need-shared-slice-read-two-of Inv-loop μ-loop
-shared-slice-read-two-of c = omega arith
+shared-slice-read-red-green : tie.Need-shared-slice-read-red-green Inv-loop μ-loop
+shared-slice-read-red-green c = omega arith
 
-mul-two-of-2 : tie.Need-mul-two-of-2 Inv-loop μ-loop
-mul-two-of-2 c = omega arith
+mul-red-green-2 : tie.Need-mul-red-green-2 Inv-loop μ-loop
+mul-red-green-2 c = omega arith
 
-shared-slice-read-two-of-2 : tie.Need-shared-slice-read-two-of-2 Inv-loop μ-loop
-shared-slice-read-two-of-2 c = omega arith
+shared-slice-read-red-green-2 : tie.Need-shared-slice-read-red-green-2 Inv-loop μ-loop
+shared-slice-read-red-green-2 c = omega arith
 
-two-of-requires : tie.Need-two-of-requires Inv-loop μ-loop
-two-of-requires c κs =
+red-green-requires : tie.Need-red-green-requires Inv-loop μ-loop
+red-green-requires c κs =
     let p = c .before .before .before .before .before .before .pre in
     weight-at-most _ _ _ p _ (omega arith)
 
-add-two : tie.Need-add-two Inv-loop μ-loop
-add-two c =
+add-red-green : tie.Need-add-red-green Inv-loop μ-loop
+add-red-green c =
     let turn = c .before .before .before in
     let l = turn .before .loop in
     let p = turn .before .before .before .before .pre in
-    rw (l .inv .twos, c .two-of .ensures)
-    (omega (arith, whole-adds-fit _ _ _ p twoOf two-at-most (l .i) (turn .loop-test .taken)))
+    rw (l .inv .red-green, c .red-green .ensures)
+    (omega (arith, whole-adds-fit _ _ _ p redGreen red-green-at-most (l .i) (turn .loop-test .taken)))
 
-mul-one-of : tie.Need-mul-one-of Inv-loop μ-loop
-mul-one-of c = omega arith
+mul-blue-pixels : tie.Need-mul-blue-pixels Inv-loop μ-loop
+mul-blue-pixels c = omega arith
 
-shared-slice-read-one-of : tie.Need-shared-slice-read-one-of Inv-loop μ-loop
-shared-slice-read-one-of c = omega arith
+shared-slice-read-blue-pixels : tie.Need-shared-slice-read-blue-pixels Inv-loop μ-loop
+shared-slice-read-blue-pixels c = omega arith
 
-mul-one-of-2 : tie.Need-mul-one-of-2 Inv-loop μ-loop
-mul-one-of-2 c = omega arith
+mul-blue-pixels-2 : tie.Need-mul-blue-pixels-2 Inv-loop μ-loop
+mul-blue-pixels-2 c = omega arith
 
-shared-slice-read-one-of-2 : tie.Need-shared-slice-read-one-of-2 Inv-loop μ-loop
-shared-slice-read-one-of-2 c = omega arith
+shared-slice-read-blue-pixels-2 : tie.Need-shared-slice-read-blue-pixels-2 Inv-loop μ-loop
+shared-slice-read-blue-pixels-2 c = omega arith
 
-one-of-requires : tie.Need-one-of-requires Inv-loop μ-loop
-one-of-requires c κs =
+blue-pixels-requires : tie.Need-blue-pixels-requires Inv-loop μ-loop
+blue-pixels-requires c κs =
     let turn = c .before .before .before .before .before in
     weight-at-most _ _ _ (turn .before .before .before .before .pre) _ (omega arith)
 
-add-one : tie.Need-add-one Inv-loop μ-loop
-add-one c =
+add-blue-pixels : tie.Need-add-blue-pixels Inv-loop μ-loop
+add-blue-pixels c =
     let turn = c .before .before .before .before .before .before in
     let l = turn .before .loop in
     let p = turn .before .before .before .before .pre in
-    rw (l .inv .ones, c .one-of .ensures)
-    (omega (arith, whole-adds-fit _ _ _ p oneOf one-at-most (l .i) (turn .loop-test .taken)))
+    rw (l .inv .blue-pixels, c .blue-pixels .ensures)
+    (omega (arith, whole-adds-fit _ _ _ p bluePixels blue-pixels-at-most (l .i) (turn .loop-test .taken)))
 
 add-i : tie.Need-add-i Inv-loop μ-loop
 add-i c = omega arith
@@ -79,7 +79,7 @@ loop-again : tie.Need-loop-again Inv-loop μ-loop
 loop-again c =
     let turn = c .before .before .before .before .before .before in
     totalling-step (turn .before .loop .inv) (turn .loop-test .taken) _ _
-    (c .before .before .before .two-of .ensures) (c .one-of .ensures)
+    (c .before .before .before .red-green .ensures) (c .blue-pixels .ensures)
 
 returns : tie.Need-returns Inv-loop μ-loop
 returns c = totalling-done (c .before .loop .inv) (c .loop-test .left)
@@ -91,18 +91,18 @@ whole-sums-spec =
     Inv-loop
     μ-loop
     loop-holds
-    mul-two-of
-    shared-slice-read-two-of
-    mul-two-of-2
-    shared-slice-read-two-of-2
-    two-of-requires
-    add-two
-    mul-one-of
-    shared-slice-read-one-of
-    mul-one-of-2
-    shared-slice-read-one-of-2
-    one-of-requires
-    add-one
+    mul-red-green
+    shared-slice-read-red-green
+    mul-red-green-2
+    shared-slice-read-red-green-2
+    red-green-requires
+    add-red-green
+    mul-blue-pixels
+    shared-slice-read-blue-pixels
+    mul-blue-pixels-2
+    shared-slice-read-blue-pixels-2
+    blue-pixels-requires
+    add-blue-pixels
     add-i
     loop-less
     loop-again

@@ -1,10 +1,10 @@
--- `one_of` answers the weight times the blue level, and the weight.
+-- `blue_pixels` answers the weight times the blue level, and the weight.
 use native.Mathlib.Omega.{arith}
 use borrow.Author.Needs.{needs}
 use Rattle.colour.specs.{blueOf}
 use Rattle.group_sums.proofs.Bounds.{times-fits, times-pair}
-use Rattle.group_sums.proofs.give.one_of.Statement.{statement}
-use Rattle.group_sums.proofs.give.one_of.Tie as tie
+use Rattle.group_sums.proofs.give.blue_pixels.Statement.{statement}
+use Rattle.group_sums.proofs.give.blue_pixels.Tie as tie
 
 blue-of-requires : tie.Need-blue-of-requires
 blue-of-requires c κs = search needs
@@ -21,8 +21,8 @@ returns c =
     rw (c .pair .ensures, c .before .blue-of .ensures .0)
     (omega (arith, times-pair (a .weight) (blueOf (a .key)) 1))
 
-pub one-of-spec : {M : Type 1} → statement M
-one-of-spec =
+pub blue-pixels-spec : {M : Type 1} → statement M
+blue-pixels-spec =
     tie.close
     (tie.spec
     blue-of-requires

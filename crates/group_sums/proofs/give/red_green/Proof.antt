@@ -1,10 +1,10 @@
--- `two_of` answers the weight times both levels: each product fits in 32 bits.
+-- `red_green` answers the weight times both levels: each product fits in 32 bits.
 use native.Mathlib.Omega.{arith}
 use borrow.Author.Needs.{needs}
 use Rattle.colour.specs.{redOf, greenOf}
 use Rattle.group_sums.proofs.Bounds.{times-fits, times-pair}
-use Rattle.group_sums.proofs.give.two_of.Statement.{statement}
-use Rattle.group_sums.proofs.give.two_of.Tie as tie
+use Rattle.group_sums.proofs.give.red_green.Statement.{statement}
+use Rattle.group_sums.proofs.give.red_green.Tie as tie
 
 red-of-requires : tie.Need-red-of-requires
 red-of-requires c κs = search needs
@@ -27,8 +27,8 @@ returns c =
     rw (c .pair .ensures, c .before .before .red-of .ensures .0, c .before .green-of .ensures .0)
     (times-pair (a .weight) (redOf (a .key)) (greenOf (a .key)))
 
-pub two-of-spec : {M : Type 1} → statement M
-two-of-spec =
+pub red-green-spec : {M : Type 1} → statement M
+red-green-spec =
     tie.close
     (tie.spec
     red-of-requires
