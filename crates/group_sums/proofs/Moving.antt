@@ -9,9 +9,11 @@ use lib.ListN.{length, getD, length-set}
 use Rattle.number.specs.{sum}
 use Rattle.number.proofs.Sums.{sum-eq, sum-change}
 use Rattle.shades.specs.{mostShades}
-use Rattle.method.specs.{Tabled}
-use Rattle.group_sums.specs.Summing.{redGreen, bluePixels, weighed, given, raised, lowered, Summed}
-use Rattle.group_sums.proofs.Bounds.{red-green-at-most, blue-pixels-at-most, group-fits}
+use Rattle.table_entries.specs.{Tabled}
+use Rattle.level_sums.specs.{redGreen, bluePixels, weighed}
+use Rattle.level_sums.proofs.Bounds.{red-green-at-most, blue-pixels-at-most}
+use Rattle.group_sums.specs.Summing.{given, raised, lowered, Summed}
+use Rattle.group_sums.proofs.Bounds.{group-fits}
 use Rattle.group_sums.proofs.Summing.{
   placed-first,
   placed-second,

@@ -10,8 +10,9 @@ use lib.Seq.{getD-set-same, getD-set-other}
 use borrow.Author.Tests.{eq-eqb, ne-eqb}
 use Rattle.number.specs.{sum}
 use Rattle.number.proofs.Sums.{sum-more}
+use Rattle.level_sums.specs.{redGreen, bluePixels, weighed}
 use Rattle.shades.specs.{mostShades}
-use Rattle.group_sums.specs.Summing.{redGreen, bluePixels, weighed, given, placed, raised, Summed}
+use Rattle.group_sums.specs.Summing.{given, placed, raised, Summed}
 
 -- over no entry every sum is 0
 pub summed-none : (m : ℕ → ℕ) (ks ws : List ℕ) → Summed m ks ws 0 (replicate 128 0)

@@ -1,6 +1,4 @@
 -- Glossary.
---   redGreen, bluePixels   red and green level of a key, and blue level and 1, each pair in one number
---   weighed f i      the weight of entry i times f of its key
 --   given m f q i    what entry i gives to group q, where it is in group m i
 --   placed t q x y   the sums t with x and y for those of group q
 --   raised, lowered  the same with x and y added to those of group q, and taken from them
@@ -8,5 +6,5 @@
 --   memberAt         the group of an entry, as the members tell
 --   Assigned         the members tell one of 64 groups for each entry
 pub mod Summing
-unfoldable pub use Summing.{redGreen, bluePixels, weighed, given, placed, raised, lowered, memberAt}
+unfoldable pub use Summing.{given, placed, raised, lowered, memberAt}
 pub use Summing.{Summed, Assigned}

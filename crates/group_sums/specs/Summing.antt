@@ -1,4 +1,4 @@
--- The sums of each group, two in one number: each is below 2^32, as a table has at most 2^24 pixels.
+-- The sums of the levels of each group, two in one number.
 use Prim.Native.Nat.{ℕ, _+_, _-_, _*_, _≤_, _<_}
 use mathlib.Core.Path.{_≡_}
 use mathlib.Core.Bool.{cond}
@@ -6,20 +6,8 @@ use mathlib.Core.List.{List}
 use lib.Dec.{eqb}
 use lib.ListN.{getD, set, length}
 use Rattle.number.specs.{sum}
-use Rattle.colour.specs.{redOf, greenOf, blueOf}
+use Rattle.level_sums.specs.{redGreen, bluePixels, weighed}
 use Rattle.shades.specs.{mostShades}
-
--- the red and the green level of a key, in one
-abbrev pub redGreen : ℕ → ℕ
-redGreen key = 4294967296 * redOf key + greenOf key
-
--- the blue level of a key and 1, in one
-abbrev pub bluePixels : ℕ → ℕ
-bluePixels key = 4294967296 * blueOf key + 1
-
--- the weight of entry i times f of its key
-abbrev pub weighed : (ℕ → ℕ) → List ℕ → List ℕ → ℕ → ℕ
-weighed f ks ws i = getD ws i 0 * f (getD ks i 0)
 
 -- what entry i gives to group q, where it is in group m i
 abbrev pub given : (ℕ → ℕ) → (ℕ → ℕ) → ℕ → ℕ → ℕ

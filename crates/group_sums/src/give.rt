@@ -3,40 +3,12 @@ ghost use mathlib.Core.Path.{_≡_};
 ghost use Prim.Native.Nat.{_+_, _*_, _/_, _%_, _<_, _≤_};
 ghost use lib.ListN.{getD};
 ghost use Rattle.colour.specs.{mostPixels, mostDistance};
+ghost use Rattle.level_sums.specs.{redGreen, bluePixels};
 ghost use Rattle.shades.specs.{mostShades};
-ghost use Rattle.group_sums.specs.Summing.{redGreen, bluePixels, placed, raised, lowered};
+ghost use Rattle.group_sums.specs.Summing.{placed, raised, lowered};
 use super::Gift;
-
-// A sum of at most 2^24 levels, in 64 bits.
-fn wide(x: u32) -> u64
-    ensures { λ r. ⌜ r ≡ x ⌝ }
-{
-    x as u64
-}
-
-// Two such sums in one number.
-fn pair(x: u32, y: u32) -> u64
-    ensures { λ r. ⌜ r ≡ 4294967296 * x + y ⌝ }
-{
-    4294967296 * wide(x) + wide(y)
-}
-
-// The weight times red and green level, in one: products of 32 bits, put side by side. Requires a
-// table's weight.
-pub fn red_green(weight: u32, key: u32) -> u64
-    requires { ⌜ weight ≤ mostPixels ⌝ }
-    ensures { λ r. ⌜ r ≡ weight * redGreen key ⌝ }
-{
-    pair(weight * colour::red_of(key), weight * colour::green_of(key))
-}
-
-// The weight times blue level, and the weight, in one. Requires a table's weight.
-pub fn blue_pixels(weight: u32, key: u32) -> u64
-    requires { ⌜ weight ≤ mostPixels ⌝ }
-    ensures { λ r. ⌜ r ≡ weight * bluePixels key ⌝ }
-{
-    pair(weight * colour::blue_of(key), weight)
-}
+use level_sums::blue_pixels;
+use level_sums::red_green;
 
 // What an entry gives, with the distance and number of its shade in `best`. Requires a table's
 // weight and a distance of the grid.

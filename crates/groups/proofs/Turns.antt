@@ -13,10 +13,11 @@ use Rattle.colour.proofs.Distances.{colour-within}
 use Rattle.shades.specs.{mostShades, colourAt, Shades, nearestShade}
 use Rattle.shades.proofs.Laying.{to-shade-most}
 use Rattle.shades.proofs.Nearest.{nearest-below}
-use Rattle.method.specs.{Tabled, coloursOf, joins, remote}
+use Rattle.table_entries.specs.{Tabled}
+use Rattle.method.specs.{coloursOf, joins, remote}
 use Rattle.method.proofs.Sizes.{fair-of-table, spent-at-most}
 use Rattle.group_sums.specs.{Summed}
-use Rattle.group_sums.proofs.Bounds.{weight-at-most}
+use Rattle.level_sums.proofs.Bounds.{weight-at-most}
 use Rattle.groups.specs.Grouping.{Grouped}
 
 -- what both loops ask: a table, some shades where it has entries, a member for each entry, and at most 65 distances

@@ -5,7 +5,8 @@ use mathlib.Core.Bool.{Bool, true, false, cond}
 use mathlib.Core.List.{List}
 use lib.ListN.{getD, length}
 use Rattle.shades.specs.{Shades}
-use Rattle.method.specs.{Tabled, stateOf, coloursOf, joins, grouped, totalOf}
+use Rattle.table_entries.specs.{Tabled}
+use Rattle.method.specs.{stateOf, coloursOf, joins, grouped, totalOf}
 use Rattle.search_near.specs.{Rows, Gaps}
 use Rattle.group_sums.specs.{Summed}
 

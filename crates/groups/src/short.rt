@@ -3,14 +3,15 @@ ghost use mathlib.Core.Path.{_≡_};
 ghost use Prim.Native.Nat.{_+_, _≤_, _<_};
 ghost use lib.ListN.{length, getD, set};
 ghost use Rattle.shades.specs.{mostShades, colourAt, toShade, nearestShade, worked};
-ghost use Rattle.method.specs.{Tabled, stateOf, coloursOf, shortDistances};
+ghost use Rattle.table_entries.specs.{Tabled};
+ghost use Rattle.method.specs.{stateOf, coloursOf, shortDistances};
 ghost use Rattle.group_sums.specs.{Summed, Assigned, memberAt};
 ghost use Rattle.groups.specs.Grouping.{Groupable, Tracks, Grouped, covered};
 use super::Regrouped;
-use group_sums::blue_pixels;
 use group_sums::lower;
 use group_sums::raise;
-use group_sums::red_green;
+use level_sums::blue_pixels;
+use level_sums::red_green;
 use search_near::Met;
 
 // The nearest shade of entry `i`, from its member, by the rows that `g` has.

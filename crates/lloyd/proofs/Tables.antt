@@ -9,7 +9,7 @@ use Rattle.number.specs.{sum}
 use Rattle.number.proofs.Sums.{sum-term}
 use Rattle.table.specs.{Record, badTable, GoodTable}
 use Rattle.table.proofs.Promises.{bad-table-exactly}
-use Rattle.method.specs.{Tabled}
+use Rattle.table_entries.specs.{Tabled}
 
 -- its used entries lie in the two slices
 pub tabled-of-test : (rec : Record) (ks ws : List ℕ) → badTable rec ks ws ≡ false → Tabled (rec .used) ks ws

@@ -9,11 +9,11 @@ use Rattle.number.specs.{sum}
 use Rattle.number.proofs.Sums.{sum-le, sum-bound, sum-mul, sum-part, sum-term}
 use Rattle.colour.specs.{mostPixels, mostDistance}
 use Rattle.colour.proofs.Distances.{colour-within}
-use Rattle.table_entries.specs.{mostEntries}
+use Rattle.table_entries.specs.{Tabled, mostEntries}
 use Rattle.shades.specs.{mostShades, OnGrid, toShade, worked}
 use Rattle.shades.proofs.Laying.{to-shade-most}
 use Rattle.shades.proofs.Nearest.{worked-at-most}
-use Rattle.method.specs.Colouring.{Colours, coloursOf, Fair, Tabled}
+use Rattle.method.specs.Colouring.{Colours, coloursOf, Fair}
 use Rattle.method.specs.Rounding.{State, shortDistances}
 
 -- the colours of a table that lies in two slices are fair

@@ -73,10 +73,3 @@ pub record Fair (C : Colours) : Type 0 where
   pub pixels : pixelsIn C ≤ mostPixels
   pub few : C .n ≤ mostEntries
   pub inside : (i : ℕ) → Within mostCoordinate (C .c i)
-
--- n entries lie in two slices, at most 1,048,576 of them with at most 16,777,216 pixels
-pub record Tabled (n : ℕ) (ks ws : List ℕ) : Type 0 where
-  pub keys-room : n ≤ length ks
-  pub weights-room : n ≤ length ws
-  pub few : n ≤ mostEntries
-  pub pixels : sum n (λ i. getD ws i 0) ≤ mostPixels

@@ -12,7 +12,6 @@
 --   drawn n C            the colours with every coordinate n times as large
 --   on f C               one coordinate of the colours
 --   Fair C               at most 16,777,216 pixels in at most 1,048,576 entries, all on the grid
---   Tabled n ks ws       what a good table gives for it
 --   Rule, toMean         where a shade goes, given its number, its group and its place; Lloyd's rule
 --   GoodRule rule        it costs the group no more than staying, and keeps to the grid
 --   Means f rule         from shade f on it goes to the mean
@@ -44,7 +43,7 @@ pub mod Rounding
 pub mod Starting
 pub mod Running
 pub mod Leasts
-pub use Colouring.{Colours, Fair, Tabled}
+pub use Colouring.{Colours, Fair}
 unfoldable pub use Colouring.{
   coloursOf,
   on,

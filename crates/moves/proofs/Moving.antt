@@ -14,12 +14,14 @@ use Rattle.number.proofs.Tallies.{howMany-same}
 use Rattle.colour.specs.{Point}
 use Rattle.shades.specs.{mostShades, mostCoordinates, shadeAt, axis, coordinateOf, laid, samePlace}
 use Rattle.shades.proofs.Laying.{coordinate-at, first-coordinate}
-use Rattle.method.specs.{Colours, Tabled, coloursOf, pixelsIn, sumsOf, meanOf, groupOf, toMean}
+use Rattle.table_entries.specs.{Tabled}
+use Rattle.method.specs.{Colours, coloursOf, pixelsIn, sumsOf, meanOf, groupOf, toMean}
 use Rattle.method.proofs.Totals.{weight-times}
-use Rattle.group_sums.specs.{redGreen, bluePixels, weighed, given, Summed}
+use Rattle.level_sums.specs.{redGreen, bluePixels, weighed}
+use Rattle.group_sums.specs.{given, Summed}
 use Rattle.group_sums.proofs.Bounds.{given-at-most}
 use Rattle.moves.specs.Reading.{sumIn, goes, stays, Measured}
-use Rattle.moves.proofs.Pairs.{Parts, parts}
+use Rattle.group_sums.proofs.Parts.{Parts, parts}
 
 -- ---- one coordinate of a point
 

@@ -1,17 +1,14 @@
-// Where the shades of a grouping move, and the mean of a whole table.
+// Where the shades of a grouping move.
 //
 // Calls; none refuses, and what one requires stands above it
 //   move_shades    moves each shade to the rounded mean of its group   step.rt
 //   count_movers   how many of them that moves
-//   whole_mean     the rounded mean of a table, weights counted        mean.rt
-// The groups' sums are taken apart in read.rt.
+// A group's sums are taken apart in read.rt.
 //
 // Read next: specs/Lib.antt (what the words mean), proofs/Lib.antt (what is shown).
 
-mod mean;
 mod read;
 mod step;
 
-pub use mean::whole_mean;
 pub use step::count_movers;
 pub use step::move_shades;

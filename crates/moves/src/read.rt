@@ -1,22 +1,10 @@
-// Sums that stand two in one number, taken apart.
+// A group's sums, taken apart.
 ghost use mathlib.Core.Path.{_≡_};
-ghost use Prim.Native.Nat.{_*_, _/_, _%_, _<_};
+ghost use Prim.Native.Nat.{_<_};
 ghost use Rattle.shades.specs.{mostShades};
 ghost use Rattle.moves.specs.Reading.{sumIn};
-
-// The upper sum, in sixteenths.
-pub fn high(x: u64) -> u64
-    ensures { λ r. ⌜ r ≡ 16 * (x / 4294967296) ⌝ }
-{
-    16 * (x / 4294967296)
-}
-
-// The lower sum, in sixteenths.
-pub fn low(x: u64) -> u64
-    ensures { λ r. ⌜ r ≡ 16 * (x % 4294967296) ⌝ }
-{
-    16 * (x % 4294967296)
-}
+use level_sums::high;
+use level_sums::low;
 
 // The sum of coordinate `e` over group `q`. Requires one of three coordinates and of 64 groups.
 pub fn sum_in(t: &[u64; 128], e: usize, q: usize) -> u64

@@ -7,21 +7,8 @@ use lib.Dec.{ltb}
 use lib.ListN.{getD, length}
 use Rattle.number.specs.{sum, fill, firstThat}
 use Rattle.shades.specs.{mostShades}
-use Rattle.method.specs.{
-  Colours,
-  Tabled,
-  State,
-  Fit,
-  coloursOf,
-  Rule,
-  step,
-  after,
-  quiet,
-  totalOf,
-  movedOf,
-  shortDistances,
-  roundsMade,
-}
+use Rattle.table_entries.specs.{Tabled}
+use Rattle.method.specs.{Colours, State, Fit, coloursOf, Rule, step, after, quiet, totalOf, movedOf, shortDistances, roundsMade}
 
 -- the most rounds of a run
 abbrev pub mostRounds : ℕ

@@ -79,7 +79,7 @@ pub fn make_run(
         ≡ finalOf (coloursOf used (now (keys .entry)) (now (weights .entry)))
         (stateOf (now (s .exit)) (now (members .exit))) ⌝ }
 {
-    let m = moves::whole_mean(keys, weights, used);
+    let m = starts::whole_mean(keys, weights, used);
     let base = [m.r, m.g, m.b];
     run_from(keys, weights, used, &base, k, limit, s, members, totals)
 }

@@ -15,10 +15,13 @@
 --   stops room es k    a pixel of colour k does not go into the table es
 --   takenOf            how many pixels of a list are taken
 --   withTaken          the table with the pixels taken
+--   Tabled n ks ws     n entries lie in two slices, no more of them and of their pixels than a table may have
 pub mod Content
 pub mod Strip
 pub mod Adding
+pub mod Lying
 pub use Content.{Entry}
 unfoldable pub use Content.{entry, entries, keysOf, weightsOf, keysInto, weightsInto, pixelsOf, weightOf, sound}
 unfoldable pub use Strip.{stripKeys, keyAt, countOf}
 unfoldable pub use Adding.{mostEntries, give, put, putAll, stops, takenOf, withTaken}
+pub use Lying.{Tabled}

@@ -7,7 +7,7 @@ use lib.ListN.{length, getD}
 use Rattle.number.specs.{fill}
 use Rattle.number.proofs.Fills.{fill-at, fill-length}
 use Rattle.shades.specs.{colourAt, Shades, packedNearest}
-use Rattle.method.specs.{Tabled}
+use Rattle.table_entries.specs.{Tabled}
 use Rattle.groups.proofs.Turns.{Fitted, Turned, turned-length, turned-kept}
 
 -- distance and number of the nearest shade of entry j, in one

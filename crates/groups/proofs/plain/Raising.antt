@@ -8,7 +8,8 @@ use Rattle.colour.specs.{mostPixels, mostDistance}
 use Rattle.shades.specs.{mostShades, colourAt, packedNearest}
 use Rattle.shades.proofs.Nearest.{packed-found}
 use Rattle.method.specs.{coloursOf, joins}
-use Rattle.group_sums.specs.{redGreen, bluePixels, weighed, raised, Summed}
+use Rattle.level_sums.specs.{redGreen, bluePixels, weighed}
+use Rattle.group_sums.specs.{raised, Summed}
 use Rattle.group_sums.proofs.Bounds.{raises-fit}
 use Rattle.group_sums.proofs.Summing.{summed-more}
 use Rattle.groups.proofs.Turns.{Turned, Finds, turned-some, turned-low, number-below}

@@ -6,7 +6,8 @@ use denote.Ref.{now}
 use lib.ListN.{set}
 use borrow.Author.Needs.{needs}
 use Rattle.group_sums.specs.{Summed, memberAt}
-use Rattle.group_sums.proofs.Bounds.{weight-at-most, raises-fit}
+use Rattle.level_sums.proofs.Bounds.{weight-at-most}
+use Rattle.group_sums.proofs.Bounds.{raises-fit}
 use Rattle.group_sums.proofs.Summing.{summed-more}
 use Rattle.groups.proofs.short.Joining.{joined-at, joined-before}
 use Rattle.groups.proofs.short.enter.Statement.{statement}

@@ -6,7 +6,7 @@ use denote.Ref.{now}
 use lib.ListN.{length, set}
 use borrow.Author.Needs.{needs}
 use Rattle.group_sums.specs.{memberAt}
-use Rattle.group_sums.proofs.Bounds.{weight-at-most}
+use Rattle.level_sums.proofs.Bounds.{weight-at-most}
 use Rattle.group_sums.proofs.Moving.{Goes, leaves-fit, joins-fit, summed-moved}
 use Rattle.groups.proofs.short.Joining.{joined-at, joined-goes, joined-same}
 use Rattle.groups.proofs.short.go_over.Statement.{statement}

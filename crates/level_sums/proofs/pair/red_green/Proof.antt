@@ -2,9 +2,9 @@
 use native.Mathlib.Omega.{arith}
 use borrow.Author.Needs.{needs}
 use Rattle.colour.specs.{redOf, greenOf}
-use Rattle.group_sums.proofs.Bounds.{times-fits, times-pair}
-use Rattle.group_sums.proofs.give.red_green.Statement.{statement}
-use Rattle.group_sums.proofs.give.red_green.Tie as tie
+use Rattle.level_sums.proofs.Bounds.{times-fits, times-pair}
+use Rattle.level_sums.proofs.pair.red_green.Statement.{statement}
+use Rattle.level_sums.proofs.pair.red_green.Tie as tie
 
 red-of-requires : tie.Need-red-of-requires
 red-of-requires c κs = search needs

@@ -6,9 +6,9 @@ use native.Mathlib.Omega.{arith}
 use Rattle.number.specs.{sum, roundedMean}
 use Rattle.number.proofs.Sums.{sum-add, sum-eq, sum-le, sum-mul}
 use Rattle.colour.specs.{mostLevel, mostCoordinate, mostPixels, redOf, greenOf, blueOf, colourOf}
+use Rattle.level_sums.specs.{redGreen, bluePixels}
 use Rattle.shades.specs.{axis}
 use Rattle.method.specs.{Colours, pixelsIn, sumsOf}
-use Rattle.group_sums.specs.{redGreen, bluePixels}
 
 -- two numbers of 64 bits hold the pixel count and the coordinate sums of the colours, which are a table's
 pub record Parts (C : Colours) (two one : ℕ) : Type 0 where

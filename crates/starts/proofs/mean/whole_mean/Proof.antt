@@ -1,12 +1,12 @@
 -- `whole_mean` answers the rounded mean on each coordinate: the table's sums, taken apart.
 use mathlib.Core.Path.{_∙_}
 use denote.Ref.{now}
+use lib.ListN.{getD}
 use Rattle.method.specs.{coloursOf}
-use Rattle.moves.proofs.Pairs.{Parts, mean-asked, mean-of-parts}
-use Rattle.moves.proofs.mean.Totals.{whole-parts}
+use Rattle.group_sums.proofs.Parts.{Parts, parts, mean-asked, mean-of-parts}
 use borrow.Author.Needs.{needs}
-use Rattle.moves.proofs.mean.whole_mean.Statement.{statement}
-use Rattle.moves.proofs.mean.whole_mean.Tie as tie
+use Rattle.starts.proofs.mean.whole_mean.Statement.{statement}
+use Rattle.starts.proofs.mean.whole_mean.Tie as tie
 
 -- the table's sums, taken apart
 read-off : (c : tie.After-whole-sums)
@@ -17,7 +17,8 @@ read-off : (c : tie.After-whole-sums)
 read-off c =
     let st = c .before .before .before in
     let e = c .whole-sums .ensures in
-    whole-parts (st .args .used) (now (st .args .keys)) (now (st .args .weights)) _ _ (st .pre .0) (e .0) (e .1)
+    parts (st .args .used) (λ i. getD (now (st .args .weights)) i 0) (λ i. getD (now (st .args .keys)) i 0) _ _
+    (st .pre .0 .pixels) (e .0) (e .1)
 
 whole-sums-requires : tie.Need-whole-sums-requires
 whole-sums-requires c κs = search needs

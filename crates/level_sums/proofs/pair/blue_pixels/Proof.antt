@@ -2,9 +2,9 @@
 use native.Mathlib.Omega.{arith}
 use borrow.Author.Needs.{needs}
 use Rattle.colour.specs.{blueOf}
-use Rattle.group_sums.proofs.Bounds.{times-fits, times-pair}
-use Rattle.group_sums.proofs.give.blue_pixels.Statement.{statement}
-use Rattle.group_sums.proofs.give.blue_pixels.Tie as tie
+use Rattle.level_sums.proofs.Bounds.{times-fits, times-pair}
+use Rattle.level_sums.proofs.pair.blue_pixels.Statement.{statement}
+use Rattle.level_sums.proofs.pair.blue_pixels.Tie as tie
 
 blue-of-requires : tie.Need-blue-of-requires
 blue-of-requires c κs = search needs

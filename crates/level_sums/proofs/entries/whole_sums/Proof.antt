@@ -2,17 +2,17 @@
 use Prim.Native.Nat.{_-_}
 use native.Mathlib.Omega.{arith}
 use denote.Ref.{now}
-use Rattle.group_sums.specs.{redGreen, bluePixels}
-use Rattle.group_sums.proofs.Bounds.{red-green-at-most, blue-pixels-at-most, weight-at-most, whole-adds-fit}
-use Rattle.moves.proofs.mean.Totals.{Totalling, totalling-start, totalling-step, totalling-done}
-use Rattle.moves.proofs.mean.whole_sums.Statement.{statement}
-use Rattle.moves.proofs.mean.whole_sums.Tie as tie
+use Rattle.level_sums.specs.Levels.{redGreen, bluePixels}
+use Rattle.level_sums.proofs.Bounds.{red-green-at-most, blue-pixels-at-most, weight-at-most, whole-adds-fit}
+use Rattle.level_sums.proofs.entries.Totals.{Totalling, totalling-start, totalling-step, totalling-done}
+use Rattle.level_sums.proofs.entries.whole_sums.Statement.{statement}
+use Rattle.level_sums.proofs.entries.whole_sums.Tie as tie
 
 abbrev Inv-loop : tie.InvT-loop
-Inv-loop keys weights used red-green₀ blue-pixels₀ i₀ red-green blue-pixels i = Totalling keys weights used red-green blue-pixels i
+Inv-loop keys weights used first₀ second₀ i₀ first second i = Totalling keys weights used first second i
 
 abbrev μ-loop : tie.MeasureT-loop
-μ-loop keys weights used red-green₀ blue-pixels₀ i₀ red-green blue-pixels i = used - i
+μ-loop keys weights used first₀ second₀ i₀ first second i = used - i
 
 loop-holds : tie.Need-loop-holds Inv-loop μ-loop
 loop-holds c =
@@ -36,8 +36,8 @@ red-green-requires c κs =
     let p = c .before .before .before .before .before .before .pre in
     weight-at-most _ _ _ p _ (omega arith)
 
-add-red-green : tie.Need-add-red-green Inv-loop μ-loop
-add-red-green c =
+add-first : tie.Need-add-first Inv-loop μ-loop
+add-first c =
     let turn = c .before .before .before in
     let l = turn .before .loop in
     let p = turn .before .before .before .before .pre in
@@ -61,8 +61,8 @@ blue-pixels-requires c κs =
     let turn = c .before .before .before .before .before in
     weight-at-most _ _ _ (turn .before .before .before .before .pre) _ (omega arith)
 
-add-blue-pixels : tie.Need-add-blue-pixels Inv-loop μ-loop
-add-blue-pixels c =
+add-second : tie.Need-add-second Inv-loop μ-loop
+add-second c =
     let turn = c .before .before .before .before .before .before in
     let l = turn .before .loop in
     let p = turn .before .before .before .before .pre in
@@ -96,13 +96,13 @@ whole-sums-spec =
     mul-red-green-2
     shared-slice-read-red-green-2
     red-green-requires
-    add-red-green
+    add-first
     mul-blue-pixels
     shared-slice-read-blue-pixels
     mul-blue-pixels-2
     shared-slice-read-blue-pixels-2
     blue-pixels-requires
-    add-blue-pixels
+    add-second
     add-i
     loop-less
     loop-again

@@ -1,3 +1,3 @@
--- The laws of mean.rt.
+-- The laws of entries.rt.
 -- The loop over the whole table.
 pub mod Totals
