@@ -13,7 +13,8 @@ use Rattle.method.proofs.Begins.{mean-low}
 use Rattle.method.proofs.Costs.{to-mean-good}
 use Rattle.method.proofs.Sizes.{fair-of-table}
 use Rattle.rounds.specs.{Runnable}
-use Rattle.lloyd.specs.Refusals.{limitOf, runRows}
+use Rattle.lloyd_tests.specs.{limitOf}
+use Rattle.lloyd.specs.Refusals.{runRows}
 use Rattle.lloyd.specs.Beginning.{FarthestColour}
 use Rattle.lloyd.specs.Outcomes.{runOf, AcceptedRun}
 use Rattle.lloyd.specs.declared.Ran.{Ran}

@@ -10,7 +10,7 @@ use Rattle.method.specs.{Rule, GoodRule, Base, Colours, State, coloursOf, begin
 use Rattle.method.proofs.Begins.{begin-from-fit}
 use Rattle.method.proofs.Sizes.{fair-of-table}
 use Rattle.rounds.specs.{Runnable, SeriesMeets}
-use Rattle.lloyd.specs.Refusals.{limitOf}
+use Rattle.lloyd_tests.specs.{limitOf}
 use Rattle.lloyd.specs.Outcomes.{RunOutcome, RunMeets, AcceptedBy, refusedRun, keptRun, madeRun, runBy}
 use Rattle.lloyd.specs.declared.Ran.{Ran}
 use Rattle.lloyd.proofs.Made.{Making}

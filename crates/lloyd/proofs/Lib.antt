@@ -1,13 +1,5 @@
 -- What is shown, in full statements.
 pub mod Promises
--- What the tests say, fact by fact.
-pub mod Checks
--- What a good table gives to a round.
-pub mod Tables
--- The outcomes of single rounds.
-pub mod Rounds
--- The ways out of a single round.
-pub mod Ways
 -- A run by any rule from any given shades: refused or made.
 pub mod By
 -- The outcome of a run, and what the tests give.

@@ -2,31 +2,35 @@
 -- file named above it. What is shown of the method alone stands in the Promises of the crate method, the search's in
 -- those of the crate shades.
 
--- ---- Promises/Refusing.antt: refusals
-pub mod Refusing
--- a call gives each refusal exactly when its row is the first that holds
-pub use Refusing.{plain-refused-exactly, short-refused-exactly, run-refused-exactly}
--- and none exactly when no row holds
-pub use Refusing.{plain-accepted-exactly, short-accepted-exactly, run-accepted-exactly}
+-- ---- the Promises of lloyd_tests: when each test fails
 -- each test fails exactly when the fact it asks for holds
-pub use Refusing.{bad-count-exactly, few-colours-exactly, bad-limit-exactly}
-pub use Refusing.{short-members-exactly, short-totals-exactly, bad-member-exactly}
+pub use Rattle.lloyd_tests.proofs.Promises.{bad-count-exactly, few-colours-exactly, bad-limit-exactly}
+pub use Rattle.lloyd_tests.proofs.Promises.{short-members-exactly, short-totals-exactly, bad-member-exactly}
 -- a limit of 0 means 20
-pub use Refusing.{limit-is}
--- a refused call answers its number and zeros, and no slice changes
-pub use Refusing.{plain-refused, short-refused, run-refused}
--- ---- Promises/Singles.antt: single rounds
-pub mod Singles
+pub use Rattle.lloyd_tests.proofs.Promises.{limit-is}
+-- ---- the Promises of lloyd_rounds: single rounds
+-- a round gives each refusal exactly when its row is the first that holds
+pub use Rattle.lloyd_rounds.proofs.Promises.{plain-refused-exactly, short-refused-exactly}
+-- and none exactly when no row holds
+pub use Rattle.lloyd_rounds.proofs.Promises.{plain-accepted-exactly, short-accepted-exactly}
+-- a refused one answers its number and zeros, and no slice changes
+pub use Rattle.lloyd_rounds.proofs.Promises.{plain-refused, short-refused}
 -- the contract determines the answer and both lent slices
-pub use Singles.{round-only}
+pub use Rattle.lloyd_rounds.proofs.Promises.{round-only}
 -- an accepted round is a round of Lloyd's rule, with its distances counted
-pub use Singles.{plain-accepted, short-accepted}
+pub use Rattle.lloyd_rounds.proofs.Promises.{plain-accepted, short-accepted}
 -- each used member becomes the nearest shade
-pub use Singles.{plain-joined, short-joined}
+pub use Rattle.lloyd_rounds.proofs.Promises.{plain-joined, short-joined}
 -- plain and shortened rounds leave the same
-pub use Singles.{short-leaves-plain}
+pub use Rattle.lloyd_rounds.proofs.Promises.{short-leaves-plain}
 -- members past the used entries stay
-pub use Singles.{plain-members-kept, short-members-kept}
+pub use Rattle.lloyd_rounds.proofs.Promises.{plain-members-kept, short-members-kept}
+-- ---- Promises/Refusing.antt: a run's refusals
+pub mod Refusing
+-- a run gives each refusal exactly when its row is the first that holds, and none exactly when no row holds
+pub use Refusing.{run-refused-exactly, run-accepted-exactly}
+-- a refused run answers its number and zeros, and no slice changes
+pub use Refusing.{run-refused}
 -- ---- Promises/Runs.antt: runs
 pub mod Runs
 -- the contract determines the answer and both lent slices

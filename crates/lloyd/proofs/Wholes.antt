@@ -10,13 +10,15 @@ use Rattle.number.proofs.Cases.{neither}
 use Rattle.refusal.specs.{Refusal, numberOf, done, firstOf, NoneHolds, Refuses}
 use Rattle.table.specs.{Record, badTable}
 use Rattle.method.specs.{Colours, State, coloursOf, toMean, onMean, finalOf, begin}
-use Rattle.rounds.specs.{mostRounds, Runnable, SeriesMeets}
-use Rattle.lloyd.specs.Refusals.{limitOf, badCount, fewColours, badLimit, shortMembers, shortTotals, runRows}
+use Rattle.method.specs.{mostRounds}
+use Rattle.rounds.specs.{Runnable, SeriesMeets}
+use Rattle.lloyd_tests.specs.{limitOf, badCount, fewColours, badLimit, shortMembers, shortTotals}
+use Rattle.lloyd.specs.Refusals.{runRows}
 use Rattle.lloyd.specs.Outcomes.{RunMeets, refusedRun, keptRun, madeRun, runOf}
 use Rattle.lloyd.specs.declared.Ran.{Ran}
 use Rattle.lloyd.proofs.By.{by-refuses, by-meets-refused, by-meets-made}
-use Rattle.lloyd.proofs.Checks.{bad-count-exactly, limit-some, limit-most}
-use Rattle.lloyd.proofs.Tables.{tabled-of-test, pixels-of-test}
+use Rattle.lloyd_tests.proofs.Checks.{bad-count-exactly, limit-some, limit-most}
+use Rattle.lloyd_tests.proofs.Tables.{tabled-of-test, pixels-of-test}
 
 module _ (rec : Record) (ks ws : List ℕ) (k limit : ℕ) (ms ts : List ℕ) where
   -- the colours of the table

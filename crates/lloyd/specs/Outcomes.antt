@@ -1,10 +1,10 @@
--- What a round and a run leave: the answer, and both lent slices, on every input.
-use Prim.Native.Nat.{ℕ, _/_}
+-- What a run leaves: the answer, and both lent slices, on every input.
+use Prim.Native.Nat.{ℕ}
 use mathlib.Core.Bool.{Bool, false, cond}
 use mathlib.Core.List.{List}
 use mathlib.Core.Path.{_≡_}
 use lib.Dec.{ltb}
-use lib.ListN.{length, replicate}
+use lib.ListN.{replicate}
 use Rattle.number.specs.{sum, fill, firstThat}
 use Rattle.refusal.specs.{Row, done, outcomeOf}
 use Rattle.table.specs.{Record}
@@ -16,68 +16,18 @@ use Rattle.method.specs.{
   State,
   coloursOf,
   toMean,
-  step,
   after,
   quiet,
   totalOf,
-  movedOf,
   finalOf,
-  plainDistances,
   shortDistances,
   onMean,
   beginFrom,
   roundsMade,
 }
-use Rattle.lloyd.specs.Refusals.{limitOf, plainRows, shortRows, runRows}
-use Rattle.lloyd.specs.declared.Rounded.{Rounded}
+use Rattle.lloyd_tests.specs.{limitOf}
+use Rattle.lloyd.specs.Refusals.{runRows}
 use Rattle.lloyd.specs.declared.Ran.{Ran}
-
--- ---- a single round
-
--- the answer, and the lent coordinates and members at exit
-pub record RoundOutcome : Type 0 where
-  pub answer : Rounded
-  pub state : State
-
--- the answer of a refusal: its number and zeros
-abbrev pub refusedRound : ℕ → Rounded
-refusedRound n = record { refusal = n; total = 0; moved = 0; distances = 0 }
-
--- a round of the rule on k shades, with the distances that a round of its kind works out
-abbrev pub madeRound : Rule → Colours → ℕ → State → (Colours → ℕ → State → ℕ) → RoundOutcome
-madeRound rule C k a distances = record {
-  answer = record {
-    refusal = done;
-    total = totalOf C k a;
-    moved = movedOf rule C k a;
-    distances = distances C k a;
-  };
-  state = step rule C k a;
-}
-
--- that of a refusal: its answer, and no slice changes
-abbrev pub keptRound : State → ℕ → RoundOutcome
-keptRound a n = record { answer = refusedRound n; state = a }
-
--- the whole outcome of a plain round: a third of the coordinates lent is the count of shades
-unfoldable pub plainRound : Record → List ℕ → List ℕ → State → RoundOutcome
-plainRound rec ks ws a =
-    outcomeOf (plainRows rec ks ws a)
-    (madeRound toMean (coloursOf (rec .used) ks ws) (length (a .coordinates) / 3) a plainDistances) (keptRound a)
-
--- the whole outcome of a shortened round
-unfoldable pub shortRound : Record → List ℕ → List ℕ → State → RoundOutcome
-shortRound rec ks ws a =
-    outcomeOf (shortRows rec ks ws a)
-    (madeRound toMean (coloursOf (rec .used) ks ws) (length (a .coordinates) / 3) a shortDistances) (keptRound a)
-
--- the contract: answer and slices are those of the outcome
-pub record RoundMeets (o : RoundOutcome) (r : Rounded) (coordinates members : List ℕ) : Type 0 where
-  pub answer : r ≡ o .answer
-  pub coordinates-are : coordinates ≡ o .state .coordinates
-  pub members-are : members ≡ o .state .members
-
--- ---- a run
 
 -- settled as 1 or 0
 abbrev pub flagOf : Bool → ℕ

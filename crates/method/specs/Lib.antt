@@ -31,6 +31,7 @@
 --   startsFrom, starts   the starting shades from given ones, and from the table's mean
 --   remote               how far a colour is from its nearest shade
 --   over l d             d with l over its front
+--   mostRounds           200, the most rounds of a run
 --   beginFrom, begin     the state in which a run begins, from given shades and from the table's mean
 --   roundsMade           the rounds of a run: up to the first quiet one, or the limit
 --   Fraction, plus       a fraction of whole numbers, and a sum of two
@@ -80,6 +81,6 @@ unfoldable pub use Rounding.{
 }
 pub use Starting.{Base}
 unfoldable pub use Starting.{remote, flat, listed, nextShade, startsFrom, onMean, starts, over}
-unfoldable pub use Running.{beginFrom, begin, roundsMade}
+unfoldable pub use Running.{mostRounds, beginFrom, begin, roundsMade}
 pub use Leasts.{Fraction, Bounded, SumBounded}
 unfoldable pub use Leasts.{plus, leastSum, From}

@@ -10,6 +10,10 @@ use Rattle.method.specs.Colouring.{Colours}
 use Rattle.method.specs.Rounding.{State}
 use Rattle.method.specs.Starting.{Base, startsFrom, onMean, over}
 
+-- the most rounds of a run
+abbrev pub mostRounds : ℕ
+mostRounds = 200
+
 -- a run from given shades begins with the starting shades, zeros past them, and with every colour in shade 0
 abbrev pub beginFrom : Base → Colours → ℕ → List ℕ → State
 beginFrom B C k members = record {

@@ -15,6 +15,7 @@ use Rattle.table_entries.specs.{mostEntries}
 use Rattle.colour.specs.{Within, mostCoordinate}
 use Rattle.shades.specs.{mostShades, mostCoordinates, colourAt}
 use Rattle.method.specs.{
+  mostRounds,
   Base,
   Colours,
   Fair,
@@ -38,7 +39,7 @@ use Rattle.method.proofs.Begins.{begin-from-fit, begin-joined}
 use Rattle.method.proofs.Falls.{after-more, step-fit, grouped-below}
 use Rattle.method.proofs.Runs.{made-at-most, made-some, made-next, made-last}
 use Rattle.method.proofs.Sizes.{fair-of-table, short-at-most}
-use Rattle.rounds.specs.Meeting.{mostRounds, Steppable, Walkable, StepMeets, SeriesMeets, Runnable}
+use Rattle.rounds.specs.Meeting.{Steppable, Walkable, StepMeets, SeriesMeets, Runnable}
 
 -- after a round the members are shades' numbers and all is fit for the next
 pub step-walkable : {used : ℕ} {ks ws : List ℕ} {k : ℕ} {a : State} (rule : Rule) → GoodRule rule

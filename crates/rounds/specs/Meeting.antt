@@ -8,11 +8,7 @@ use lib.ListN.{getD, length}
 use Rattle.number.specs.{sum, fill, firstThat}
 use Rattle.shades.specs.{mostShades}
 use Rattle.table_entries.specs.{Tabled}
-use Rattle.method.specs.{Colours, State, Fit, coloursOf, Rule, step, after, quiet, totalOf, movedOf, shortDistances, roundsMade}
-
--- the most rounds of a run
-abbrev pub mostRounds : ℕ
-mostRounds = 200
+use Rattle.method.specs.{mostRounds, Colours, State, Fit, coloursOf, Rule, step, after, quiet, totalOf, movedOf, shortDistances, roundsMade}
 
 -- a table, and a state fit for a round on it
 pub record Steppable (used : ℕ) (ks ws : List ℕ) (k : ℕ) (a : State) : Type 0 where

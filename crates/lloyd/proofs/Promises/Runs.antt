@@ -38,7 +38,7 @@ use Rattle.method.proofs.Begins.{begin-past, begin-kept}
 use Rattle.method.proofs.Bounds.{from-zero}
 use Rattle.method.proofs.Costs.{to-mean-means}
 use Rattle.method.proofs.Promises.{fraction-at-least, fraction-exactly}
-use Rattle.lloyd.specs.Refusals.{limitOf}
+use Rattle.lloyd_tests.specs.{limitOf}
 use Rattle.lloyd.specs.Beginning.{FarthestColour}
 use Rattle.lloyd.specs.Outcomes.{RunOutcome, RunMeets, AcceptedRun, runOf, madeRun, left}
 use Rattle.lloyd.specs.declared.Ran.{Ran}

@@ -1,0 +1,100 @@
+// The run.
+ghost use mathlib.Core.Path.{_≡_};
+ghost use Rattle.lloyd.specs.Outcomes.{flagOf, runOf, refusedRun, RunMeets};
+use super::MOST_ROUNDS;
+use super::Ran;
+use lloyd_tests::bad_count;
+use lloyd_tests::limit_of;
+use refusal::BAD_COUNT;
+use refusal::BAD_LIMIT;
+use refusal::BAD_TABLE;
+use refusal::DONE;
+use refusal::FEW_COLOURS;
+use refusal::SHORT_ROOM;
+use rounds::Whole;
+use table::Record;
+
+// 1 where a run is settled, else 0.
+pub fn flag_of(settled: bool) -> u64
+    ensures { λ r. ⌜ r ≡ flagOf settled ⌝ }
+{
+    if settled { 1 } else { 0 }
+}
+
+// The answer of a refusal: its number and zeros.
+fn refused(number: u8) -> Ran
+    ensures { λ r. ⌜ r ≡ refusedRun number ⌝ }
+{
+    Ran {
+        refusal: number,
+        shades: [0u32; 192],
+        rounds: 0,
+        settled: false,
+        distances: 0,
+        total: 0,
+    }
+}
+
+// A run of `count` shades: maximin starting shades, every colour in shade 0, then shortened rounds
+// up to the first that moves no shade or to the limit. A limit of 0 means 20.
+// Refuses, in this order:
+//   2 BAD TABLE     the record and the used entries are no table;
+//   4 BAD COUNT     the shades are not 1 to 64;
+//   5 FEW COLOURS   more shades than used entries are wanted;
+//   6 BAD LIMIT     the limit is above 200;
+//   7 SHORT ROOM    there are fewer members than used entries, or fewer totals than the limit.
+// Leaves the last round's grouping in the members and each round's total in the totals; members
+// past the used entries and totals past the rounds made stay. A refusal leaves both as they came.
+pub fn run(
+    rec: Record,
+    keys: &[u32],
+    weights: &[u32],
+    count: usize,
+    limit: usize,
+    members: &mut [u32],
+    totals: &mut [u64],
+) -> Ran
+    ensures { λ r. ⌜ RunMeets (runOf rec (now (keys .entry)) (now (weights .entry)) count limit
+        (now (members .entry)) (now (totals .entry)))
+        r (now (members .exit)) (now (totals .exit)) ⌝ }
+{
+    if table::bad_table(rec, keys, weights) {
+        return refused(BAD_TABLE);
+    }
+    if bad_count(count) {
+        return refused(BAD_COUNT);
+    }
+    let used = rec.used;
+    if used < count {
+        return refused(FEW_COLOURS);
+    }
+    if MOST_ROUNDS < limit {
+        return refused(BAD_LIMIT);
+    }
+    let rounds = limit_of(limit);
+    if members.len() < used {
+        return refused(SHORT_ROOM);
+    }
+    if totals.len() < rounds {
+        return refused(SHORT_ROOM);
+    }
+    let mut shades = [0u32; 192];
+    let a = rounds::make_run(
+        keys,
+        weights,
+        used,
+        count,
+        rounds,
+        &mut shades,
+        members,
+        totals,
+    );
+    Ran {
+        refusal: DONE,
+        shades,
+        rounds: a.rounds,
+        settled: a.settled,
+        distances: a.distances,
+        total: a.total,
+    }
+}

@@ -1,0 +1,6 @@
+-- What is shown, in full statements.
+pub mod Promises
+-- The outcomes of single rounds.
+pub mod Rounds
+-- The ways out of a single round.
+pub mod Ways

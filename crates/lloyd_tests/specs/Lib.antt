@@ -1,0 +1,20 @@
+-- Glossary.
+--   usualLimit             20, what a limit of 0 means
+--   limitOf limit          the limit asked for
+--   badCount k             the test of 4 BAD COUNT of a run
+--   fewColours             the test of 5 FEW COLOURS
+--   badLimit               the test of 6 BAD LIMIT
+--   shortMembers, shortTotals   the two parts of 7 SHORT ROOM
+--   badMember              the test of 9 BAD MEMBER
+pub mod Tests
+unfoldable pub use Tests.{
+  usualLimit,
+  limitOf,
+  badCount,
+  fewColours,
+  badLimit,
+  shortMembers,
+  shortTotals,
+  memberOff,
+  badMember,
+}
