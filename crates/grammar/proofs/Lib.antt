@@ -1,5 +1,15 @@
 -- What is shown, in full statements.
 pub mod Promises
+-- Laws of spans: how many bytes of one kind stand from a place on, and that only that many do.
+pub mod Spans
+-- Laws of decimal values: one digit more, a bound, and digits that agree.
+pub mod Decimals
+-- The ways a number is read.
+pub mod Readings
+-- The text of a number: its last digit and those before it, and its length.
+pub mod Texts
+-- Its value, its digits, and its first digit.
+pub mod Values
 -- At most one byte is the first wrong one, and none of a word.
 pub mod Wrongs
 -- A machine whose states can all be completed dies at the first wrong byte.

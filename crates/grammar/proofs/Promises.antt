@@ -1,19 +1,44 @@
--- What is shown of languages and machines, for whoever cites it. Each body names the proof.
-use Prim.Native.Nat.{ℕ, suc, _<_}
-use mathlib.Core.Bool.{Bool}
+-- What is shown of decimals, languages and machines, for whoever cites it. Each body names the proof.
+use Prim.Native.Nat.{ℕ, suc, _^_, _≤_, _<_}
+use mathlib.Core.Bool.{Bool, true}
 use mathlib.Core.List.{List, [], _∷_, _++_}
 use mathlib.Core.Logic.{_↔_}
 use mathlib.Core.Option.{Option, none, some}
 use mathlib.Core.Path.{_≡_}
-use lib.ListN.{length, take}
+use lib.ListN.{length, getD, take}
+use Rattle.grammar.specs.Bytes.{digitZero, isDigit}
+use Rattle.grammar.specs.Decimals.{decimal, mostDecimal, decimalText}
 use Rattle.grammar.specs.Languages.{Fronts, Joined, FirstWrong}
 use Rattle.grammar.specs.Machines.{judge, Accepts, Completes, frontStep}
 use Rattle.grammar.specs.Items.{stepItems, nothingLeft, judgeItems}
+use Rattle.grammar.proofs.Texts as texts
+use Rattle.grammar.proofs.Values as values
 use Rattle.grammar.proofs.Wrongs as wrongs
 use Rattle.grammar.proofs.Machines as machines
 use Rattle.grammar.proofs.Items as items
 use Rattle.grammar.proofs.Fronts as fronts
 use Rattle.grammar.proofs.Begun as begun
+
+-- ---- the text of a number
+
+-- The text of a number, read as decimal digits, has that number as its value.
+pub text-value : (n : ℕ) → n < 10 ^ mostDecimal
+    → decimal (length (decimalText n)) (λ i. getD (decimalText n) i 0) ≡ n
+text-value = values.text-value mostDecimal
+
+-- Every byte of it is a decimal digit.
+pub text-digits : (n : ℕ) → n < 10 ^ mostDecimal
+    → (i : ℕ) → i < length (decimalText n) → isDigit (getD (decimalText n) i 0) ≡ true
+text-digits = values.text-digits mostDecimal
+
+-- A text of more than one byte does not begin with the digit 0.
+pub text-no-leading-zero : (n : ℕ) → n < 10 ^ mostDecimal → 1 < length (decimalText n)
+    → getD (decimalText n) 0 0 ≡ digitZero → ⊥
+text-no-leading-zero = values.text-no-leading-zero mostDecimal
+
+-- The text of a number has at most 20 bytes.
+pub decimal-length : (n : ℕ) → length (decimalText n) ≤ mostDecimal
+decimal-length = texts.decimal-length
 
 -- ---- any language
 

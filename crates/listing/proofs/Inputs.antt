@@ -9,9 +9,9 @@ use lib.ListN.{length, take, drop, length-drop}
 use lib.Seq.{take-all}
 use borrow.Author.Tests.{eq-eqb}
 use Rattle.refusal.specs.{done, firstOf}
-use Rattle.p6_header.specs.{byteAt, lineFeed, numberAt}
-use Rattle.p6_header.specs.declared.Reading.the-variants.{Number}
-use Rattle.p6_header.proofs.Spans.{kind-inside}
+use Rattle.grammar.specs.{byteAt, lineFeed, numberAt}
+use Rattle.grammar.specs.declared.Reading.the-variants.{Number}
+use Rattle.grammar.proofs.Spans.{kind-inside}
 use Rattle.texts.specs.{PutMeets, withText}
 use Rattle.listing.specs.Refusals.{mostInput, badLine, countIn, pictureIn, smallRows}
 use Rattle.listing.specs.Texts.{refusedText}

@@ -5,7 +5,8 @@ use mathlib.Core.List.{List, [], _∷_}
 use lib.Dec.{ltb, leb, eqb}
 use lib.ListN.{length, drop, replicate}
 use Rattle.refusal.specs.{Row, row, BAD-COUNT, BAD-HEADER, BAD-SIZE, BAD-DEPTH, BAD-RASTER}
-use Rattle.p6_header.specs.{byteAt, lineFeed, decimal, digitsAt, headerOf}
+use Rattle.grammar.specs.{byteAt, lineFeed, decimal, digitsAt}
+use Rattle.p6_header.specs.{headerOf}
 use Rattle.p6.specs.{widthIn, heightIn, depthIn, startIn, badHeader, badSize, badDepth, badRaster}
 
 -- the most bytes of an input

@@ -13,7 +13,7 @@ use super::lines::put_head;
 use super::lines::put_refusal;
 use super::lines::put_shades;
 use super::test::picture_refusal;
-use p6_header::Reading;
+use grammar::Reading;
 use refusal::BAD_COUNT;
 use refusal::BAD_SIZE;
 use refusal::DONE;
@@ -59,14 +59,14 @@ fn write_listing(input: &[u8], out: &mut [u8]) -> usize
     ensures { λ r. ⌜ PutMeets 0 (listingText (now (input .entry))) (now (out .entry)) r
         (now (out .exit)) ⌝ }
 {
-    let reading = p6_header::number(input, 0);
+    let reading = grammar::number(input, 0);
     let Reading::Number { value: count, next } = reading else {
         return put_refusal(out, BAD_COUNT);
     };
     if 2 < next {
         return put_refusal(out, BAD_COUNT);
     }
-    if p6_header::byte_at(input, next) != b'\n' {
+    if grammar::byte_at(input, next) != b'\n' {
         return put_refusal(out, BAD_COUNT);
     }
     if MOST_INPUT < input.len() {

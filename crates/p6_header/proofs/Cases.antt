@@ -6,10 +6,10 @@ use mathlib.Core.Path.{_≡_, ap, subst}
 use native.Mathlib.Omega.{arith}
 use lib.ListN.{getD}
 use Rattle.refusal.specs.{numberOf, done, BAD-HEADER}
-use Rattle.p6_header.specs.Numbers.{fieldAt, readingNumber, readingValues, ReadingSays}
+use Rattle.grammar.specs.{Reading}
+use Rattle.p6_header.specs.Fields.{fieldAt, readingNumber, readingValues, ReadingSays}
 use Rattle.p6_header.specs.Headers.{headerOf, headerNumber, headerValues, HeaderSays}
-use Rattle.p6_header.specs.declared.Reading.{Reading}
-use Rattle.p6_header.specs.declared.Reading.the-variants.{Number, Failed}
+use Rattle.grammar.specs.declared.Reading.the-variants.{Number, Failed}
 use Rattle.p6_header.specs.declared.Header.{Header}
 use Rattle.p6_header.specs.declared.Header.the-variants.{Read, Bad}
 use Rattle.p6_header.specs.Standing.{FieldFailed, FieldRead, HeaderIn, FirstWrong}

@@ -9,35 +9,15 @@ use native.Mathlib.Omega.{arith}
 use lib.ListN.{length}
 use borrow.Author.Tests.{ne-eqb}
 use Rattle.number.proofs.Cases.{bool, never}
-use Rattle.p6_header.specs.Bytes.{byteAt, isWhite, isDigit}
-use Rattle.p6_header.specs.Numbers.{mostDigits, whitesAt, digitsAt, decimal, numberAt, fieldAt}
-use Rattle.p6_header.specs.declared.Reading.{Reading}
-use Rattle.p6_header.specs.declared.Reading.the-variants.{Number, Failed}
+use Rattle.grammar.specs.{byteAt, isDigit, mostDigits, digitsAt, decimal, numberAt, Reading}
+use Rattle.p6_header.specs.Bytes.{isWhite}
+use Rattle.p6_header.specs.Fields.{whitesAt, fieldAt}
+use Rattle.grammar.specs.declared.Reading.the-variants.{Number, Failed}
 use Rattle.p6_header.specs.Standing.{DigitsEnd, Field, FieldFailed, FieldRead}
-use Rattle.p6_header.proofs.Spans.{span-at-most, span-all, span-ends, span-only, whites-end, whites-only}
-use Rattle.p6_header.proofs.Decimals.{digit-range}
-use Rattle.p6_header.proofs.field.Readings.{number-reads, field-reads, number-fails, field-fails}
-
--- ---- white bytes and digits
-
--- a digit is not white
-pub digit-not-white : (b : ℕ) → isDigit b ≡ true → isWhite b ≡ false
-unfolding isWhite
-digit-not-white b h =
-    let low = digit-range b h .0 in
-    simp (
-      ne-eqb b 32 (λ e. omega arith),
-      ne-eqb b 9 (λ e. omega arith),
-      ne-eqb b 13 (λ e. omega arith),
-      ne-eqb b 10 (λ e. omega arith),
-    )
-
--- a white byte is no digit
-pub white-not-digit : (b : ℕ) → isWhite b ≡ true → isDigit b ≡ false
-white-not-digit b h = elim (bool (isDigit b)) [
-  | inl d ↦ never (sym h ∙ digit-not-white b d)
-  | inr d ↦ d
-]
+use Rattle.grammar.proofs.Spans.{span-at-most, span-all, span-ends, span-only}
+use Rattle.p6_header.proofs.Whites.{digit-not-white, whites-end, whites-only}
+use Rattle.grammar.proofs.Readings.{number-reads, number-fails}
+use Rattle.p6_header.proofs.field.Readings.{field-reads, field-fails}
 
 -- ---- a field that is read
 

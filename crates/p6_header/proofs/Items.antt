@@ -7,11 +7,11 @@ use mathlib.Core.Option.{Option, none, some}
 use mathlib.Core.Path.{refl}
 use lib.Dec.{eqb, ltb}
 use borrow.Author.Tests.{eq-eqb}
+use Rattle.grammar.specs.{carriageReturn, lineFeed, isDigit, mostDigits}
 use Rattle.grammar.specs.{stepItems, nothingLeft, frontStep, Completes}
 use Rattle.grammar.proofs.Items.{items-complete}
 use Rattle.grammar.proofs.Fronts.{front-completes}
-use Rattle.p6_header.specs.Bytes.{carriageReturn, lineFeed, isWhite, isDigit, letterP, figureSix}
-use Rattle.p6_header.specs.Numbers.{mostDigits}
+use Rattle.p6_header.specs.Bytes.{isWhite, letterP, figureSix}
 
 -- a number of a header: width and height are inner ones, and the depth is the last
 pub data Part : Type 0 where

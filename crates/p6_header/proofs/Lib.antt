@@ -1,9 +1,7 @@
 -- What is shown, in full statements.
 pub mod Promises
--- Laws of spans: how many bytes of one kind stand from a place on, and that only that many do.
-pub mod Spans
--- Laws of decimal values: one digit more, a bound, and digits that agree.
-pub mod Decimals
+-- Laws of white bytes: they stand inside the input, and no digit is one.
+pub mod Whites
 -- A field, as it is read and as it stands.
 pub mod Fields
 -- A header as a machine that reads byte by byte.

@@ -5,9 +5,9 @@ use mathlib.Core.Logic.{_↔_}
 use mathlib.Core.Path.{_≡_}
 use lib.ListN.{length}
 use Rattle.refusal.specs.{numberOf, done, BAD-HEADER}
-use Rattle.p6_header.specs.Numbers.{fieldAt, readingNumber, readingValues, ReadingSays}
+use Rattle.grammar.specs.{Reading}
+use Rattle.p6_header.specs.Fields.{fieldAt, readingNumber, readingValues, ReadingSays}
 use Rattle.p6_header.specs.Headers.{headerOf, headerNumber, headerValues, HeaderSays}
-use Rattle.p6_header.specs.declared.Reading.{Reading}
 use Rattle.p6_header.specs.declared.Header.{Header}
 use Rattle.p6_header.specs.declared.Header.the-variants.{Read}
 use Rattle.p6_header.specs.Standing.{FieldFailed, FieldRead, FirstWrong, HeaderIn}

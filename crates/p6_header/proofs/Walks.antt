@@ -11,16 +11,18 @@ use native.Mathlib.Omega.{arith}
 use lib.Dec.{eqb}
 use borrow.Author.Tests.{eq-eqb, ne-eqb, lt-ltb, le-ltb}
 use Rattle.number.proofs.Cases.{bool, never}
+use Rattle.grammar.specs.{byteAt, isDigit, AllOf, Digits, Reading}
 use Rattle.grammar.proofs.Places.{wrongFrom, from-nothing, from-taken, from-same, from-wrong}
-use Rattle.p6_header.specs.Bytes.{byteAt, isWhite, isDigit, letterP, figureSix}
-use Rattle.p6_header.specs.Numbers.{fieldAt, AllOf, Digits}
+use Rattle.p6_header.specs.Bytes.{isWhite, letterP, figureSix}
+use Rattle.p6_header.specs.Fields.{fieldAt}
 use Rattle.p6_header.specs.Headers.{andThen, lastWhite, fieldsOf, headerOf}
 use Rattle.p6_header.specs.Standing.{FieldRead, FieldFailed}
-use Rattle.p6_header.specs.declared.Reading.{Reading}
 use Rattle.p6_header.specs.declared.Header.{Header}
 use Rattle.p6_header.specs.declared.Header.the-variants.{Read, Bad}
-use Rattle.p6_header.proofs.Spans.{kind-inside, white-inside, digit-inside}
-use Rattle.p6_header.proofs.Fields.{white-not-digit, digit-not-white, field-white, Told, read, failed, field-told}
+use Rattle.grammar.proofs.Spans.{kind-inside, digit-inside}
+use Rattle.p6_header.proofs.Whites.{white-inside}
+use Rattle.p6_header.proofs.Whites.{white-not-digit, digit-not-white}
+use Rattle.p6_header.proofs.Fields.{field-white, Told, read, failed, field-told}
 use Rattle.p6_header.proofs.Items.{Part, inner, last, Item, exact, a-white, number, digits, after, headerItems}
 
 -- the wrong place that a header says; none where it is read

@@ -7,24 +7,17 @@ use native.Mathlib.Decide.{ℕ-discrete}
 use native.Mathlib.Omega.{arith}
 use lib.ListN.{length}
 use Rattle.number.proofs.Cases.{bool}
-use Rattle.p6_header.specs.Bytes.{byteAt, isWhite, letterP, figureSix}
-use Rattle.p6_header.specs.Numbers.{fieldAt}
+use Rattle.grammar.specs.{byteAt, Reading}
+use Rattle.p6_header.specs.Bytes.{isWhite, letterP, figureSix}
+use Rattle.p6_header.specs.Fields.{fieldAt}
 use Rattle.p6_header.specs.Headers.{andThen, lastWhite, fieldsOf, headerOf, headerNumber}
-use Rattle.p6_header.specs.declared.Reading.{Reading}
 use Rattle.p6_header.specs.declared.Header.{Header}
 use Rattle.p6_header.specs.declared.Header.the-variants.{Read, Bad}
 use Rattle.p6_header.specs.Standing.{Field, HeaderIn}
-use Rattle.p6_header.proofs.Spans.{white-inside}
-use Rattle.p6_header.proofs.Fields.{
-  white-not-digit,
-  field-white,
-  field-is-read,
-  Told,
-  read,
-  failed,
-  field-told,
-}
-use Rattle.p6_header.proofs.whole.Ways.{letter-fails, figure-fails, letters-pass}
+use Rattle.p6_header.proofs.Whites.{white-inside}
+use Rattle.p6_header.proofs.Whites.{white-not-digit}
+use Rattle.p6_header.proofs.Fields.{field-white, field-is-read, Told, read, failed, field-told}
+use Rattle.p6_header.proofs.read.Ways.{letter-fails, figure-fails, letters-pass}
 
 -- a header that failed was not read
 pub bad-not-read : {X : Type 0} (at w h d n : ℕ) → Bad at ≡ Read w h d n → X

@@ -1,45 +1,12 @@
--- A byte of an input, and the kinds of bytes that a header knows.
+-- The bytes of a header that are no digits: white bytes, and those of "P6".
 use Prim.Native.Nat.{ℕ}
-use mathlib.Core.Bool.{Bool, _&&_, _||_}
-use mathlib.Core.List.{List}
-use lib.Dec.{leb, eqb}
-use lib.ListN.{getD}
-
--- the byte at a place; past the end stands 0, which is no byte of a header
-abbrev pub byteAt : List ℕ → ℕ → ℕ
-byteAt s i = getD s i 0
-
--- the blank
-abbrev pub blank : ℕ
-blank = 32
-
--- TAB
-abbrev pub tab : ℕ
-tab = 9
-
--- CR
-abbrev pub carriageReturn : ℕ
-carriageReturn = 13
-
--- LF
-abbrev pub lineFeed : ℕ
-lineFeed = 10
-
--- the digit 0
-abbrev pub digitZero : ℕ
-digitZero = 48
-
--- the digit 9
-abbrev pub digitNine : ℕ
-digitNine = 57
+use mathlib.Core.Bool.{Bool, _||_}
+use lib.Dec.{eqb}
+use Rattle.grammar.specs.{blank, tab, carriageReturn, lineFeed}
 
 -- white bytes: blank, TAB, CR, LF
 unfoldable pub isWhite : ℕ → Bool
-isWhite b = eqb b blank || (eqb b tab || (eqb b carriageReturn || eqb b lineFeed))
-
--- decimal digits: 0 to 9, whose bytes follow one another
-unfoldable pub isDigit : ℕ → Bool
-isDigit b = leb digitZero b && leb b digitNine
+isWhite byte = eqb byte blank || (eqb byte tab || (eqb byte carriageReturn || eqb byte lineFeed))
 
 -- the first byte of "P6"
 abbrev pub letterP : ℕ

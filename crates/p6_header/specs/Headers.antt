@@ -5,10 +5,10 @@ use mathlib.Core.List.{List, [], _∷_}
 use mathlib.Core.Path.{_≡_}
 use lib.Dec.{eqb}
 use Rattle.refusal.specs.{numberOf, done, BAD-HEADER}
-use Rattle.p6_header.specs.Bytes.{byteAt, isWhite, letterP, figureSix}
-use Rattle.p6_header.specs.Numbers.{fieldAt}
-use Rattle.p6_header.specs.declared.Reading.{Reading}
-use Rattle.p6_header.specs.declared.Reading.the-variants.{Number, Failed}
+use Rattle.grammar.specs.{byteAt, Reading}
+use Rattle.grammar.specs.declared.Reading.the-variants.{Number, Failed}
+use Rattle.p6_header.specs.Bytes.{isWhite, letterP, figureSix}
+use Rattle.p6_header.specs.Fields.{fieldAt}
 use Rattle.p6_header.specs.declared.Header.{Header}
 use Rattle.p6_header.specs.declared.Header.the-variants.{Read, Bad}
 

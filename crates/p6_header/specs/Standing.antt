@@ -4,8 +4,8 @@ use mathlib.Core.Bool.{true, false}
 use mathlib.Core.List.{List}
 use mathlib.Core.Path.{_≡_}
 use Rattle.grammar.specs as grammar
-use Rattle.p6_header.specs.Bytes.{byteAt, isWhite, isDigit, letterP, figureSix}
-use Rattle.p6_header.specs.Numbers.{AllOf, Digits, mostDigits, decimal}
+use Rattle.grammar.specs.{byteAt, isDigit, AllOf, Digits, mostDigits, decimal}
+use Rattle.p6_header.specs.Bytes.{isWhite, letterP, figureSix}
 
 -- ---- a field
 

@@ -2,31 +2,19 @@
 // byte. What the numbers may be is tested by the crate p6.
 //
 // Calls; none requires anything of its caller
-//   read_header   the header at the front of an input, or where it fails   whole.rt
+//   read_header   the header at the front of an input, or where it fails   read.rt
 //   bad_at        where a header failed
-//   number        1 to 5 digits at a place                                 field.rt
-//   byte_at       the byte at a place, 0 past the end                      byte.rt
-// Its parts: a byte and its kinds in byte.rt, white bytes and numbers in field.rt.
+// Its parts: white bytes in white.rt, white bytes and a number after them in field.rt. Digits and
+// numbers are the crate grammar's.
 //
 // Read next: specs/Lib.antt (what the words mean), proofs/Promises.antt (what is shown).
 
-mod byte;
 mod field;
-mod whole;
+mod read;
+mod white;
 
-pub use byte::byte_at;
-pub use field::number;
-pub use whole::bad_at;
-pub use whole::read_header;
-
-// The most digits of a number.
-pub const MOST_DIGITS: usize = 5;
-
-// What reading a number yields: the number and where it ended, or the place it failed.
-pub enum Reading {
-    Number { value: u32, next: usize },
-    Failed { at: usize },
-}
+pub use read::bad_at;
+pub use read::read_header;
 
 // What reading a header yields: its numbers and the first place after it, or the place of the first
 // byte that cannot stand there, which is the input's length where it ends early.

@@ -1,6 +1,4 @@
 -- What is shown, in full statements.
 pub mod Promises
--- Laws of texts: how they are put one behind the other, and how long the text of a number is.
+-- Laws of texts in a buffer: how they are put one behind the other, and byte by byte.
 pub mod Texts
--- The text of a number: its value, its digits, and its first digit.
-pub mod Values

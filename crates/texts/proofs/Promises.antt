@@ -1,28 +1,20 @@
--- What is shown of texts, for whoever cites it. Each body names the proof.
-use Prim.Native.Nat.{ℕ, _^_, _≤_, _<_}
-use mathlib.Core.Bool.{true}
-use mathlib.Core.Path.{_≡_}
-use lib.ListN.{length, getD}
-use Rattle.p6_header.specs.{digitZero, isDigit, decimal}
-use Rattle.texts.specs.Decimals.{mostDecimal, decimalText}
+-- What is shown of texts in a buffer, for whoever cites it. Each body names the proof.
+use Prim.Native.Nat.{ℕ}
+use mathlib.Core.List.{List, _++_}
+use mathlib.Core.Path.{_≡_, sym, _∙_}
+use lib.ListN.{length}
+use Rattle.texts.specs.Putting.{PutMeets}
 use Rattle.texts.proofs.Texts as texts
-use Rattle.texts.proofs.Values as values
 
--- The text of a number, read as decimal digits, has that number as its value.
-pub text-value : (n : ℕ) → n < 10 ^ mostDecimal
-    → decimal (length (decimalText n)) (λ i. getD (decimalText n) i 0) ≡ n
-text-value = values.text-value mostDecimal
+-- Whatever meets the contract of a put is one place and one buffer.
+pub put-only : {a r r′ : ℕ} {t d x x′ : List ℕ} → PutMeets a t d r x → PutMeets a t d r′ x′ → (r ≡ r′) × (x ≡ x′)
+put-only p q = (p .ends ∙ sym (q .ends), p .text-is ∙ sym (q .text-is))
 
--- Every byte of it is a decimal digit.
-pub text-digits : (n : ℕ) → n < 10 ^ mostDecimal
-    → (i : ℕ) → i < length (decimalText n) → isDigit (getD (decimalText n) i 0) ≡ true
-text-digits = values.text-digits mostDecimal
+-- Two puts, the second at the place that the first answered, put the two texts as one.
+pub put-then : {a b c : ℕ} {t u d x y : List ℕ} → PutMeets a t d b x → PutMeets b u x c y
+    → PutMeets a (t ++ u) d c y
+put-then = texts.put-then
 
--- A text of more than one byte does not begin with the digit 0.
-pub text-no-leading-zero : (n : ℕ) → n < 10 ^ mostDecimal → 1 < length (decimalText n)
-    → getD (decimalText n) 0 0 ≡ digitZero → ⊥
-text-no-leading-zero = values.text-no-leading-zero mostDecimal
-
--- The text of a number has at most 20 bytes.
-pub decimal-length : (n : ℕ) → length (decimalText n) ≤ mostDecimal
-decimal-length = texts.decimal-length
+-- A put keeps the buffer's length.
+pub put-length : {a b : ℕ} {t d x : List ℕ} → PutMeets a t d b x → length x ≡ length d
+put-length = texts.put-length

@@ -2,8 +2,7 @@
 ghost use mathlib.Core.List.{[], _∷_, _++_};
 ghost use Prim.Native.Nat.{_+_, _^_, _<_, _≤_};
 ghost use lib.ListN.{length};
-ghost use Rattle.p6_header.specs.{blank, lineFeed};
-ghost use Rattle.texts.specs.Decimals.{mostDecimal, decimalText, shortText};
+ghost use Rattle.grammar.specs.{blank, lineFeed, mostDecimal, decimalText, shortText};
 ghost use Rattle.texts.specs.Putting.{PutMeets};
 use super::word::put_byte;
 

@@ -9,9 +9,10 @@ use lib.Seq.{append-snoc}
 use Rattle.shades.specs.{mostCoordinates}
 use Rattle.palette.specs.{paletteFromShades, PaletteMeets}
 use Rattle.mapping.specs.{Mapped, mapStrip, MapMeets}
-use Rattle.p6_header.specs.{blank, lineFeed}
-use Rattle.texts.specs.{decimalText, lineOf, linesOf, PutMeets}
-use Rattle.texts.proofs.Texts.{put-then, put-length, bytes-start, decimal-length}
+use Rattle.grammar.specs.{blank, lineFeed, decimalText}
+use Rattle.texts.specs.{lineOf, linesOf, PutMeets}
+use Rattle.grammar.proofs.Texts.{decimal-length}
+use Rattle.texts.proofs.Texts.{put-then, put-length, bytes-start}
 use Rattle.listing.specs.Refusals.{mostListed, listedZeros}
 use Rattle.listing.specs.Texts.{mappedTo, shadeFields, shadeRows, shadeLines}
 

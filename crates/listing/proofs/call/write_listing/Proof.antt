@@ -4,8 +4,8 @@ use mathlib.Core.List.{List}
 use mathlib.Core.Path.{_≡_, sym, _∙_}
 use native.Mathlib.Omega.{arith}
 use denote.Ref.{now}
-use Rattle.p6_header.specs.{byteAt, lineFeed, numberAt}
-use Rattle.p6_header.specs.declared.Reading.the-variants.{Number}
+use Rattle.grammar.specs.{byteAt, lineFeed, numberAt}
+use Rattle.grammar.specs.declared.Reading.the-variants.{Number}
 use Rattle.listing.proofs.Smalls.{small-raster}
 use Rattle.listing.proofs.Ways.{
   line-no-digit,

@@ -2,7 +2,7 @@
 use mathlib.Core.List.{[], _∷_}
 use native.Mathlib.Omega.{arith}
 use borrow.Author.Needs.{needs}
-use Rattle.p6_header.specs.{blank}
+use Rattle.grammar.specs.{blank}
 use Rattle.lloyd.specs.{flagOf}
 use Rattle.listing.proofs.lines.Lines.{Room, field-room, field-is, field-then}
 use Rattle.listing.proofs.lines.put_head.Statement.{statement}

@@ -5,7 +5,7 @@ use native.Mathlib.Omega.{arith}
 use lib.ListN.{getD}
 use denote.Ref.{now}
 use borrow.Author.Needs.{needs}
-use Rattle.p6_header.specs.{blank, lineFeed}
+use Rattle.grammar.specs.{blank, lineFeed}
 use Rattle.listing.specs.Texts.{mappedTo}
 use Rattle.listing.proofs.lines.Lines.{Room, field-room, field-is, field-then}
 use Rattle.listing.proofs.lines.put_shade.Statement.{statement}

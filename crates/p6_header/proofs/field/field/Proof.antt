@@ -12,7 +12,7 @@ white-end-requires c κs = search needs
 returns : tie.Need-returns
 returns c =
     let a = c .before .before .before .args in
-    field-fails (now (a .s)) (a .at) _ (c .before .white-end .ensures) (c .if1 .taken)
+    field-fails (now (a .input)) (a .at) _ (c .before .white-end .ensures) (c .if1 .taken)
 
 number-requires : tie.Need-number-requires
 number-requires c κs = search needs
@@ -21,7 +21,7 @@ returns-2 : tie.Need-returns-2
 returns-2 c =
     let a = c .before .before .before .before .args in
     c .number .ensures
-    ∙ field-reads (now (a .s)) (a .at) _ (c .before .before .white-end .ensures) (c .before .if1 .left)
+    ∙ field-reads (now (a .input)) (a .at) _ (c .before .before .white-end .ensures) (c .before .if1 .left)
 
 pub field-spec : {M : Type 1} → statement M
 field-spec = tie.close (tie.spec white-end-requires returns number-requires returns-2)

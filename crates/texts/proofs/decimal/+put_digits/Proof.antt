@@ -2,7 +2,8 @@
 use mathlib.Core.Path.{_∙_}
 use native.Mathlib.Omega.{arith}
 use borrow.Author.Needs.{needs}
-use Rattle.texts.proofs.Texts.{put-length, put-then, short-digit, short-more, short-most, more-room, tenth-below}
+use Rattle.grammar.proofs.Texts.{short-digit, short-more, short-most, more-room, tenth-below}
+use Rattle.texts.proofs.Texts.{put-length, put-then}
 use Prim.Native.Nat.{ℕ, _-_, _/_, _<_}
 use borrow.Fn.Kinds.{In}
 use borrow.Fn.PlainCycle.{Measures, is, falls, and}

@@ -1,7 +1,8 @@
 -- `put_field` meets its contract: a number and the blank behind it, one put after the other.
 use native.Mathlib.Omega.{arith}
 use borrow.Author.Needs.{needs}
-use Rattle.texts.proofs.Texts.{put-length, put-then, decimal-length}
+use Rattle.grammar.proofs.Texts.{decimal-length}
+use Rattle.texts.proofs.Texts.{put-length, put-then}
 use Rattle.texts.proofs.decimal.put_field.Statement.{statement}
 use Rattle.texts.proofs.decimal.put_field.Tie as tie
 

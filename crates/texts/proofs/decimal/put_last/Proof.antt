@@ -1,7 +1,8 @@
 -- `put_last` meets its contract: a number and the LF behind it, one put after the other.
 use native.Mathlib.Omega.{arith}
 use borrow.Author.Needs.{needs}
-use Rattle.texts.proofs.Texts.{put-length, put-then, decimal-length}
+use Rattle.grammar.proofs.Texts.{decimal-length}
+use Rattle.texts.proofs.Texts.{put-length, put-then}
 use Rattle.texts.proofs.decimal.put_last.Statement.{statement}
 use Rattle.texts.proofs.decimal.put_last.Tie as tie
 

@@ -1,0 +1,2 @@
+-- The digits as the loops meet them: their count and their value.
+pub mod Turns

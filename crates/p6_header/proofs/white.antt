@@ -1,0 +1,2 @@
+-- The white bytes as the loop meets them.
+pub mod Turns
