@@ -18,7 +18,7 @@ pub mod Machines
 pub mod Items
 -- A machine that looks at the front of its input.
 pub mod Fronts
--- It over the places of an input.
+-- Machines over the places of an input.
 pub mod Places
 -- The first wrong byte of an input that should begin with a word, by the words alone.
-pub mod Begun
+pub mod FrontWrongs

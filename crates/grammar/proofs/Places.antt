@@ -1,80 +1,107 @@
--- A front machine of items over the places of an input: what it says from a place on, by the byte that stands there.
-use Prim.Native.Nat.{ℕ, suc, _+_, _<_}
+-- A machine over the places of an input: what it says from a place on, by the byte that stands there. Then the same of
+-- items at the front of an input, for a reader that goes by places.
+use Prim.Native.Nat.{ℕ, suc, _+_, _≤_, _<_}
+use mathlib.Core.Bool.{Bool, false}
 use mathlib.Core.List.{List, [], _∷_, _++_}
 use mathlib.Core.Option.{Option, none, some}
 use mathlib.Core.Path.{_≡_, refl, sym, ap, _∙_}
 use native.Mathlib.Decide.{decLt}
-use native.Mathlib.Omega.{arith}
-use lib.ListN.{length, drop, getD, drop-of-length-le}
-use lib.Seq.{drop-cons}
 use native.Mathlib.Numerals.{add-one}
-use Rattle.grammar.specs.Machines.{later, further, judge, frontStep}
-use Rattle.grammar.specs.Items.{before, stepItems, nothingLeft}
+use native.Mathlib.Omega.{arith}
+use lib.ListN.{length, drop, drop-of-length-le}
+use lib.Seq.{drop-cons}
+use Rattle.grammar.specs.Bytes.{byteAt}
+use Rattle.grammar.specs.Machines.{later, judge, frontStep, placed, wrongFrom}
+use Rattle.grammar.specs.Items.{before, stepItems, nothingLeft, judgeFront}
+use Rattle.grammar.proofs.Machines.{said-on, said-dead}
 use Rattle.grammar.proofs.Fronts.{front-stopped}
 
--- a place counted from a on
-abbrev pub placed : ℕ → Option ℕ → Option ℕ
-placed a none = none
-placed a (some n) = some (a + n)
+-- ---- places
 
 -- a place one byte later is one counted from one place later
-placed-later : (a : ℕ) (o : Option ℕ) → placed a (later o) ≡ placed (a + 1) o
+placed-later : (a : ℕ) (o : Option ℕ) → placed a (later o) ≡ placed (suc a) o
 placed-later a none = refl
-placed-later a (some n) = let e : a + suc n ≡ a + 1 + n = omega arith in ap {B = Option ℕ} some e
+placed-later a (some n) = let e : a + suc n ≡ suc a + n = omega arith in ap {B = Option ℕ} some e
 
 -- a place counted from 0 on is itself
-pub placed-zero : (o : Option ℕ) → placed 0 o ≡ o
+placed-zero : (o : Option ℕ) → placed 0 o ≡ o
 placed-zero none = refl
 placed-zero (some n) = let e : 0 + n ≡ n = omega arith in ap {B = Option ℕ} some e
 
-module _ {I : Type 0} (after : I → ℕ → Option (List I)) where
-  -- what is said of an input of these items at its front
-  abbrev pub judgeFront : List I → List ℕ → Option ℕ
-  judgeFront is s = judge (frontStep (stepItems after) nothingLeft) nothingLeft is s
+-- the place that is counted from is 0 places behind itself
+placed-here : (a : ℕ) → placed a (some 0) ≡ some a
+placed-here a = let e : a + 0 ≡ a = omega arith in ap {B = Option ℕ} some e
 
-  -- the wrong place of s where these items are to come from place a on
-  abbrev pub wrongFrom : List I → List ℕ → ℕ → Option ℕ
-  wrongFrom is s a = placed a (judgeFront is (drop a s))
+-- ---- any machine
+
+module _ {S : Type 0} (step : S → ℕ → Option S) (accepts : S → Bool) where
+  -- from the first place on it is what the machine says
+  from-first : (q : S) (s : List ℕ) → wrongFrom step accepts q s 0 ≡ judge step accepts q s
+  from-first q s = placed-zero (judge step accepts q s)
+
+  -- a byte that leads to a state
+  from-on : (q r : S) (s : List ℕ) (a : ℕ) → a < length s → step q (byteAt s a) ≡ some r
+      → wrongFrom step accepts q s a ≡ wrongFrom step accepts r s (a + 1)
+  from-on q r s a h e =
+      ap (λ t. placed a (judge step accepts q t)) (drop-cons s a 0 h)
+      ∙ ap (placed a) (said-on step accepts q r (byteAt s a) (drop (suc a) s) e)
+      ∙ placed-later a (judge step accepts r (drop (suc a) s))
+      ∙ ap (wrongFrom step accepts r s) (sym (add-one a))
+
+  -- a byte that leads to none
+  from-dead : (q : S) (s : List ℕ) (a : ℕ) → a < length s → step q (byteAt s a) ≡ none
+      → wrongFrom step accepts q s a ≡ some a
+  from-dead q s a h e =
+      ap (λ t. placed a (judge step accepts q t)) (drop-cons s a 0 h)
+      ∙ ap (placed a) (said-dead step accepts q (byteAt s a) (drop (suc a) s) e)
+      ∙ placed-here a
+
+  -- the end of an input that may not end there
+  from-end : (q : S) (s : List ℕ) (a : ℕ) → length s ≤ a → accepts q ≡ false → wrongFrom step accepts q s a ≡ some a
+  from-end q s a h t =
+      ap (λ l. placed a (judge step accepts q l)) (drop-of-length-le s {i = a} h) ∙ rw t (placed-here a)
+
+-- ---- items at the front of an input
+
+module _ {I : Type 0} (after : I → ℕ → Option (List I)) where
+  -- the steps of the machine that looks at the front
+  abbrev step : List I → ℕ → Option (List I)
+  step = frontStep (stepItems after) nothingLeft
+
+  -- the wrong place of an input in which these items are to come from place a on
+  abbrev pub wrongFront : List I → List ℕ → ℕ → Option ℕ
+  wrongFront is s a = wrongFrom (frontStep (stepItems after) nothingLeft) nothingLeft is s a
+
+  -- from the first place on it is what the machine says
+  pub front-first : (is : List I) (s : List ℕ) → wrongFront is s 0 ≡ judgeFront after is s
+  front-first is s = from-first step nothingLeft is s
 
   -- where nothing is to come nothing is wrong
-  pub from-nothing : (s : List ℕ) (a : ℕ) → wrongFrom [] s a ≡ none
-  from-nothing s a = ap (placed a) (front-stopped (stepItems after) nothingLeft (drop a s) [] refl)
+  pub front-nothing : (s : List ℕ) (a : ℕ) → wrongFront [] s a ≡ none
+  front-nothing s a = ap (placed a) (front-stopped (stepItems after) nothingLeft (drop a s) [] refl)
 
   -- a byte that the first item takes
-  pub from-taken : (i : I) (rest is : List I) (s : List ℕ) (a : ℕ) → a < length s → after i (getD s a 0) ≡ some is
-      → wrongFrom (i ∷ rest) s a ≡ wrongFrom (is ++ rest) s (a + 1)
-  from-taken i rest is s a h e =
-      ap (λ t. placed a (judgeFront (i ∷ rest) t)) (drop-cons s a 0 h)
-      ∙ ap (λ o. placed a (further (λ r. judgeFront r (drop (suc a) s)) (before rest o))) e
-      ∙ placed-later a (judgeFront (is ++ rest) (drop (suc a) s))
-      ∙ ap (λ n. placed (a + 1) (judgeFront (is ++ rest) (drop n s))) (sym (add-one a))
-
-  -- two items that do the same with the byte at a place, or with the end
-  pub from-same : (i j : I) (rest : List I) (s : List ℕ) (a : ℕ) → after i (getD s a 0) ≡ after j (getD s a 0)
-      → wrongFrom (i ∷ rest) s a ≡ wrongFrom (j ∷ rest) s a
-  from-same i j rest s a e = go (decLt a (length s))
-    where
-      go : Dec (a < length s) → wrongFrom (i ∷ rest) s a ≡ wrongFrom (j ∷ rest) s a
-      go (yes h) =
-          ap (λ t. placed a (judgeFront (i ∷ rest) t)) (drop-cons s a 0 h)
-          ∙ ap (λ o. placed a (further (λ r. judgeFront r (drop (suc a) s)) (before rest o))) e
-          ∙ sym (ap (λ t. placed a (judgeFront (j ∷ rest) t)) (drop-cons s a 0 h))
-      go (no h) =
-          let z : drop a s ≡ [] = drop-of-length-le s {i = a} (omega arith) in
-          ap (λ t. placed a (judgeFront (i ∷ rest) t)) z ∙ sym (ap (λ t. placed a (judgeFront (j ∷ rest) t)) z)
+  pub front-taken : (i : I) (rest is : List I) (s : List ℕ) (a : ℕ) → a < length s → after i (byteAt s a) ≡ some is
+      → wrongFront (i ∷ rest) s a ≡ wrongFront (is ++ rest) s (a + 1)
+  front-taken i rest is s a h e = from-on step nothingLeft (i ∷ rest) (is ++ rest) s a h (ap (before rest) e)
 
   -- a byte that it does not take, or the end
-  pub from-wrong : (i : I) (rest : List I) (s : List ℕ) (a : ℕ) → after i (getD s a 0) ≡ none
-      → wrongFrom (i ∷ rest) s a ≡ some a
-  from-wrong i rest s a e = go (decLt a (length s))
-    where
-      here : some (a + 0) ≡ some a
-      here = let z : a + 0 ≡ a = omega arith in ap {B = Option ℕ} some z
+  pub front-wrong : (i : I) (rest : List I) (s : List ℕ) (a : ℕ) → after i (byteAt s a) ≡ none
+      → wrongFront (i ∷ rest) s a ≡ some a
+  front-wrong i rest s a e = elim (decLt a (length s)) [
+    | yes h ↦ from-dead step nothingLeft (i ∷ rest) s a h (ap (before rest) e)
+    | no h ↦ from-end step nothingLeft (i ∷ rest) s a (omega arith) refl
+  ]
 
-      go : Dec (a < length s) → wrongFrom (i ∷ rest) s a ≡ some a
-      go (yes h) =
-          ap (λ t. placed a (judgeFront (i ∷ rest) t)) (drop-cons s a 0 h)
-          ∙ ap (λ o. placed a (further (λ r. judgeFront r (drop (suc a) s)) (before rest o))) e ∙ here
-      go (no h) =
-          let z : drop a s ≡ [] = drop-of-length-le s {i = a} (omega arith) in
-          ap (λ t. placed a (judgeFront (i ∷ rest) t)) z ∙ here
+  -- two items that do the same with the byte at a place, or with the end
+  pub front-same : (i j : I) (rest : List I) (s : List ℕ) (a : ℕ) → after i (byteAt s a) ≡ after j (byteAt s a)
+      → wrongFront (i ∷ rest) s a ≡ wrongFront (j ∷ rest) s a
+  front-same i j rest s a e = told (decLt a (length s)) (after j (byteAt s a)) refl
+    where
+      told : Dec (a < length s) → (o : Option (List I)) → after j (byteAt s a) ≡ o
+          → wrongFront (i ∷ rest) s a ≡ wrongFront (j ∷ rest) s a
+      told h none k = front-wrong i rest s a (e ∙ k) ∙ sym (front-wrong j rest s a k)
+      told (yes h) (some is) k = front-taken i rest is s a h (e ∙ k) ∙ sym (front-taken j rest is s a h k)
+      told (no h) (some is) k =
+          from-end step nothingLeft (i ∷ rest) s a (omega arith) refl
+          ∙ sym (from-end step nothingLeft (j ∷ rest) s a (omega arith) refl)

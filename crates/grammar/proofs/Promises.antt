@@ -1,23 +1,37 @@
 -- What is shown of decimals, languages and machines, for whoever cites it. Each body names the proof.
-use Prim.Native.Nat.{ℕ, suc, _^_, _≤_, _<_}
-use mathlib.Core.Bool.{Bool, true}
+use Prim.Native.Nat.{ℕ, suc, _+_, _^_, _≤_, _<_}
+use mathlib.Core.Bool.{Bool, true, false}
 use mathlib.Core.List.{List, [], _∷_, _++_}
 use mathlib.Core.Logic.{_↔_}
 use mathlib.Core.Option.{Option, none, some}
 use mathlib.Core.Path.{_≡_}
 use lib.ListN.{length, getD, take}
-use Rattle.grammar.specs.Bytes.{digitZero, isDigit}
+use Rattle.grammar.specs.Bytes.{byteAt, digitZero, isDigit}
+use Rattle.grammar.specs.Spans.{spanAt, AllOf}
 use Rattle.grammar.specs.Decimals.{decimal, mostDecimal, decimalText}
-use Rattle.grammar.specs.Languages.{Fronts, Joined, FirstWrong}
+use Rattle.grammar.specs.Languages.{Fronts, GoesOn, Joined, FirstWrong}
 use Rattle.grammar.specs.Machines.{judge, Accepts, Completes, frontStep}
 use Rattle.grammar.specs.Items.{stepItems, nothingLeft, judgeItems}
+use Rattle.grammar.proofs.Spans as spans
 use Rattle.grammar.proofs.Texts as texts
 use Rattle.grammar.proofs.Values as values
 use Rattle.grammar.proofs.Wrongs as wrongs
 use Rattle.grammar.proofs.Machines as machines
 use Rattle.grammar.proofs.Items as items
 use Rattle.grammar.proofs.Fronts as fronts
-use Rattle.grammar.proofs.Begun as begun
+use Rattle.grammar.proofs.FrontWrongs as front-wrongs
+
+-- ---- spans
+
+-- Every byte of a span is of its kind.
+pub span-all : (kind : ℕ → Bool) (most : ℕ) (input : List ℕ) (at : ℕ)
+    → AllOf kind input at (spanAt kind most input at)
+span-all = spans.span-all
+
+-- So many bytes of a kind, and then the bound or a byte of another kind, are the span.
+pub span-only : (kind : ℕ → Bool) (most : ℕ) (input : List ℕ) (at n : ℕ) → n ≤ most → AllOf kind input at n
+    → (n < most → kind (byteAt input (at + n)) ≡ false) → n ≡ spanAt kind most input at
+span-only = spans.span-only
 
 -- ---- the text of a number
 
@@ -43,47 +57,61 @@ decimal-length = texts.decimal-length
 -- ---- any language
 
 -- An input has at most one first wrong byte.
-pub wrong-only : (L : List ℕ → Type 0) (s : List ℕ) (a b : ℕ) → FirstWrong L s a → FirstWrong L s b → a ≡ b
+pub wrong-only : (language : List ℕ → Type 0) (input : List ℕ) (a b : ℕ) → FirstWrong language input a
+    → FirstWrong language input b → a ≡ b
 wrong-only = wrongs.wrong-only
 
 -- A word has none.
-pub word-not-wrong : (L : List ℕ → Type 0) (s : List ℕ) (at : ℕ) → L s → ¬ FirstWrong L s at
+pub word-not-wrong : (language : List ℕ → Type 0) (input : List ℕ) (at : ℕ) → language input
+    → ¬ FirstWrong language input at
 word-not-wrong = wrongs.word-not-wrong
 
+-- Languages with the same words have the same first wrong bytes.
+pub wrong-same : (L M : List ℕ → Type 0) → ((input : List ℕ) → L input ↔ M input) → (input : List ℕ) (at : ℕ)
+    → FirstWrong L input at → FirstWrong M input at
+wrong-same = wrongs.wrong-same
+
 -- Where an input should begin with a word and does not, some word has all bytes before the first wrong one and goes on.
-pub wrong-goes-on : (H : List ℕ → Type 0) (s : List ℕ) (at : ℕ) → FirstWrong (Fronts H) s at → begun.GoesOn H s at
-wrong-goes-on = begun.wrong-goes-on
+pub wrong-goes-on : (language : List ℕ → Type 0) (input : List ℕ) (at : ℕ) → FirstWrong (Fronts language) input at
+    → GoesOn language input at
+wrong-goes-on = front-wrongs.wrong-goes-on
 
 -- And none has that byte too.
-pub wrong-stops : (H : List ℕ → Type 0) (s : List ℕ) (at : ℕ) → FirstWrong (Fronts H) s at → at < length s
-    → (h : List ℕ) → H h → at < length h → ¬ (take (suc at) h ≡ take (suc at) s)
-wrong-stops = begun.wrong-stops
+pub wrong-stops : (language : List ℕ → Type 0) (input : List ℕ) (at : ℕ) → FirstWrong (Fronts language) input at
+    → at < length input → (word : List ℕ) → language word → at < length word
+    → ¬ (take (suc at) word ≡ take (suc at) input)
+wrong-stops = front-wrongs.wrong-stops
 
 -- ---- machines
 
 -- A machine that recognises a language, and every state of which can be completed to a word, dies at the first wrong
 -- byte, or at the end of an input that ends early, and there alone.
 pub wrong-exactly : {S : Type 0} (step : S → ℕ → Option S) (accepts : S → Bool)
-    → ((q : S) → Completes step accepts q) → (L : List ℕ → Type 0) (q : S)
-    → ((s : List ℕ) → Accepts step accepts q s ↔ L s) → (s : List ℕ) (n : ℕ)
-    → (judge step accepts q s ≡ some n) ↔ FirstWrong L s n
+    → ((state : S) → Completes step accepts state) → (language : List ℕ → Type 0) (state : S)
+    → ((input : List ℕ) → Accepts step accepts state input ↔ language input) → (input : List ℕ) (at : ℕ)
+    → (judge step accepts state input ≡ some at) ↔ FirstWrong language input at
 wrong-exactly = machines.wrong-exactly
 
 -- The machine that stops where it first accepts takes the inputs that begin with a word.
-pub front-exactly : {S : Type 0} (step : S → ℕ → Option S) (accepts : S → Bool) (q : S) (s : List ℕ)
-    → Accepts (frontStep step accepts) accepts q s ↔ Fronts (Accepts step accepts q) s
+pub front-exactly : {S : Type 0} (step : S → ℕ → Option S) (accepts : S → Bool) (state : S) (input : List ℕ)
+    → Accepts (frontStep step accepts) accepts state input ↔ Fronts (Accepts step accepts state) input
 front-exactly = fronts.front-exactly
+
+-- It can be completed wherever the machine itself can.
+pub front-completes : {S : Type 0} (step : S → ℕ → Option S) (accepts : S → Bool) (state : S)
+    → Completes step accepts state → Completes (frontStep step accepts) accepts state
+front-completes = fronts.front-completes
 
 -- ---- machines of items
 
 -- The words of items are words of the first items, each with one of the others behind it.
-pub words-joined : {I : Type 0} (after : I → ℕ → Option (List I)) (is js : List I) (w : List ℕ)
-    → (judgeItems after (is ++ js) w ≡ none)
-    ↔ Joined (λ u. judgeItems after is u ≡ none) (λ v. judgeItems after js v ≡ none) w
+pub words-joined : {I : Type 0} (after : I → ℕ → Option (List I)) (first others : List I) (bytes : List ℕ)
+    → (judgeItems after (first ++ others) bytes ≡ none)
+    ↔ Joined (λ u. judgeItems after first u ≡ none) (λ v. judgeItems after others v ≡ none) bytes
 words-joined = items.words-joined
 
 -- Where every item can be completed every state can.
 pub items-complete : {I : Type 0} (after : I → ℕ → Option (List I))
-    → ((i : I) → Completes (stepItems after) nothingLeft (i ∷ [])) → (is : List I)
-    → Completes (stepItems after) nothingLeft is
+    → ((item : I) → Completes (stepItems after) nothingLeft (item ∷ [])) → (state : List I)
+    → Completes (stepItems after) nothingLeft state
 items-complete = items.items-complete

@@ -11,18 +11,18 @@ use lib.Seq.{take-take}
 use Rattle.grammar.specs.Languages.{Begins, FirstWrong}
 
 module _ (L : List ℕ → Type 0) where
-  -- a word that begins with some bytes begins with fewer
-  pub begins-fewer : (p q : List ℕ) → Begins L (p ++ q) → Begins L p
+  -- where a word begins with some bytes one begins with fewer
+  begins-fewer : (p q : List ℕ) → Begins L (p ++ q) → Begins L p
   begins-fewer p q b = record { more = q ++ b .more; word = subst L (append-assoc p q (b .more)) (b .word) }
 
   -- and so with fewer of an input
-  pub begins-before : (s : List ℕ) (m n : ℕ) → m ≤ n → Begins L (take n s) → Begins L (take m s)
+  begins-before : (s : List ℕ) (m n : ℕ) → m ≤ n → Begins L (take n s) → Begins L (take m s)
   begins-before s m n h b =
       rw (← take-take m n s h)
       (begins-fewer (take m (take n s)) (drop m (take n s)) (rw (take-append-drop m (take n s)) b))
 
   -- every word begins with its own first bytes
-  pub word-begins : (s : List ℕ) (n : ℕ) → L s → Begins L (take n s)
+  word-begins : (s : List ℕ) (n : ℕ) → L s → Begins L (take n s)
   word-begins s n w = record { more = drop n s; word = rw (take-append-drop n s) w }
 
   -- no byte behind the first wrong one is the first wrong one

@@ -17,18 +17,25 @@
 --   shortText most n     the decimal text of a number of at most so many digits
 --   decimalText n        that of a number of 64 bits
 --
--- Languages and machines
---   Begins L p           some word of L begins with the bytes p
---   Fronts L s           s begins with a word of L
---   Joined L M w         a word of L and then one of M
---   FirstWrong L s at    place `at` has the first byte of s that cannot stand there, or s ends early and is that long
---   judge step accepts q s   what a machine says of s from state q on: none where it is a word, else the wrong place
---   Accepts step accepts q   the language of the machine from state q on
---   Completes step accepts q some word leads from state q on to an accepting one
---   frontStep step accepts   the machine that stops where it first accepts
---   Item machine: a state is the list of items that are to come
---   stepItems after is b the items to come after a byte, where `after` says what comes instead of one item
---   nothingLeft is       no item is to come
+-- Languages
+--   Begins language front           some word begins with these bytes
+--   FirstWrong language input at    place `at` has the first byte that cannot stand there, or the input ends early at it
+--   Fronts language                 the language of inputs that begin with a word
+--   GoesOn language input at        some word has the bytes before place `at`, and goes on
+--   Joined first second             the language of a word of the first and then one of the second
+--
+-- Machines: `step` leads from a state and a byte to a state or to none, `accepts` says where the input may end
+--   later, further                  a wrong place one byte later; what is said by the state after the first byte
+--   judge step accepts state input  what is said from a state on: none of a word, else the wrong place
+--   Accepts step accepts state      the language of the machine from a state on
+--   Completes step accepts state    some bytes lead from a state on to an accepting one
+--   frontStep step accepts          the steps of the machine that stops where it first accepts
+--   placed, wrongFrom               a place counted from another; the wrong place, from a place of the input on
+--
+-- Machines of items: a state is the list of items to come, `after` says what comes instead of one after a byte
+--   before, stepItems after         items before others; the steps of the machine
+--   nothingLeft                     no item is to come
+--   judgeItems, judgeFront          what is said of an input of these items, and of one that begins with them
 pub mod Bytes
 pub mod Spans
 pub mod Decimals
@@ -50,7 +57,7 @@ unfoldable pub use Bytes.{
 unfoldable pub use Spans.{spanAt, AllOf}
 unfoldable pub use Decimals.{decimal, mostDecimal, digitByte, shortText, decimalText}
 unfoldable pub use Numbers.{mostDigits, digitsAt, Digits, numberAt, placeIn}
-pub use Languages.{Begins, Fronts, Joined, FirstWrong}
-unfoldable pub use Machines.{later, further, judge, Accepts, frontStep}
+pub use Languages.{Begins, FirstWrong, Fronts, GoesOn, Joined}
+unfoldable pub use Machines.{later, further, judge, Accepts, frontStep, placed, wrongFrom}
 pub use Machines.{Completes}
-unfoldable pub use Items.{before, stepItems, nothingLeft, judgeItems}
+unfoldable pub use Items.{before, stepItems, nothingLeft, judgeItems, judgeFront}

@@ -18,7 +18,7 @@ use Rattle.p6_header.specs.{
   FirstWrong,
 }
 use Rattle.p6_header.specs.declared.Header.the-variants.{Read, Bad}
-use Rattle.p6_header.proofs.Wholes.{header-reads-exactly}
+use Rattle.p6_header.proofs.Headers.{header-reads-exactly}
 use Rattle.p6_header.proofs.Wrongs.{header-fails-exactly}
 use Rattle.p6.specs.Refusals.{theDepth, isBad, pictureRows}
 use Rattle.p6.specs.Outcomes.{readPicture}

@@ -14,7 +14,7 @@ use Rattle.refusal.proofs.Outcomes.{refuses, refuses-all}
 use Rattle.colour.specs.{mostPixels}
 use Rattle.p6_header.specs.{Header, headerOf, offsetIn}
 use Rattle.p6_header.specs.declared.Header.the-variants.{Read, Bad}
-use Rattle.p6_header.proofs.Wholes.{start-inside}
+use Rattle.p6_header.proofs.Headers.{start-inside}
 use Rattle.p6.specs.Refusals.{
   mostSide,
   theDepth,

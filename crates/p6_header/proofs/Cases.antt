@@ -14,7 +14,7 @@ use Rattle.p6_header.specs.declared.Header.{Header}
 use Rattle.p6_header.specs.declared.Header.the-variants.{Read, Bad}
 use Rattle.p6_header.specs.Standing.{FieldFailed, FieldRead, HeaderIn, FirstWrong}
 use Rattle.p6_header.proofs.Fields.{Told, read, failed, field-told, field-is-read, field-is-failed}
-use Rattle.p6_header.proofs.Wholes.{header-reads-exactly}
+use Rattle.p6_header.proofs.Headers.{header-reads-exactly}
 use Rattle.p6_header.proofs.Wrongs.{header-fails-exactly}
 
 -- ---- what a reading says of its input

@@ -1,70 +1,49 @@
--- A header as a machine that reads byte by byte: what is to come, item by item. Comments may stand between its parts
--- or not, by the first argument. Every state can be completed: by the digit 1, a blank or LF.
+-- A header as a machine that reads byte by byte: what is to come, item by item. Every state can be completed: by the
+-- digit 1 or a blank.
 use Prim.Native.Nat.{ℕ, suc}
-use mathlib.Core.Bool.{Bool, true, false, cond, _&&_, _||_}
+use mathlib.Core.Bool.{cond}
 use mathlib.Core.List.{List, [], _∷_}
 use mathlib.Core.Option.{Option, none, some}
 use mathlib.Core.Path.{refl}
 use lib.Dec.{eqb, ltb}
 use borrow.Author.Tests.{eq-eqb}
-use Rattle.grammar.specs.{carriageReturn, lineFeed, isDigit, mostDigits}
-use Rattle.grammar.specs.{stepItems, nothingLeft, frontStep, Completes}
-use Rattle.grammar.proofs.Items.{items-complete}
-use Rattle.grammar.proofs.Fronts.{front-completes}
+use Rattle.grammar.specs.{isDigit, mostDigits, stepItems, nothingLeft, frontStep, Completes}
+use Rattle.grammar.proofs.Promises.{items-complete, front-completes}
 use Rattle.p6_header.specs.Bytes.{isWhite, letterP, figureSix}
 
--- a number of a header: width and height are inner ones, and the depth is the last
-pub data Part : Type 0 where
-  inner last : Part
-
--- a comment may follow the digits of an inner one
-abbrev pub isInner : Part → Bool
-isInner inner = true
-isInner last = false
-
--- what is to come: this byte; one white byte; white bytes and a number; what follows n digits of it, which is one white
--- byte; or the rest of a comment
+-- what is to come: this byte; one white byte; white bytes, if there are any, a number and one white byte; or, of these,
+-- what follows so many digits
 pub data Item : Type 0 where
   exact : ℕ → Item
-  a-white : Item
-  number : Part → Item
-  digits : Part → ℕ → Item
-  comment : Item
+  white : Item
+  number : Item
+  digits : ℕ → Item
 
--- the byte `#`
-abbrev pub hash : ℕ
-hash = 35
-
--- a white byte, or a comment where one may stand, and then these items
-abbrev pub gap : Bool → List Item → ℕ → Option (List Item)
-gap comments is b =
-    cond (isWhite b) (some is) (cond (comments && eqb b hash) (some (comment ∷ is)) none)
+-- a white byte and then these items; no other byte can stand
+abbrev whiteThen : List Item → ℕ → Option (List Item)
+whiteThen items byte = cond (isWhite byte) (some items) none
 
 -- what comes instead of an item after a byte; none where the byte cannot stand
-abbrev pub after : Bool → Item → ℕ → Option (List Item)
-after comments (exact c) b = cond (eqb b c) (some []) none
-after comments a-white b = gap comments [] b
-after comments (number p) b = cond (isDigit b) (some (digits p 1 ∷ [])) (gap comments (number p ∷ []) b)
-after comments (digits p n) b =
-    cond (isDigit b) (cond (ltb n mostDigits) (some (digits p (suc n) ∷ [])) none) (gap (comments && isInner p) [] b)
-after comments comment b = cond (eqb b lineFeed || eqb b carriageReturn) (some []) (some (comment ∷ []))
+abbrev pub after : Item → ℕ → Option (List Item)
+after (exact wanted) byte = cond (eqb byte wanted) (some []) none
+after white byte = whiteThen [] byte
+after number byte = cond (isDigit byte) (some (digits 1 ∷ [])) (whiteThen (number ∷ []) byte)
+after (digits count) byte =
+    cond (isDigit byte) (cond (ltb count mostDigits) (some (digits (suc count) ∷ [])) none) (whiteThen [] byte)
 
--- a header
+-- a header: the white byte behind each number is the one that must stand before the next
 abbrev pub headerItems : List Item
-headerItems = exact letterP ∷ exact figureSix ∷ a-white ∷ number inner ∷ number inner ∷ number last ∷ []
+headerItems = exact letterP ∷ exact figureSix ∷ white ∷ number ∷ number ∷ number ∷ []
 
 -- every item can be completed
-item-complete : (comments : Bool) (i : Item) → Completes (stepItems (after comments)) nothingLeft (i ∷ [])
+item-complete : (item : Item) → Completes (stepItems after) nothingLeft (item ∷ [])
 unfolding isWhite isDigit
-item-complete comments (exact c) = record { more = c ∷ []; accepted = rw (eq-eqb c c refl) }
-item-complete comments a-white = record { more = 32 ∷ []; accepted = refl }
-item-complete comments (number p) = record { more = 49 ∷ 32 ∷ []; accepted = refl }
-item-complete comments (digits p n) = record { more = 32 ∷ []; accepted = refl }
-item-complete comments comment = record { more = 10 ∷ []; accepted = refl }
+item-complete (exact wanted) = record { more = wanted ∷ []; accepted = rw (eq-eqb wanted wanted refl) }
+item-complete white = record { more = 32 ∷ []; accepted = refl }
+item-complete number = record { more = 49 ∷ 32 ∷ []; accepted = refl }
+item-complete (digits count) = record { more = 32 ∷ []; accepted = refl }
 
 -- so every state can, also of the machine that looks at the front of its input
-pub front-complete : (comments : Bool) (is : List Item)
-    → Completes (frontStep (stepItems (after comments)) nothingLeft) nothingLeft is
-front-complete comments is =
-    front-completes (stepItems (after comments)) nothingLeft is
-    (items-complete (after comments) (item-complete comments) is)
+pub front-complete : (items : List Item) → Completes (frontStep (stepItems after) nothingLeft) nothingLeft items
+front-complete items =
+    front-completes (stepItems after) nothingLeft items (items-complete after item-complete items)

@@ -9,7 +9,9 @@ pub mod Items
 -- What is read is what the machine says.
 pub mod Walks
 -- A header is read exactly where one stands.
-pub mod Wholes
+pub mod Headers
+-- A header stands in every input that has its bytes: alone, and at the front of others.
+pub mod Alone
 -- A header fails exactly at the first byte that cannot stand there, or at the end of an input that ends early.
 pub mod Wrongs
 -- Readings and headers by their cases.

@@ -1,19 +1,20 @@
 -- What is shown of headers, for whoever cites it. Each body names the proof.
-use Prim.Native.Nat.{ℕ, _≤_}
+use Prim.Native.Nat.{ℕ, suc, _≤_, _<_}
 use mathlib.Core.List.{List, [], _∷_}
 use mathlib.Core.Logic.{_↔_}
 use mathlib.Core.Path.{_≡_}
-use lib.ListN.{length}
+use lib.ListN.{length, take}
 use Rattle.refusal.specs.{numberOf, done, BAD-HEADER}
-use Rattle.grammar.specs.{Reading}
+use Rattle.grammar.specs.{Reading, Fronts, GoesOn}
+use Rattle.grammar.proofs.Promises as grammar
 use Rattle.p6_header.specs.Fields.{fieldAt, readingNumber, readingValues, ReadingSays}
 use Rattle.p6_header.specs.Headers.{headerOf, headerNumber, headerValues, HeaderSays}
 use Rattle.p6_header.specs.declared.Header.{Header}
 use Rattle.p6_header.specs.declared.Header.the-variants.{Read}
-use Rattle.p6_header.specs.Standing.{FieldFailed, FieldRead, FirstWrong, HeaderIn}
+use Rattle.p6_header.specs.Standing.{FieldFailed, FieldRead, FirstWrong, HeaderIn, IsHeader}
 use Rattle.p6_header.proofs.Fields as fields
 use Rattle.p6_header.proofs.Cases as cases
-use Rattle.p6_header.proofs.Wholes as wholes
+use Rattle.p6_header.proofs.Headers as headers
 use Rattle.p6_header.proofs.Wrongs as wrongs
 
 -- ---- one number
@@ -49,9 +50,18 @@ pub header-fails-exactly : (s : List ℕ) (at : ℕ)
     → HeaderSays (headerOf s) (numberOf BAD-HEADER) (at ∷ []) ↔ FirstWrong s at
 header-fails-exactly = cases.header-says-failed
 
+-- So of the first wrong byte: some header has all bytes before it and goes on.
+pub wrong-goes-on : (s : List ℕ) (at : ℕ) → FirstWrong s at → GoesOn IsHeader s at
+wrong-goes-on = grammar.wrong-goes-on IsHeader
+
+-- And none has that byte too.
+pub wrong-stops : (s : List ℕ) (at : ℕ) → FirstWrong s at → at < length s → (header : List ℕ) → IsHeader header
+    → at < length header → ¬ (take (suc at) header ≡ take (suc at) s)
+wrong-stops = grammar.wrong-stops IsHeader
+
 -- An input has at most one first wrong byte.
 pub wrong-only : (s : List ℕ) (a b : ℕ) → FirstWrong s a → FirstWrong s b → a ≡ b
-wrong-only = wrongs.wrong-only
+wrong-only = grammar.wrong-only (Fronts IsHeader)
 
 -- An input that begins with a header has none.
 pub stands-not-wrong : (s : List ℕ) (w h d n at : ℕ) → HeaderIn s w h d n → ¬ FirstWrong s at
@@ -63,4 +73,4 @@ header-only = cases.header-only
 
 -- The place after a header that is read is inside the input, or its end.
 pub start-inside : (s : List ℕ) (w h d n : ℕ) → headerOf s ≡ Read w h d n → n ≤ length s
-start-inside = wholes.start-inside
+start-inside = headers.start-inside

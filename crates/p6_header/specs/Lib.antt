@@ -14,7 +14,7 @@
 --   FieldRead            a field stands, and its digits end
 --   FieldFailed          a field fails, with no white byte or no digit where one must stand
 --   HeaderIn             so many first bytes are a header with these numbers
---   AtFront              a header stands at the front of an input
+--   IsHeader             the bytes are a header and no more
 --   FirstWrong s at      the first byte that cannot stand there, or the end of an input that ends early
 pub mod Bytes
 pub mod Fields
@@ -34,4 +34,4 @@ unfoldable pub use Headers.{
   offsetIn,
 }
 unfoldable pub use Standing.{DigitsEnd, FirstWrong}
-pub use Standing.{Field, FieldRead, FieldFailed, HeaderIn, AtFront}
+pub use Standing.{Field, FieldRead, FieldFailed, HeaderIn, IsHeader}

@@ -11,7 +11,7 @@ use Rattle.p6_header.specs.{headerOf, offsetIn}
 use Rattle.p6_header.specs.declared.Header.the-variants.{Read}
 use Rattle.p6.specs.Refusals.{theDepth, badSize, badDepth}
 use Rattle.p6.specs.Outcomes.{refusedPicture}
-use Rattle.p6_header.proofs.Wholes.{start-inside}
+use Rattle.p6_header.proofs.Headers.{start-inside}
 use Rattle.p6.proofs.Meaning.{sides-at-most, bad-depth-exactly}
 use Rattle.p6.proofs.Ways.{
   picture-bad-header,

@@ -7,14 +7,7 @@ use native.Mathlib.Decide.{decLt, ℕ-discrete}
 use native.Mathlib.Omega.{arith}
 use lib.ListN.{length, take, drop, take-append-drop}
 use lib.Seq.{length-take-le, take-append-le, take-take, take-at, take-length}
-use Rattle.grammar.specs.Languages.{Fronts, FirstWrong}
-
--- some word has the first bytes of s, up to place `at`, and goes on
-pub record GoesOn (H : List ℕ → Type 0) (s : List ℕ) (at : ℕ) : Type 0 where
-  pub word : List ℕ
-  pub is-word : H word
-  pub longer : at < length word
-  pub same : take at word ≡ take at s
+use Rattle.grammar.specs.Languages.{Fronts, FirstWrong, GoesOn}
 
 module _ (H : List ℕ → Type 0) (s : List ℕ) (at : ℕ) (f : FirstWrong (Fronts H) s at) where
   -- as many bytes as are before it

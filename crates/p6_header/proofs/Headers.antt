@@ -20,26 +20,26 @@ use Rattle.p6_header.proofs.Fields.{field-white, field-is-read, Told, r
 use Rattle.p6_header.proofs.read.Ways.{letter-fails, figure-fails, letters-pass}
 
 -- a header that failed was not read
-pub bad-not-read : {X : Type 0} (at w h d n : ℕ) → Bad at ≡ Read w h d n → X
+bad-not-read : {X : Type 0} (at w h d n : ℕ) → Bad at ≡ Read w h d n → X
 bad-not-read at w h d n e = absurd (let z = ap headerNumber e in omega arith)
 
--- ---- how an input begins
+-- ---- how an input opens
 
 -- another byte than the letter, another than the figure after it, or both and then the fields
-pub data Begins (s : List ℕ) : Type 0 where
-  no-letter : ¬ (byteAt s 0 ≡ letterP) → headerOf s ≡ Bad 0 → Begins s
-  no-figure : byteAt s 0 ≡ letterP → ¬ (byteAt s 1 ≡ figureSix) → headerOf s ≡ Bad 1 → Begins s
-  fields : byteAt s 0 ≡ letterP → byteAt s 1 ≡ figureSix → headerOf s ≡ fieldsOf s → Begins s
+data Opening (s : List ℕ) : Type 0 where
+  no-letter : ¬ (byteAt s 0 ≡ letterP) → headerOf s ≡ Bad 0 → Opening s
+  no-figure : byteAt s 0 ≡ letterP → ¬ (byteAt s 1 ≡ figureSix) → headerOf s ≡ Bad 1 → Opening s
+  fields : byteAt s 0 ≡ letterP → byteAt s 1 ≡ figureSix → headerOf s ≡ fieldsOf s → Opening s
 
 -- with both letters the header goes on with the fields
-pub header-fields : (s : List ℕ) → byteAt s 0 ≡ letterP → byteAt s 1 ≡ figureSix → headerOf s ≡ fieldsOf s
+header-fields : (s : List ℕ) → byteAt s 0 ≡ letterP → byteAt s 1 ≡ figureSix → headerOf s ≡ fieldsOf s
 header-fields s l f = letters-pass s _ _ refl l refl f
 
 -- which it is
-pub begins : (s : List ℕ) → Begins s
-begins s = go (ℕ-discrete (byteAt s 0) letterP) (ℕ-discrete (byteAt s 1) figureSix)
+opening : (s : List ℕ) → Opening s
+opening s = go (ℕ-discrete (byteAt s 0) letterP) (ℕ-discrete (byteAt s 1) figureSix)
   where
-    go : Dec (byteAt s 0 ≡ letterP) → Dec (byteAt s 1 ≡ figureSix) → Begins s
+    go : Dec (byteAt s 0 ≡ letterP) → Dec (byteAt s 1 ≡ figureSix) → Opening s
     go (no l) f = no-letter l (sym (letter-fails s _ refl l))
     go (yes l) (no f) = no-figure l f (sym (figure-fails s _ _ refl l refl f))
     go (yes l) (yes f) = fields l f (header-fields s l f)
@@ -91,7 +91,7 @@ module _ (s : List ℕ) (l : byteAt s 0 ≡ letterP) (f : byteAt s 1 ≡ figureS
 
 -- a header that is read stands
 pub header-stands : (s : List ℕ) (w h d n : ℕ) → headerOf s ≡ Read w h d n → HeaderIn s w h d n
-header-stands s w h d n e = elim (begins s) [
+header-stands s w h d n e = elim (opening s) [
   | no-letter l is ↦ bad-not-read 0 w h d n (sym is ∙ e)
   | no-figure l f is ↦ bad-not-read 1 w h d n (sym is ∙ e)
   | fields l f is ↦ subst (Stands s) (sym is ∙ e) (fields-stand s l f)
