@@ -36,15 +36,15 @@ fn refused(number: u8, offset: usize) -> Picture
 pub fn read_picture(input: &[u8]) -> Picture
     ensures { λ r. ⌜ r ≡ readPicture (now (input .entry)) ⌝ }
 {
-    let h = p6_header::read_header(input);
+    let header = p6_header::read_header(input);
     let Header::Read {
         width,
         height,
         depth,
         start,
-    } = h
+    } = header
     else {
-        return refused(BAD_HEADER, p6_header::bad_at(h));
+        return refused(BAD_HEADER, p6_header::bad_at(header));
     };
     if bad_size(width, height) {
         return refused(BAD_SIZE, 0);
@@ -69,11 +69,11 @@ pub fn read_picture(input: &[u8]) -> Picture
 pub fn raster_of(input: &[u8]) -> &[u8]
     ensures { λ r. ⌜ now r ≡ rasterOf (now (input .entry)) ⌝ }
 {
-    let p = read_picture(input);
-    let number = p.refusal;
+    let picture = read_picture(input);
+    let number = picture.refusal;
     if number != DONE {
         return &input[..0];
     }
-    let start = p.start;
+    let start = picture.start;
     &input[start..]
 }

@@ -5,11 +5,11 @@ ghost use lib.ListN.{length};
 ghost use Rattle.texts.specs.Putting.{PutMeets};
 
 // Puts one byte. Requires its place.
-pub fn put_byte(out: &mut [u8], at: usize, b: u8) -> usize
+pub fn put_byte(out: &mut [u8], at: usize, byte: u8) -> usize
     requires { ⌜ at < length (now out) ⌝ }
-    ensures { λ r. ⌜ PutMeets at (b ∷ []) (now (out .entry)) r (now (out .exit)) ⌝ }
+    ensures { λ r. ⌜ PutMeets at (byte ∷ []) (now (out .entry)) r (now (out .exit)) ⌝ }
 {
-    out[at] = b;
+    out[at] = byte;
     at + 1
 }
 
@@ -18,11 +18,11 @@ pub fn put_word(out: &mut [u8], at: usize, word: &[u8]) -> usize
     requires { ⌜ at + length (now word) ≤ length (now out) ⌝ }
     ensures { λ r. ⌜ PutMeets at (now (word .entry)) (now (out .entry)) r (now (out .exit)) ⌝ }
 {
-    let n = word.len();
+    let size = word.len();
     let mut i = 0;
-    while i < n {
+    while i < size {
         out[at + i] = word[i];
         i += 1;
     }
-    at + n
+    at + size
 }

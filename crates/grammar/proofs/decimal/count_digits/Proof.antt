@@ -16,6 +16,10 @@ Inv-loop input at size left i₀ i = Counted input at i
 abbrev μ-loop : tie.MeasureT-loop
 μ-loop input at size left i₀ i = mostDigits + 1 - i
 
+-- the turn of the loop
+abbrev turn : tie.After-is-digit Inv-loop μ-loop → tie.At-loop Inv-loop μ-loop
+turn c = c .before .before .before .before
+
 returns : tie.Need-returns Inv-loop μ-loop
 returns c =
     counted-all (counted-start (now (c .before .before .args .input)) (c .before .before .args .at)) (omega arith)
@@ -40,8 +44,8 @@ is-digit-requires c κs = search needs
 
 returns-3 : tie.Need-returns-3 Inv-loop μ-loop
 returns-3 c =
-    counted-done (c .before .before .before .before .before .loop .inv)
-    (λ h. sym (c .before .is-digit .ensures) ∙ not-true _ (c .if3 .taken))
+    let d = c .before in
+    counted-done (turn d .loop .inv) (λ h. sym (d .is-digit .ensures) ∙ not-true _ (c .if3 .taken))
 
 add-i : tie.Need-add-i Inv-loop μ-loop
 add-i c = search needs
@@ -51,8 +55,8 @@ loop-less c = omega arith
 
 loop-again : tie.Need-loop-again Inv-loop μ-loop
 loop-again c =
-    counted-step (c .before .before .before .before .before .loop .inv) (omega arith)
-    (sym (c .before .is-digit .ensures) ∙ not-false _ (c .if3 .left))
+    let d = c .before in
+    counted-step (turn d .loop .inv) (omega arith) (sym (d .is-digit .ensures) ∙ not-false _ (c .if3 .left))
 
 returns-4 : tie.Need-returns-4 Inv-loop μ-loop
 returns-4 c = counted-done (c .before .loop .inv) (λ h. absurd (omega arith))

@@ -37,23 +37,23 @@ s c = input (read-at c)
 
 -- the header's width
 abbrev width : tie.After-bad-size → ℕ
-width c = c .before .before .h .given .0 .0
+width c = c .before .before .header .given .0 .0
 
 -- its height
 abbrev height : tie.After-bad-size → ℕ
-height c = c .before .before .h .given .0 .1 .0
+height c = c .before .before .header .given .0 .1 .0
 
 -- its depth
 abbrev depth : tie.After-bad-size → ℕ
-depth c = c .before .before .h .given .0 .1 .1 .0
+depth c = c .before .before .header .given .0 .1 .1 .0
 
 -- the first place after it
 abbrev start : tie.After-bad-size → ℕ
-start c = c .before .before .h .given .0 .1 .1 .1 .0
+start c = c .before .before .header .given .0 .1 .1 .1 .0
 
 -- what the header is
 header : (c : tie.After-bad-size) → headerOf (s c) ≡ Read (width c) (height c) (depth c) (start c)
-header c = sym (read-at c .read-header .ensures) ∙ c .before .before .h .given .1
+header c = sym (read-at c .read-header .ensures) ∙ c .before .before .header .given .1
 
 -- past the size's test: it fails
 size-ok : (c : tie.Else1) → badSize (width (c .before)) (height (c .before)) ≡ false
@@ -66,8 +66,8 @@ depth-ok c = bad-depth-exactly (depth (c .before .before)) .1 (c .if2 .left)
 read-header-requires : tie.Need-read-header-requires
 read-header-requires c κs = search needs
 
-enum-known-h : tie.Need-enum-known-h
-enum-known-h c = search needs
+enum-known-header : tie.Need-enum-known-header
+enum-known-header c = search needs
 
 enum-told : tie.Need-enum-told
 enum-told c = search needs
@@ -143,7 +143,7 @@ read-picture-spec =
     tie.close
     (tie.spec
     read-header-requires
-    enum-known-h
+    enum-known-header
     enum-told
     bad-at-requires
     refused-requires

@@ -11,8 +11,12 @@ use Rattle.p6.proofs.test.bad_size.Tie as tie
 width-ok : (c : tie.Else1) → badSide (c .before .before .args .width) ≡ false
 width-ok c = sym (c .before .bad-side .ensures) ∙ c .if1 .left
 
+-- where the width was tried, at the height's test
+abbrev first : tie.After-bad-side2 → tie.After-bad-side
+first c = c .before .before
+
 -- past the height's test: it fails
-height-ok : (c : tie.Else2) → badSide (c .before .before .before .before .args .height) ≡ false
+height-ok : (c : tie.Else2) → badSide (first (c .before) .before .args .height) ≡ false
 height-ok c = sym (c .before .bad-side2 .ensures) ∙ c .if2 .left
 
 bad-side-requires : tie.Need-bad-side-requires

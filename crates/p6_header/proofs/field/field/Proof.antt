@@ -6,22 +6,27 @@ use Rattle.p6_header.proofs.field.Readings.{field-fails, field-reads}
 use Rattle.p6_header.proofs.field.field.Statement.{statement}
 use Rattle.p6_header.proofs.field.field.Tie as tie
 
+-- where the function begins
+abbrev st : tie.After-white-end → tie.Start
+st c = c .before .before
+
 white-end-requires : tie.Need-white-end-requires
 white-end-requires c κs = search needs
 
 returns : tie.Need-returns
 returns c =
-    let a = c .before .before .before .args in
-    field-fails (now (a .input)) (a .at) _ (c .before .white-end .ensures) (c .if1 .taken)
+    let w = c .before in
+    let a = st w .args in
+    field-fails (now (a .input)) (a .at) _ (w .white-end .ensures) (c .if1 .taken)
 
 number-requires : tie.Need-number-requires
 number-requires c κs = search needs
 
 returns-2 : tie.Need-returns-2
 returns-2 c =
-    let a = c .before .before .before .before .args in
-    c .number .ensures
-    ∙ field-reads (now (a .input)) (a .at) _ (c .before .before .white-end .ensures) (c .before .if1 .left)
+    let w = c .before .before in
+    let a = st w .args in
+    c .number .ensures ∙ field-reads (now (a .input)) (a .at) _ (w .white-end .ensures) (c .before .if1 .left)
 
 pub field-spec : {M : Type 1} → statement M
 field-spec = tie.close (tie.spec white-end-requires returns number-requires returns-2)

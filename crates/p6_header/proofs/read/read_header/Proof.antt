@@ -28,9 +28,21 @@ use Rattle.p6_header.proofs.read.Ways.{
 use Rattle.p6_header.proofs.read.read_header.Statement.{statement}
 use Rattle.p6_header.proofs.read.read_header.Tie as tie
 
+-- where the function begins, at the letter
+abbrev st : tie.After-byte-at → tie.Start
+st c = c .before .before
+
+-- where the letter is read, at the figure
+abbrev letter-at : tie.After-byte-at2 → tie.After-byte-at
+letter-at c = c .before .before
+
+-- where the figure is read, at the width
+abbrev figure-at : tie.After-field → tie.After-byte-at2
+figure-at c = c .before .before
+
 -- the input, at the width
 abbrev input : tie.After-field → List ℕ
-input a = now (a .before .before .before .before .before .before .args .input)
+input a = now (st (letter-at (figure-at a)) .args .input)
 
 -- where the width was asked for, at the height
 abbrev width-at : tie.After-field2 → tie.After-field
@@ -59,8 +71,9 @@ height-end d = d .before .before .second .given .0 .1 .0
 -- with both letters there, the header goes on with the width
 at-width : (a : tie.After-field) → headerOf (input a) ≡ andThen (fieldAt (input a) 2) (afterWidth (input a))
 at-width a =
-    letters-pass (input a) _ _ (a .before .before .before .before .byte-at .ensures)
-    (a .before .before .before .if1 .left) (a .before .before .byte-at2 .ensures) (a .before .if2 .left)
+    let f = figure-at a in
+    letters-pass (input a) _ _ (letter-at f .byte-at .ensures) (f .before .if1 .left) (f .byte-at2 .ensures)
+    (a .before .if2 .left)
 
 -- with the width read, it goes on with the height
 at-height : (b : tie.After-field2) → headerOf (input (width-at b))
@@ -116,15 +129,17 @@ byte-at-requires c κs = search needs
 
 returns : tie.Need-returns
 returns c =
-    letter-fails (now (c .before .before .before .args .input)) _ (c .before .byte-at .ensures) (c .if1 .taken)
+    let l = c .before in
+    letter-fails (now (st l .args .input)) _ (l .byte-at .ensures) (c .if1 .taken)
 
 byte-at-requires-2 : tie.Need-byte-at-requires-2
 byte-at-requires-2 c κs = search needs
 
 returns-2 : tie.Need-returns-2
 returns-2 c =
-    figure-fails (now (c .before .before .before .before .before .args .input)) _ _
-    (c .before .before .before .byte-at .ensures) (c .before .before .if1 .left) (c .before .byte-at2 .ensures)
+    let f = c .before in
+    let l = letter-at f in
+    figure-fails (now (st l .args .input)) _ _ (l .byte-at .ensures) (f .before .if1 .left) (f .byte-at2 .ensures)
     (c .if2 .taken)
 
 field-requires : tie.Need-field-requires
@@ -203,8 +218,8 @@ returns-6 c =
 add-t17 : tie.Need-add-t17
 add-t17 c =
     let l = c .before in
-    let st = width-at (height-at (depth-at l)) .before .before .before .before .before .before in
-    omega (arith, st .good, white-inside (whole l) (depth-end l) (white c))
+    let a = width-at (height-at (depth-at l)) in
+    omega (arith, st (letter-at (figure-at a)) .good, white-inside (whole l) (depth-end l) (white c))
 
 returns-7 : tie.Need-returns-7
 returns-7 c =

@@ -16,6 +16,10 @@ Inv-loop input at i₀ i = Passed input at i
 abbrev μ-loop : tie.MeasureT-loop
 μ-loop input at i₀ i = length input - i
 
+-- the turn of the loop
+abbrev turn : tie.After-is-white Inv-loop μ-loop → tie.At-loop Inv-loop μ-loop
+turn c = c .before .before .before
+
 loop-holds : tie.Need-loop-holds Inv-loop μ-loop
 loop-holds c = passed-start (now (c .before .args .input)) (c .before .args .at)
 
@@ -27,8 +31,8 @@ is-white-requires c κs = search needs
 
 returns : tie.Need-returns Inv-loop μ-loop
 returns c =
-    passed-done (c .before .before .before .before .loop .inv)
-    (sym (c .before .is-white .ensures) ∙ not-true _ (c .if1 .taken))
+    let w = c .before in
+    passed-done (turn w .loop .inv) (sym (w .is-white .ensures) ∙ not-true _ (c .if1 .taken))
 
 add-i : tie.Need-add-i Inv-loop μ-loop
 add-i c = search needs
@@ -38,8 +42,8 @@ loop-less c = omega arith
 
 loop-again : tie.Need-loop-again Inv-loop μ-loop
 loop-again c =
-    passed-step (c .before .before .before .before .loop .inv)
-    (sym (c .before .is-white .ensures) ∙ not-false _ (c .if1 .left))
+    let w = c .before in
+    passed-step (turn w .loop .inv) (sym (w .is-white .ensures) ∙ not-false _ (c .if1 .left))
 
 returns-2 : tie.Need-returns-2 Inv-loop μ-loop
 returns-2 c = passed-all (c .before .loop .inv) (c .loop-test .left)

@@ -18,7 +18,7 @@ same-length c = search needs
 returns : tie.Need-returns
 returns c =
     let a = c .args in
-    record { ends = refl; text-is = put-one (a .at) (a .b) (now (a .out)) (c .pre) }
+    record { ends = refl; text-is = put-one (a .at) (a .byte) (now (a .out)) (c .pre) }
 
 pub put-byte-spec : {M : Type 1} → statement M
 put-byte-spec = tie.close (tie.spec slice-write-out add-result same-length returns)

@@ -12,10 +12,18 @@ use Rattle.texts.proofs.word.put_word.Statement.{statement}
 use Rattle.texts.proofs.word.put_word.Tie as tie
 
 abbrev Inv-loop : tie.InvT-loop
-Inv-loop out₀ at word n i₀ out i = (i ≤ n) × (out ≡ fillFrom at i (λ j. getD word j 0) out₀)
+Inv-loop out₀ at word size i₀ out i = (i ≤ size) × (out ≡ fillFrom at i (λ j. getD word j 0) out₀)
 
 abbrev μ-loop : tie.MeasureT-loop
-μ-loop out₀ at word n i₀ out i = n - i
+μ-loop out₀ at word size i₀ out i = size - i
+
+-- the turn of the loop
+abbrev turn : tie.After-shared-slice-known Inv-loop μ-loop → tie.At-loop Inv-loop μ-loop
+turn c = c .before .before
+
+-- where the function begins
+abbrev st : tie.At-loop Inv-loop μ-loop → tie.Start Inv-loop μ-loop
+st c = c .before
 
 loop-holds : tie.Need-loop-holds Inv-loop μ-loop
 loop-holds c =
@@ -30,10 +38,11 @@ add-out c = search needs
 
 slice-write-out : tie.Need-slice-write-out Inv-loop μ-loop
 slice-write-out c =
-    let a = c .before .before .before .args in
+    let t = turn c in
+    let a = st t .args in
     let f : ℕ → ℕ = λ j. getD (now (a .word)) j 0 in
-    rw (c .before .before .loop .inv .1, from-length (a .at) (c .before .before .loop .i) f (now (a .out)))
-    (omega (arith, c .before .before .before .pre, c .before .loop-test .taken))
+    rw (t .loop .inv .1, from-length (a .at) (t .loop .i) f (now (a .out)))
+    (omega (arith, st t .pre, c .before .loop-test .taken))
 
 add-i : tie.Need-add-i Inv-loop μ-loop
 add-i c = search needs
@@ -43,13 +52,13 @@ loop-less c = omega arith
 
 loop-again : tie.Need-loop-again Inv-loop μ-loop
 loop-again c =
-    let a = c .before .before .before .args in
-    let l = c .before .before .loop in
+    let t = turn c in
+    let a = st t .args in
     let h = c .before .loop-test .taken in (
       omega (arith, h),
-      rw (l .inv .1)
-          (bytes-step (a .at) (l .i) (λ j. getD (now (a .word)) j 0) (now (a .out))
-          (omega (arith, c .before .before .before .pre, h))),
+      rw (t .loop .inv .1)
+          (bytes-step (a .at) (t .loop .i) (λ j. getD (now (a .word)) j 0) (now (a .out))
+          (omega (arith, st t .pre, h))),
     )
 
 add-result : tie.Need-add-result Inv-loop μ-loop
@@ -57,13 +66,13 @@ add-result c = search needs
 
 same-length : tie.Need-same-length Inv-loop μ-loop
 same-length c =
-    let a = c .before .before .args in
+    let a = st (c .before) .args in
     let l = c .before .loop in
     ap length (l .inv .1) ∙ from-length (a .at) (l .i) (λ j. getD (now (a .word)) j 0) (now (a .out))
 
 returns : tie.Need-returns Inv-loop μ-loop
 returns c =
-    let a = c .before .before .args in
+    let a = st (c .before) .args in
     let l = c .before .loop in
     let e : l .i ≡ length (now (a .word)) = omega (arith, l .inv .0, c .loop-test .left) in
     record {
