@@ -30,7 +30,7 @@ unfolding decimal
 decimal-more n f = rw (add-one n) refl
 
 -- the value of n digits is below 10 to the n
-pub decimal-below : (n : ℕ) (f : ℕ → ℕ) → ((i : ℕ) → i < n → isDigit (f i) ≡ true) → decimal n f < 10 ^ n
+decimal-below : (n : ℕ) (f : ℕ → ℕ) → ((i : ℕ) → i < n → isDigit (f i) ≡ true) → decimal n f < 10 ^ n
 unfolding decimal
 decimal-below zero f all = omega arith
 decimal-below (suc n) f all =

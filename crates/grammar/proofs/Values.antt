@@ -16,11 +16,11 @@ use Rattle.grammar.proofs.Decimals.{decimal-start, decimal-more, decima
 use Rattle.grammar.proofs.Texts.{short-digit, short-more, short-some, more-room, tenth-below}
 
 -- the value of the digits of a text
-abbrev pub valueOf : List ℕ → ℕ
+abbrev valueOf : List ℕ → ℕ
 valueOf t = decimal (length t) (λ i. getD t i 0)
 
 -- every byte of a text is a digit
-abbrev pub AllDigits : List ℕ → Type 0
+abbrev AllDigits : List ℕ → Type 0
 AllDigits t = (i : ℕ) → i < length t → isDigit (getD t i 0) ≡ true
 
 -- ---- one digit more

@@ -26,8 +26,8 @@ use Rattle.refusal.proofs.Promises.{first-exactly, done-exactly}
 use Rattle.refusal.proofs.Numbers.{number-not-done}
 use Rattle.refusal.proofs.Order.{none-of-first}
 use Rattle.grammar.specs.{byteAt, lineFeed, digitsAt, numberAt, placeIn}
-use Rattle.p6_header.specs.{readingNumber, readingValues}
 use Rattle.grammar.specs.declared.Reading.the-variants.{Number, Failed}
+use Rattle.p6_header.specs.{readingNumber, readingValues}
 use Rattle.shades.specs.{mostShades}
 use Rattle.lloyd.proofs.Promises.{bad-count-exactly}
 use Rattle.lloyd.proofs.Wholes.{run-refuses}

@@ -22,9 +22,9 @@ use Rattle.p6_header.proofs.Headers.{header-reads-exactly}
 use Rattle.p6_header.proofs.Wrongs.{header-fails-exactly}
 use Rattle.p6.specs.Refusals.{theDepth, isBad, pictureRows}
 use Rattle.p6.specs.Outcomes.{readPicture}
+use Rattle.p6.specs.declared.Picture.{Picture}
 use Rattle.p6.proofs.Meaning.{picture-refuses, accepted-header}
 use Rattle.p6.proofs.Ways.{picture-bad-header}
-use Rattle.p6.specs.declared.Picture.{Picture}
 
 -- a header that failed did so at its offset
 failed-at : (h : Header) → isBad h ≡ true → h ≡ Bad (offsetIn h)

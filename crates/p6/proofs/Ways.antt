@@ -16,12 +16,11 @@ use Rattle.refusal.specs.{
   done,
   firstOf,
 }
-use Rattle.refusal.proofs.Outcomes.{outcome-made, outcome-refused}
 use Rattle.p6_header.specs.{Header, headerOf, offsetIn}
 use Rattle.p6_header.specs.declared.Header.the-variants.{Read, Bad}
 use Rattle.p6.specs.Refusals.{badSize, badDepth, badRaster, widthIn, heightIn, startIn, pictureRows}
-use Rattle.p6.specs.Outcomes.{refusedPicture, madePicture, readPicture}
-use Rattle.p6.specs.declared.Picture.{Picture}
+use Rattle.p6.specs.Outcomes.{refusedPicture, readPicture}
+use Rattle.p6.proofs.Meaning.{picture-refuses}
 
 -- the rows after BAD HEADER, of a header's numbers and the count of raster bytes
 abbrev numberRows : ℕ → ℕ → ℕ → ℕ → List Row
@@ -29,16 +28,10 @@ numberRows w h d bytes =
     row (badSize w h) BAD-SIZE ∷ row (badDepth d) BAD-DEPTH ∷ row (badRaster w h bytes) BAD-RASTER ∷ []
 
 module _ (s : List ℕ) where
-  -- a picture that is refused
-  refused-by : (n : Refusal) → firstOf (pictureRows s) ≡ numberOf n
-      → readPicture s ≡ refusedPicture (numberOf n) (offsetIn (headerOf s))
-  unfolding readPicture
-  refused-by n e =
-      outcome-refused {A = Picture} (pictureRows s) (madePicture s) (λ n. refusedPicture n (offsetIn (headerOf s))) n e
-
   -- a header that fails is refused, with the place
   pub picture-bad-header : (at : ℕ) → headerOf s ≡ Bad at → readPicture s ≡ refusedPicture (numberOf BAD-HEADER) at
-  picture-bad-header at e = refused-by BAD-HEADER (rw e) ∙ ap (λ h. refusedPicture (numberOf BAD-HEADER) (offsetIn h)) e
+  picture-bad-header at e =
+      picture-refuses s .by-refusal BAD-HEADER (rw e) ∙ ap (λ h. refusedPicture (numberOf BAD-HEADER) (offsetIn h)) e
 
   module _ (w h d n : ℕ) (e : headerOf s ≡ Read w h d n) where
     -- past the header, the rows after it decide
@@ -48,7 +41,8 @@ module _ (s : List ℕ) where
     -- a picture with a header that is refused
     read-refused : (r : Refusal) → firstOf (numberRows w h d (length s - n)) ≡ numberOf r
         → readPicture s ≡ refusedPicture (numberOf r) 0
-    read-refused r f = refused-by r (past-header ∙ f) ∙ ap (λ x. refusedPicture (numberOf r) (offsetIn x)) e
+    read-refused r f =
+        picture-refuses s .by-refusal r (past-header ∙ f) ∙ ap (λ x. refusedPicture (numberOf r) (offsetIn x)) e
 
     -- a size out of range is refused
     pub picture-bad-size : badSize w h ≡ true → readPicture s ≡ refusedPicture (numberOf BAD-SIZE) 0
@@ -67,10 +61,8 @@ module _ (s : List ℕ) where
     -- a picture that passes all tests is made
     pub picture-made : badSize w h ≡ false → badDepth d ≡ false → badRaster w h (length s - n) ≡ false
         → readPicture s ≡ record { refusal = done; offset = 0; width = w; height = h; start = n }
-    unfolding readPicture
     picture-made size depth raster =
-        outcome-made {A = Picture} (pictureRows s) (madePicture s) (λ n. refusedPicture n (offsetIn (headerOf s)))
-        (past-header ∙ rw (size, depth, raster))
+        picture-refuses s .by-none (past-header ∙ rw (size, depth, raster))
         ∙ ap
         (λ (x : Header). record {
           refusal = done;

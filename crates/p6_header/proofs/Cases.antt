@@ -7,9 +7,9 @@ use native.Mathlib.Omega.{arith}
 use lib.ListN.{getD}
 use Rattle.refusal.specs.{numberOf, done, BAD-HEADER}
 use Rattle.grammar.specs.{Reading}
+use Rattle.grammar.specs.declared.Reading.the-variants.{Number, Failed}
 use Rattle.p6_header.specs.Fields.{fieldAt, readingNumber, readingValues, ReadingSays}
 use Rattle.p6_header.specs.Headers.{headerOf, headerNumber, headerValues, HeaderSays}
-use Rattle.grammar.specs.declared.Reading.the-variants.{Number, Failed}
 use Rattle.p6_header.specs.declared.Header.{Header}
 use Rattle.p6_header.specs.declared.Header.the-variants.{Read, Bad}
 use Rattle.p6_header.specs.Standing.{FieldFailed, FieldRead, HeaderIn, FirstWrong}
@@ -30,14 +30,14 @@ meant (read value b f) = f
 meant (failed at f) = f
 
 -- a field is read exactly where it stands
-pub field-reads-exactly : (s : List ℕ) (a b value : ℕ) → (fieldAt s a ≡ Number value b) ↔ FieldRead s a b value
+field-reads-exactly : (s : List ℕ) (a b value : ℕ) → (fieldAt s a ≡ Number value b) ↔ FieldRead s a b value
 field-reads-exactly s a b value = (
   λ e. subst (Means s a) e (meant (field-told s a)),
   λ f. field-is-read s a b value (f .field) (f .ended),
 )
 
 -- and fails exactly where it cannot be read
-pub field-fails-exactly : (s : List ℕ) (a at : ℕ) → (fieldAt s a ≡ Failed at) ↔ FieldFailed s a at
+field-fails-exactly : (s : List ℕ) (a at : ℕ) → (fieldAt s a ≡ Failed at) ↔ FieldFailed s a at
 field-fails-exactly s a at = (
   λ e. subst (Means s a) e (meant (field-told s a)),
   λ f. field-is-failed s a at f,

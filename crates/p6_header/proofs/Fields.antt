@@ -1,22 +1,19 @@
 -- A field, as it is read and as it stands: white bytes and a number after them, from one place to another.
 use Prim.Native.Nat.{ℕ, _+_}
-use mathlib.Core.Bool.{true, false}
+use mathlib.Core.Bool.{true}
 use mathlib.Core.List.{List}
-use mathlib.Core.Logic.{inl, inr}
 use mathlib.Core.Path.{_≡_, refl, sym, ap, _∙_, subst}
 use native.Mathlib.Decide.{ℕ-discrete}
 use native.Mathlib.Omega.{arith}
 use lib.ListN.{length}
-use borrow.Author.Tests.{ne-eqb}
-use Rattle.number.proofs.Cases.{bool, never}
 use Rattle.grammar.specs.{byteAt, isDigit, mostDigits, digitsAt, decimal, numberAt, Reading}
+use Rattle.grammar.specs.declared.Reading.the-variants.{Number, Failed}
+use Rattle.grammar.proofs.Spans.{span-at-most, span-all, span-ends, span-only}
+use Rattle.grammar.proofs.Readings.{number-reads, number-fails}
 use Rattle.p6_header.specs.Bytes.{isWhite}
 use Rattle.p6_header.specs.Fields.{whitesAt, fieldAt}
-use Rattle.grammar.specs.declared.Reading.the-variants.{Number, Failed}
 use Rattle.p6_header.specs.Standing.{DigitsEnd, Field, FieldFailed, FieldRead}
-use Rattle.grammar.proofs.Spans.{span-at-most, span-all, span-ends, span-only}
 use Rattle.p6_header.proofs.Whites.{digit-not-white, whites-end, whites-only}
-use Rattle.grammar.proofs.Readings.{number-reads, number-fails}
 use Rattle.p6_header.proofs.field.Readings.{field-reads, field-fails}
 
 -- ---- a field that is read

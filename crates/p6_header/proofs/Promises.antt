@@ -12,7 +12,6 @@ use Rattle.p6_header.specs.Headers.{headerOf, headerNumber, headerValues
 use Rattle.p6_header.specs.declared.Header.{Header}
 use Rattle.p6_header.specs.declared.Header.the-variants.{Read}
 use Rattle.p6_header.specs.Standing.{FieldFailed, FieldRead, FirstWrong, HeaderIn, IsHeader}
-use Rattle.p6_header.proofs.Fields as fields
 use Rattle.p6_header.proofs.Cases as cases
 use Rattle.p6_header.proofs.Headers as headers
 use Rattle.p6_header.proofs.Wrongs as wrongs

@@ -48,7 +48,7 @@ white-not-digit b h = elim (bool (isDigit b)) [
 -- ---- white bytes in a row
 
 -- there are no more white bytes in a row than bytes
-pub whites-within : (s : List ℕ) (at n : ℕ) → AllOf isWhite s at n → n ≤ length s
+whites-within : (s : List ℕ) (at n : ℕ) → AllOf isWhite s at n → n ≤ length s
 whites-within s at n all = go (decLt (length s) n)
   where
     go : Dec (length s < n) → n ≤ length s

@@ -22,7 +22,7 @@ put-one a b d h =
     set-split d a b h ∙ ap (λ t. take a d ++ fill 1 (λ i. getD (b ∷ []) i 0) t) (sym (drop-cons d a 0 h))
 
 -- a text behind a text is the two as one
-pub text-joined : (a : ℕ) (t u d : List ℕ) → withText (a + length t) u (withText a t d) ≡ withText a (t ++ u) d
+text-joined : (a : ℕ) (t u d : List ℕ) → withText (a + length t) u (withText a t d) ≡ withText a (t ++ u) d
 text-joined a t u d =
     let f : ℕ → ℕ = λ i. getD (t ++ u) i 0 in
     ap (λ x. fillFrom (a + length t) (length u) (λ i. getD u i 0) x)

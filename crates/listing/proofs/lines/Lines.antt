@@ -10,8 +10,8 @@ use Rattle.shades.specs.{mostCoordinates}
 use Rattle.palette.specs.{paletteFromShades, PaletteMeets}
 use Rattle.mapping.specs.{Mapped, mapStrip, MapMeets}
 use Rattle.grammar.specs.{blank, lineFeed, decimalText}
+use Rattle.grammar.proofs.Promises.{decimal-length}
 use Rattle.texts.specs.{lineOf, linesOf, PutMeets}
-use Rattle.grammar.proofs.Texts.{decimal-length}
 use Rattle.texts.proofs.Texts.{put-then, put-length, bytes-start}
 use Rattle.listing.specs.Refusals.{mostListed, listedZeros}
 use Rattle.listing.specs.Texts.{mappedTo, shadeFields, shadeRows, shadeLines}

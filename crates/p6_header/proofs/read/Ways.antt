@@ -5,10 +5,10 @@ use mathlib.Core.List.{List}
 use mathlib.Core.Path.{_≡_, sym, ap, _∙_}
 use borrow.Author.Tests.{eq-eqb, ne-eqb}
 use Rattle.grammar.specs.{byteAt, placeIn, Reading}
+use Rattle.grammar.specs.declared.Reading.the-variants.{Number, Failed}
 use Rattle.p6_header.specs.Bytes.{isWhite, letterP, figureSix}
 use Rattle.p6_header.specs.Fields.{fieldAt}
 use Rattle.p6_header.specs.Headers.{andThen, lastWhite, headerOf}
-use Rattle.grammar.specs.declared.Reading.the-variants.{Number, Failed}
 use Rattle.p6_header.specs.declared.Header.{Header}
 use Rattle.p6_header.specs.declared.Header.the-variants.{Read, Bad}
 

@@ -1,17 +1,17 @@
 -- `read_picture` meets its contract: each way out is a law of `Ways`, with what the tests before it said.
+use Prim.Native.Nat.{ℕ}
 use mathlib.Core.Bool.{false}
 use mathlib.Core.List.{List}
 use mathlib.Core.Path.{_≡_, sym, ap, _∙_}
-use Prim.Native.Nat.{ℕ}
 use denote.Ref.{now}
 use borrow.Author.Needs.{needs}
 use borrow.Author.Tests.{ne-eqb}
 use Rattle.refusal.specs.{BAD-HEADER, numberOf}
 use Rattle.p6_header.specs.{headerOf, offsetIn}
 use Rattle.p6_header.specs.declared.Header.the-variants.{Read}
+use Rattle.p6_header.proofs.Headers.{start-inside}
 use Rattle.p6.specs.Refusals.{theDepth, badSize, badDepth}
 use Rattle.p6.specs.Outcomes.{refusedPicture}
-use Rattle.p6_header.proofs.Headers.{start-inside}
 use Rattle.p6.proofs.Meaning.{sides-at-most, bad-depth-exactly}
 use Rattle.p6.proofs.Ways.{
   picture-bad-header,

@@ -1,8 +1,8 @@
 -- `put_word` meets its contract: the loop puts one byte more each turn.
 use Prim.Native.Nat.{ℕ, _-_, _≤_}
 use mathlib.Core.Path.{_≡_, refl, ap, _∙_}
-use lib.ListN.{getD, length}
 use native.Mathlib.Omega.{arith}
+use lib.ListN.{getD, length}
 use denote.Ref.{now}
 use borrow.Author.Needs.{needs}
 use Rattle.number.specs.{fillFrom}
