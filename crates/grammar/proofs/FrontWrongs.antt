@@ -9,13 +9,13 @@ use lib.ListN.{length, take, drop, take-append-drop}
 use lib.Seq.{length-take-le, take-append-le, take-take, take-at, take-length}
 use Rattle.grammar.specs.Languages.{Fronts, FirstWrong, GoesOn}
 
-module _ (H : List ℕ → Type 0) (s : List ℕ) (at : ℕ) (f : FirstWrong (Fronts H) s at) where
-  -- as many bytes as are before it
-  before : length (take at s) ≡ at
-  before = length-take-le at s (f .inside)
+module _ (L : List ℕ → Type 0) (s : List ℕ) (at : ℕ) (f : FirstWrong (Fronts L) s at) where
+  -- there are as many bytes before it as its place says
+  bytes-before : length (take at s) ≡ at
+  bytes-before = length-take-le at s (f .inside)
 
-  -- no word is there before it
-  no-word : (n : ℕ) → n ≤ at → ¬ H (take n s)
+  -- no word stands before it
+  no-word : (n : ℕ) → n ≤ at → ¬ L (take n s)
   no-word n h w = elim (ℕ-discrete at (length s)) [
     | yes e ↦ f .unfinished e (record { size = n; within = omega (arith, f .inside); word = w })
     | no e ↦
@@ -31,28 +31,28 @@ module _ (H : List ℕ → Type 0) (s : List ℕ) (at : ℕ) (f : FirstWrong (Fr
   ]
 
   -- some word has the bytes before it and goes on
-  pub wrong-goes-on : GoesOn H s at
+  pub wrong-goes-on : GoesOn L s at
   wrong-goes-on = go (decLt at (b .size))
     where
-      b : Fronts H (take at s ++ f .begins .more)
+      b : Fronts L (take at s ++ f .begins .more)
       b = f .begins .word
 
-      go : Dec (at < b .size) → GoesOn H s at
+      go : Dec (at < b .size) → GoesOn L s at
       go (yes l) = record {
         word = take (b .size) (take at s ++ f .begins .more);
         is-word = b .word;
         longer = omega (arith, length-take-le (b .size) (take at s ++ f .begins .more) (b .within));
         same =
             take-take at (b .size) (take at s ++ f .begins .more) (omega arith)
-            ∙ take-at (take at s) (f .begins .more) at before;
+            ∙ take-at (take at s) (f .begins .more) at bytes-before;
       }
       go (no l) =
           absurd (no-word (b .size) (omega arith)
-          (subst H (take-append-le (b .size) (take at s) (f .begins .more) (omega (arith, before))
+          (subst L (take-append-le (b .size) (take at s) (f .begins .more) (omega (arith, bytes-before))
           ∙ take-take (b .size) at s (omega arith)) (b .word)))
 
   -- and none has that byte too
-  pub wrong-stops : at < length s → (h : List ℕ) → H h → at < length h → ¬ (take (suc at) h ≡ take (suc at) s)
+  pub wrong-stops : at < length s → (h : List ℕ) → L h → at < length h → ¬ (take (suc at) h ≡ take (suc at) s)
   wrong-stops l h w longer same =
       f .stops l (record {
         more = drop (suc at) h;

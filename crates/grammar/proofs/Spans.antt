@@ -1,5 +1,5 @@
--- Laws of spans: how many bytes of one kind stand from a place on, at most so many; and that a byte of a kind that
--- 0 is not of stands inside the input.
+-- Laws of spans: how many bytes of one kind stand from a place on, at most so many or with no bound; and that a byte of
+-- a kind that 0 is not of stands inside the input.
 use Prim.Native.Nat.{ℕ, _+_, _≤_, _<_}
 use mathlib.Core.Bool.{Bool, true, false, not}
 use mathlib.Core.List.{List}
@@ -40,30 +40,53 @@ span-only kind most s at n h all ends =
       found = λ l. ap not (ends l);
     })
 
+-- the first of some bytes of a kind
+pub all-first : (kind : ℕ → Bool) (s : List ℕ) (at n : ℕ) → AllOf kind s at n → 0 < n → kind (byteAt s at) ≡ true
+all-first kind s at n all h = let z : at + 0 ≡ at = omega arith in rw z at (all 0 h)
+
 -- one byte more of a kind
 pub all-step : (kind : ℕ → Bool) (s : List ℕ) (at n : ℕ) → AllOf kind s at n → kind (byteAt s (at + n)) ≡ true
     → AllOf kind s at (n + 1)
 all-step kind s at n all e i h = ⊎-elim (all i) (λ o. rw o e) (below-or-last n i h)
 
--- ---- what stands inside
-
 -- past the end stands 0
 pub byte-past : (s : List ℕ) (i : ℕ) → length s ≤ i → byteAt s i ≡ 0
 byte-past s i h = List·getD-eq-default s 0 h
 
--- a byte of a kind that 0 is not of stands inside
-pub kind-inside : (kind : ℕ → Bool) → kind 0 ≡ false → (s : List ℕ) (i : ℕ) → kind (byteAt s i) ≡ true → i < length s
-kind-inside kind z s i h = go (decLt i (length s))
-  where
-    go : Dec (i < length s) → i < length s
-    go (yes l) = l
-    go (no l) = never (sym h ∙ ap kind (byte-past s i (omega arith)) ∙ z)
+-- ---- a kind that 0 is not of: its bytes stand inside, and their spans need no bound but the input's length
 
--- 0, which stands past the end, is no digit
+module _ (kind : ℕ → Bool) (none : kind 0 ≡ false) where
+  -- a byte of the kind stands inside
+  pub kind-inside : (s : List ℕ) (i : ℕ) → kind (byteAt s i) ≡ true → i < length s
+  kind-inside s i h = elim (decLt i (length s)) [
+    | yes l ↦ l
+    | no l ↦ never (sym h ∙ ap kind (byte-past s i (omega arith)) ∙ none)
+  ]
+
+  -- there are no more of them in a row than bytes
+  all-within : (s : List ℕ) (at n : ℕ) → AllOf kind s at n → n ≤ length s
+  all-within s at n all = elim (decLt (length s) n) [
+    | yes l ↦ absurd (omega (arith, kind-inside s (at + length s) (all (length s) l)))
+    | no l ↦ omega arith
+  ]
+
+  -- the byte after all of them in a row is of another kind, also where it is the end of the input
+  pub row-ends : (s : List ℕ) (at : ℕ) → kind (byteAt s (at + spanAt kind (length s) s at)) ≡ false
+  row-ends s at = elim (decLt (spanAt kind (length s) s at) (length s)) [
+    | yes l ↦ span-ends kind (length s) s at l
+    | no l ↦ ap kind (byte-past s (at + spanAt kind (length s) s at) (omega arith)) ∙ none
+  ]
+
+  -- so many of them and then a byte of another kind are all of them
+  pub row-only : (s : List ℕ) (at n : ℕ) → AllOf kind s at n → kind (byteAt s (at + n)) ≡ false
+      → n ≡ spanAt kind (length s) s at
+  row-only s at n all ends = span-only kind (length s) s at n (all-within s at n all) all (λ l. ends)
+
+-- 0 is no digit
 pub nothing-digit : isDigit 0 ≡ false
 unfolding isDigit
 nothing-digit = refl
 
 -- a digit stands inside
 pub digit-inside : (s : List ℕ) (i : ℕ) → isDigit (byteAt s i) ≡ true → i < length s
-digit-inside s i h = kind-inside isDigit nothing-digit s i h
+digit-inside = kind-inside isDigit nothing-digit

@@ -19,7 +19,7 @@
 --
 -- Languages
 --   Begins language front           some word begins with these bytes
---   FirstWrong language input at    place `at` has the first byte that cannot stand there, or the input ends early at it
+--   FirstWrong language input at    place `at` has the first byte that cannot stand there, or is an early end
 --   Fronts language                 the language of inputs that begin with a word
 --   GoesOn language input at        some word has the bytes before place `at`, and goes on
 --   Joined first second             the language of a word of the first and then one of the second

@@ -5,7 +5,7 @@
 //   byte_at    the byte at a place, 0 past the end           byte.rt
 //   number     1 to 5 digits at a place, or where it failed  decimal.rt
 //   place_in   where a reading ended or failed
-// Decimal writing is here as a definition, `decimalText`, and the crate texts puts it into a buffer.
+// The text of a number is a definition here, `decimalText`; the crate texts puts it into a buffer.
 //
 // Of languages there are laws and no function: an input has at most one first wrong byte, and a
 // machine that reads byte by byte, and every state of which can be completed to a word, dies there.

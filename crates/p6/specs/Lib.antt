@@ -10,8 +10,8 @@
 --   pictureRows            the tests in their order, with their refusals
 --   Picture                refusal, offset, width, height, start: the answer
 --   refusedPicture, madePicture   the answer where something is refused, and where nothing is
---   readPicture s          the answer on every input
---   rasterOf s             the raster, nothing for a refused picture
+--   readPicture input      the answer on every input
+--   rasterOf input         the raster, nothing for a refused picture
 pub mod Refusals
 pub mod Outcomes
 pub use declared.Picture.{Picture}

@@ -11,22 +11,23 @@ use Rattle.p6.specs.declared.Picture.{Picture}
 
 -- the answer of a refusal: its number, the offset, and zeros
 abbrev pub refusedPicture : ℕ → ℕ → Picture
-refusedPicture n offset = record { refusal = n; offset = offset; width = 0; height = 0; start = 0 }
+refusedPicture number offset = record { refusal = number; offset = offset; width = 0; height = 0; start = 0 }
 
 -- the answer of a picture that is read
 abbrev pub madePicture : List ℕ → Picture
-madePicture s = record {
+madePicture input = record {
   refusal = done;
   offset = 0;
-  width = widthIn (headerOf s);
-  height = heightIn (headerOf s);
-  start = startIn (headerOf s);
+  width = widthIn (headerOf input);
+  height = heightIn (headerOf input);
+  start = startIn (headerOf input);
 }
 
 -- the answer of the call: a header that is read has no offset
 unfoldable pub readPicture : List ℕ → Picture
-readPicture s = outcomeOf (pictureRows s) (madePicture s) (λ n. refusedPicture n (offsetIn (headerOf s)))
+readPicture input =
+    outcomeOf (pictureRows input) (madePicture input) (λ number. refusedPicture number (offsetIn (headerOf input)))
 
 -- the raster: the input from the raster's first place on; nothing for a refused picture
 unfoldable pub rasterOf : List ℕ → List ℕ
-rasterOf s = cond (eqb (readPicture s .refusal) done) (drop (readPicture s .start) s) []
+rasterOf input = cond (eqb (readPicture input .refusal) done) (drop (readPicture input .start) input) []

@@ -48,7 +48,7 @@ startIn (Bad at) = 0
 
 -- BAD HEADER: the input does not begin with a header
 abbrev pub badHeader : List ℕ → Bool
-badHeader s = isBad (headerOf s)
+badHeader input = isBad (headerOf input)
 
 -- a side is not 1 to 16,384
 abbrev pub badSide : ℕ → Bool
@@ -68,10 +68,10 @@ badRaster width height bytes = not (eqb bytes (3 * (width * height)))
 
 -- the order of a picture: 12, 13, 14, 15
 abbrev pub pictureRows : List ℕ → List Row
-pictureRows s =
-    let h = headerOf s in
-    row (badHeader s) BAD-HEADER
-    ∷ row (badSize (widthIn h) (heightIn h)) BAD-SIZE
-    ∷ row (badDepth (depthIn h)) BAD-DEPTH
-    ∷ row (badRaster (widthIn h) (heightIn h) (length s - startIn h)) BAD-RASTER
+pictureRows input =
+    let header = headerOf input in
+    row (badHeader input) BAD-HEADER
+    ∷ row (badSize (widthIn header) (heightIn header)) BAD-SIZE
+    ∷ row (badDepth (depthIn header)) BAD-DEPTH
+    ∷ row (badRaster (widthIn header) (heightIn header) (length input - startIn header)) BAD-RASTER
     ∷ []

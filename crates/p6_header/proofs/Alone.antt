@@ -1,5 +1,5 @@
--- A header stands in every input that has its bytes. So one at the front of an input is a header alone, and one alone is
--- a header at the front of whatever it is followed by.
+-- A header stands in every input that has its bytes. So one at the front of an input is a header alone, and one alone
+-- is a header at the front of whatever it is followed by.
 use Prim.Native.Nat.{ℕ, _+_, _≤_, _<_}
 use mathlib.Core.List.{List}
 use mathlib.Core.Path.{_≡_, sym, ap, _∙_}
@@ -34,7 +34,8 @@ module _ (s t : List ℕ) (n : ℕ) (same : (i : ℕ) → i < n → byteAt s i �
     after-height = H .after-height;
     after-depth = H .after-depth;
     letter = sym (same 0 (omega (arith, H .ends))) ∙ H .letter;
-    figure = sym (same 1 (omega (arith, H .ends, H .width-is .ends, H .height-is .ends, H .depth-is .ends))) ∙ H .figure;
+    figure =
+        sym (same 1 (omega (arith, H .ends, H .width-is .ends, H .height-is .ends, H .depth-is .ends))) ∙ H .figure;
     width-is =
         field-same 2 (H .after-width) w (H .width-is)
         (omega (arith, H .ends, H .height-is .ends, H .depth-is .ends));
@@ -47,7 +48,7 @@ module _ (s t : List ℕ) (n : ℕ) (same : (i : ℕ) → i < n → byteAt s i �
 
 -- an input and its first bytes have these in common
 front-bytes : (s : List ℕ) (n i : ℕ) → i < n → byteAt (take n s) i ≡ byteAt s i
-front-bytes s n i h = rw (getD-take)
+front-bytes s n i h = rw getD-take
 
 -- an input with a header at its front begins with one
 pub stands-front : (s : List ℕ) (w h d n : ℕ) → HeaderIn s w h d n → Fronts IsHeader s

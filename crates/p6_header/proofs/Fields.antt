@@ -8,7 +8,7 @@ use native.Mathlib.Omega.{arith}
 use lib.ListN.{length}
 use Rattle.grammar.specs.{byteAt, isDigit, mostDigits, digitsAt, decimal, numberAt, Reading}
 use Rattle.grammar.specs.declared.Reading.the-variants.{Number, Failed}
-use Rattle.grammar.proofs.Spans.{span-at-most, span-all, span-ends, span-only}
+use Rattle.grammar.proofs.Spans.{span-at-most, span-all, span-ends, span-only, all-first}
 use Rattle.grammar.proofs.Readings.{number-reads, number-fails}
 use Rattle.p6_header.specs.Bytes.{isWhite}
 use Rattle.p6_header.specs.Fields.{whitesAt, fieldAt}
@@ -20,9 +20,11 @@ use Rattle.p6_header.proofs.field.Readings.{field-reads, field-fails}
 
 -- a field begins with a white byte
 pub field-white : (s : List ℕ) (a b value : ℕ) → Field s a b value → isWhite (byteAt s a) ≡ true
-field-white s a b value f =
-    let z : a + 0 ≡ a = omega arith in
-    ap (λ i. isWhite (byteAt s i)) (sym z) ∙ f .white 0 (f .some-white)
+field-white s a b value f = all-first isWhite s a (f .whites) (f .white) (f .some-white)
+
+-- and after its white bytes stands a digit
+field-digit : (s : List ℕ) (a b value : ℕ) (f : Field s a b value) → isDigit (byteAt s (a + f .whites)) ≡ true
+field-digit s a b value f = all-first isDigit s (a + f .whites) (f .digits) (f .digit) (f .some-digit)
 
 -- a field that stands, with its digits ended, is read
 pub field-is-read : (s : List ℕ) (a b value : ℕ) (f : Field s a b value) → DigitsEnd s a b value f
@@ -30,10 +32,8 @@ pub field-is-read : (s : List ℕ) (a b value : ℕ) (f : Field s a b value) →
 field-is-read s a b value f ended =
     let w = f .whites in
     let n = f .digits in
-    let first : isDigit (byteAt s (a + w)) ≡ true =
-    let z : a + w + 0 ≡ a + w = omega arith in
-    ap (λ i. isDigit (byteAt s i)) (sym z) ∙ f .digit 0 (f .some-digit) in
-    let whites : w ≡ whitesAt s a = whites-only s a w (f .white) (digit-not-white _ first) in
+    let whites : w ≡ whitesAt s a =
+    whites-only s a w (f .white) (digit-not-white _ (field-digit s a b value f)) in
     let digits : n ≡ digitsAt s (a + w) =
     span-only isDigit mostDigits s (a + w) n (f .few-digits) (f .digit) (λ l. rw (← f .ends) (ended l)) in
     sym (field-reads s a (a + w) (ap (λ i. a + i) whites) (λ e. omega (arith, f .some-white)))

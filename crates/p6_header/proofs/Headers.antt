@@ -1,4 +1,4 @@
--- The header as a whole: it is read exactly where one stands.
+-- A header is read exactly where one stands.
 use Prim.Native.Nat.{ℕ, _≤_}
 use mathlib.Core.List.{List}
 use mathlib.Core.Logic.{_↔_, inl, inr}
@@ -14,8 +14,7 @@ use Rattle.p6_header.specs.Headers.{andThen, lastWhite, fieldsOf, header
 use Rattle.p6_header.specs.declared.Header.{Header}
 use Rattle.p6_header.specs.declared.Header.the-variants.{Read, Bad}
 use Rattle.p6_header.specs.Standing.{Field, HeaderIn}
-use Rattle.p6_header.proofs.Whites.{white-inside}
-use Rattle.p6_header.proofs.Whites.{white-not-digit}
+use Rattle.p6_header.proofs.Whites.{white-inside, white-not-digit}
 use Rattle.p6_header.proofs.Fields.{field-white, field-is-read, Told, read, failed, field-told}
 use Rattle.p6_header.proofs.read.Ways.{letter-fails, figure-fails, letters-pass}
 

@@ -12,7 +12,7 @@ use lib.Dec.{eqb}
 use borrow.Author.Tests.{eq-eqb, ne-eqb, lt-ltb, le-ltb}
 use Rattle.number.proofs.Cases.{bool, never}
 use Rattle.grammar.specs.{byteAt, isDigit, mostDigits, AllOf, Digits, Reading}
-use Rattle.grammar.proofs.Spans.{kind-inside, digit-inside}
+use Rattle.grammar.proofs.Spans.{all-first, kind-inside, digit-inside}
 use Rattle.grammar.proofs.Places.{wrongFront, front-nothing, front-taken, front-same, front-wrong}
 use Rattle.p6_header.specs.Bytes.{isWhite, letterP, figureSix}
 use Rattle.p6_header.specs.Fields.{fieldAt}
@@ -37,7 +37,7 @@ module _ (s : List ℕ) (rest : List Item) where
   -- it walks over a white byte before a number
   white-walk : (a : ℕ) → isWhite (byteAt s a) ≡ true → says (number ∷ rest) s a ≡ says (number ∷ rest) s (a + 1)
   white-walk a w =
-      front-taken after (number) rest (number ∷ []) s a (white-inside s a w)
+      front-taken after number rest (number ∷ []) s a (white-inside s a w)
       (rw (white-not-digit (byteAt s a) w, w) refl)
 
   -- and over so many
@@ -57,9 +57,8 @@ module _ (s : List ℕ) (rest : List Item) where
   digits-walk : (a n : ℕ) → Digits s a (suc n) → n < mostDigits
       → says (number ∷ rest) s a ≡ says (digits (suc n) ∷ rest) s (a + suc n)
   digits-walk a zero all l =
-      let z : a + 0 ≡ a = omega arith in
-      let d : isDigit (byteAt s a) ≡ true = rw z at (all 0 (omega arith)) in
-      front-taken after (number) rest (digits 1 ∷ []) s a (digit-inside s a d) (rw d refl)
+      let d = all-first isDigit s a 1 all (omega arith) in
+      front-taken after number rest (digits 1 ∷ []) s a (digit-inside s a d) (rw d refl)
   digits-walk a (suc n) all l =
       let z : a + suc (suc n) ≡ a + suc n + 1 = omega arith in
       let d : isDigit (byteAt s (a + suc n)) ≡ true = all (suc n) (omega arith) in
@@ -109,10 +108,9 @@ module _ (s : List ℕ) (rest : List Item) where
           rw here (front-wrong after white (number ∷ rest) s at (rw (f .not-white) refl))
       go (no z) =
           let here : a + f .whites ≡ at = omega (arith, f .ends) in
-          let zero-is : a + 0 ≡ a = omega arith in
-          white-first a (rw zero-is at (f .white 0 (omega arith)))
+          white-first a (all-first isWhite s a (f .whites) (f .white) (omega arith))
           ∙ whites-walk a (f .whites) (f .white)
-          ∙ rw here (front-wrong after (number) rest s at
+          ∙ rw here (front-wrong after number rest s at
           (rw (f .not-digit (omega arith), f .not-white) refl))
 
   -- a field, and what comes next: where that says what the machine says, so does all

@@ -1,30 +1,29 @@
 -- Laws of white bytes: they stand inside the input, no digit is one, and those in a row are counted with no bound.
-use Prim.Native.Nat.{ℕ, _+_, _≤_, _<_}
+use Prim.Native.Nat.{ℕ, _+_, _<_}
 use mathlib.Core.Bool.{true, false}
 use mathlib.Core.List.{List}
 use mathlib.Core.Logic.{inl, inr}
-use mathlib.Core.Path.{_≡_, refl, sym, ap, _∙_}
-use native.Mathlib.Decide.{decLt}
+use mathlib.Core.Path.{_≡_, refl, sym, _∙_}
 use native.Mathlib.Omega.{arith}
 use lib.ListN.{length}
 use borrow.Author.Tests.{ne-eqb}
 use Rattle.number.proofs.Cases.{bool, never}
 use Rattle.grammar.specs.{byteAt, isDigit, AllOf}
-use Rattle.grammar.proofs.Spans.{byte-past, kind-inside, span-only, span-ends}
+use Rattle.grammar.proofs.Spans.{kind-inside, row-ends, row-only}
 use Rattle.grammar.proofs.Decimals.{digit-range}
 use Rattle.p6_header.specs.Bytes.{isWhite}
 use Rattle.p6_header.specs.Fields.{whitesAt}
 
 -- ---- one byte
 
--- 0, which stands past the end, is not white
+-- 0 is not white
 pub nothing-white : isWhite 0 ≡ false
 unfolding isWhite
 nothing-white = refl
 
 -- a white byte stands inside
 pub white-inside : (s : List ℕ) (i : ℕ) → isWhite (byteAt s i) ≡ true → i < length s
-white-inside s i h = kind-inside isWhite nothing-white s i h
+white-inside = kind-inside isWhite nothing-white
 
 -- a digit is not white
 pub digit-not-white : (b : ℕ) → isDigit b ≡ true → isWhite b ≡ false
@@ -47,23 +46,11 @@ white-not-digit b h = elim (bool (isDigit b)) [
 
 -- ---- white bytes in a row
 
--- there are no more white bytes in a row than bytes
-whites-within : (s : List ℕ) (at n : ℕ) → AllOf isWhite s at n → n ≤ length s
-whites-within s at n all = go (decLt (length s) n)
-  where
-    go : Dec (length s < n) → n ≤ length s
-    go (yes l) = absurd (omega (arith, white-inside s (at + length s) (all (length s) l)))
-    go (no l) = omega arith
-
 -- the byte after the white bytes is not white, also where it is the end of the input
 pub whites-end : (s : List ℕ) (at : ℕ) → isWhite (byteAt s (at + whitesAt s at)) ≡ false
-whites-end s at = go (decLt (whitesAt s at) (length s))
-  where
-    go : Dec (whitesAt s at < length s) → isWhite (byteAt s (at + whitesAt s at)) ≡ false
-    go (yes l) = span-ends isWhite (length s) s at l
-    go (no l) = ap isWhite (byte-past s (at + whitesAt s at) (omega arith)) ∙ nothing-white
+whites-end = row-ends isWhite nothing-white
 
 -- so many white bytes and then one that is not white are all of them
 pub whites-only : (s : List ℕ) (at n : ℕ) → AllOf isWhite s at n → isWhite (byteAt s (at + n)) ≡ false
     → n ≡ whitesAt s at
-whites-only s at n all ends = span-only isWhite (length s) s at n (whites-within s at n all) all (λ l. ends)
+whites-only = row-only isWhite nothing-white

@@ -16,22 +16,24 @@ use Rattle.p6_header.specs.declared.Header.the-variants.{Read, Bad}
 
 -- what follows a number, where it was read; where it failed, the header fails there
 abbrev pub andThen : Reading → (ℕ → ℕ → Header) → Header
-andThen (Number value next) f = f value next
-andThen (Failed at) f = Bad at
+andThen (Number value next) more = more value next
+andThen (Failed at) more = Bad at
 
 -- exactly one white byte after the depth ends the header
 abbrev pub lastWhite : List ℕ → ℕ → ℕ → ℕ → ℕ → Header
-lastWhite s width height depth at = cond (isWhite (byteAt s at)) (Read width height depth (at + 1)) (Bad at)
+lastWhite input width height depth at = cond (isWhite (byteAt input at)) (Read width height depth (at + 1)) (Bad at)
 
 -- the three numbers after "P6", and the white byte
 abbrev pub fieldsOf : List ℕ → Header
-fieldsOf s =
-    andThen (fieldAt s 2)
-    (λ w a. andThen (fieldAt s a) (λ h b. andThen (fieldAt s b) (λ d e. lastWhite s w h d e)))
+fieldsOf input =
+    andThen (fieldAt input 2) (λ width at.
+    andThen (fieldAt input at) (λ height at.
+    andThen (fieldAt input at) (λ depth at. lastWhite input width height depth at)))
 
 -- the header at the front of an input
 unfoldable pub headerOf : List ℕ → Header
-headerOf s = cond (eqb (byteAt s 0) letterP) (cond (eqb (byteAt s 1) figureSix) (fieldsOf s) (Bad 1)) (Bad 0)
+headerOf input =
+    cond (eqb (byteAt input 0) letterP) (cond (eqb (byteAt input 1) figureSix) (fieldsOf input) (Bad 1)) (Bad 0)
 
 -- ---- what it says, case by case
 
@@ -47,7 +49,7 @@ headerValues (Bad at) = at ∷ []
 
 -- it says this number and these values
 abbrev pub HeaderSays : Header → ℕ → List ℕ → Type 0
-HeaderSays h number values = (headerNumber h ≡ number) × (headerValues h ≡ values)
+HeaderSays header number values = (headerNumber header ≡ number) × (headerValues header ≡ values)
 
 -- the place it failed; 0 where it did not
 abbrev pub offsetIn : Header → ℕ

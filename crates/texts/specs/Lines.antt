@@ -6,10 +6,10 @@ use Rattle.grammar.specs.{blank, lineFeed, decimalText}
 -- fields are decimal, one blank between, and a line ends with LF
 abbrev pub lineOf : List ℕ → List ℕ
 lineOf [] = lineFeed ∷ []
-lineOf (n ∷ []) = decimalText n ++ lineFeed ∷ []
-lineOf (n ∷ m ∷ ms) = decimalText n ++ blank ∷ lineOf (m ∷ ms)
+lineOf (number ∷ []) = decimalText number ++ lineFeed ∷ []
+lineOf (number ∷ next ∷ others) = decimalText number ++ blank ∷ lineOf (next ∷ others)
 
 -- lines one behind the other
 abbrev pub linesOf : List (List ℕ) → List ℕ
 linesOf [] = []
-linesOf (l ∷ ls) = lineOf l ++ linesOf ls
+linesOf (line ∷ others) = lineOf line ++ linesOf others

@@ -5,11 +5,11 @@ use mathlib.Core.Path.{_≡_}
 use lib.ListN.{getD, length}
 use Rattle.number.specs.{fillFrom}
 
--- the buffer d with the bytes t from place a on; the others keep their values
+-- the buffer with a text from place `at` on; the other places keep their values
 abbrev pub withText : ℕ → List ℕ → List ℕ → List ℕ
-withText a t d = fillFrom a (length t) (λ i. getD t i 0) d
+withText at text buffer = fillFrom at (length text) (λ i. getD text i 0) buffer
 
--- t was put into d from place a on: x is the buffer then, and r the place behind
-pub record PutMeets (a : ℕ) (t d : List ℕ) (r : ℕ) (x : List ℕ) : Type 0 where
-  pub ends : r ≡ a + length t
-  pub text-is : x ≡ withText a t d
+-- the text was put into the buffer from place `at` on: `next` is the place behind it, and `left` the buffer then
+pub record PutMeets (at : ℕ) (text buffer : List ℕ) (next : ℕ) (left : List ℕ) : Type 0 where
+  pub ends : next ≡ at + length text
+  pub text-is : left ≡ withText at text buffer
