@@ -1,6 +1,6 @@
 -- Glossary.
---   Refusal            the fifteen refusals by name: BAD-STRIP, BAD-TABLE, .., BAD-RASTER
---   numberOf refusal   its number, 1 to 15
+--   Refusal            the refusals by name: BAD-STRIP, BAD-TABLE, .., BAD-RASTER
+--   numberOf refusal   its number, from 1 on
 --   done               0, the answer where nothing is refused
 --   Row, row t r       a row of an order: the test t, and the refusal r given where it holds
 --   firstOf rows       the number of the first row whose test holds; done where none does

@@ -1,7 +1,7 @@
 -- The refusals by name, and the number that document 01's table gives to each.
 use Prim.Native.Nat.{ℕ}
 
--- the fifteen refusals, in the order of their numbers
+-- the refusals, in the order of their numbers
 pub data Refusal : Type 0 where
   BAD-STRIP BAD-TABLE FULL BAD-COUNT FEW-COLOURS : Refusal
   BAD-LIMIT SHORT-ROOM BAD-CENTRE BAD-MEMBER BAD-PALETTE : Refusal

@@ -1,4 +1,4 @@
-// The refusals of document 01: fifteen numbers with their names, and "the first test that holds".
+// The refusals by number and name, and "the first test that holds".
 // A call answers the number of the first row of its order whose test holds; DONE where none does.
 //
 //    1 BAD STRIP       6 BAD LIMIT      11 MANY PIXELS
