@@ -1,7 +1,7 @@
 -- What `firstOf` answers, from what its rows say: by going down the rows with the value of each test.
 use mathlib.Core.Path.{_≡_, refl, sym, _∙_}
 use mathlib.Core.List.{List, [], _∷_, _++_}
-use mathlib.Core.Logic.{_⊎_, inl, inr, ⊎-elim}
+use mathlib.Core.Logic.{_↔_, _⊎_, inl, inr, ⊎-elim}
 use Rattle.number.proofs.Cases.{bool}
 use Rattle.refusal.specs.Numbers.{Refusal, numberOf, done}
 use Rattle.refusal.specs.Order.{Row, firstOf, Given, NoneHolds}
@@ -10,17 +10,21 @@ use Rattle.refusal.proofs.Numbers.{number-only, number-not-done}
 -- ---- the first row whose test holds
 
 -- what is given is what is answered
-pub first-of-given : (rows : List Row) (n : Refusal) → Given rows n → firstOf rows ≡ numberOf n
+first-of-given : (rows : List Row) (n : Refusal) → Given rows n → firstOf rows ≡ numberOf n
 first-of-given [] n g = absurd g
 first-of-given (r ∷ rows) n (inl (t, e)) = rw (t, e)
 first-of-given (r ∷ rows) n (inr (t, g)) = rw t (first-of-given rows n g)
 
 -- what is answered is what is given: the number says which refusal it is
-pub given-of-first : (rows : List Row) (n : Refusal) → firstOf rows ≡ numberOf n → Given rows n
+given-of-first : (rows : List Row) (n : Refusal) → firstOf rows ≡ numberOf n → Given rows n
 given-of-first [] n e = absurd (number-not-done n (sym e))
 given-of-first (r ∷ rows) n e =
     ⊎-elim (λ t. inl (t, number-only _ n (rw t at e)))
     (λ t. inr (t, given-of-first rows n (rw t at e))) (bool (r .when))
+
+-- so the number is answered exactly when the refusal is given
+pub first-exactly : (rows : List Row) (n : Refusal) → (firstOf rows ≡ numberOf n) ↔ Given rows n
+first-exactly rows n = (given-of-first rows n, first-of-given rows n)
 
 -- one refusal alone is given
 pub given-only : (rows : List Row) (a b : Refusal) → Given rows a → Given rows b → a ≡ b
@@ -29,7 +33,7 @@ given-only rows a b g h = number-only a b (sym (first-of-given rows a g) ∙ fir
 -- ---- no row's test holds
 
 -- where no test holds the answer is `done`
-pub first-of-none : (rows : List Row) → NoneHolds rows → firstOf rows ≡ done
+first-of-none : (rows : List Row) → NoneHolds rows → firstOf rows ≡ done
 first-of-none [] g = refl
 first-of-none (r ∷ rows) (t, g) = rw t (first-of-none rows g)
 
@@ -39,6 +43,10 @@ none-of-first [] e = tt
 none-of-first (r ∷ rows) e =
     ⊎-elim (λ t. absurd (number-not-done (r .gives) (rw t at e)))
     (λ t. (t, none-of-first rows (rw t at e))) (bool (r .when))
+
+-- so `done` is answered exactly when no test holds
+pub done-exactly : (rows : List Row) → (firstOf rows ≡ done) ↔ NoneHolds rows
+done-exactly rows = (none-of-first rows, first-of-none rows)
 
 -- ---- rows and then more rows
 

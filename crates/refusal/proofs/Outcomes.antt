@@ -12,7 +12,7 @@ use Rattle.refusal.specs.Numbers.{Refusal, numberOf, done}
 use Rattle.refusal.specs.Order.{Row, firstOf, outcomeOf}
 use Rattle.refusal.specs.Calls.{Refuses}
 use Rattle.refusal.proofs.Numbers.{number-not-done}
-use Rattle.refusal.proofs.Promises.{first-exactly, done-exactly, done-or-refusal}
+use Rattle.refusal.proofs.Order.{first-exactly, done-exactly, done-or-refusal}
 
 module _ {A : Type 0} (rows : List Row) (made : A) (refused : ℕ → A) where
   -- where nothing is refused it is made
@@ -33,7 +33,7 @@ module _ {A : Type 0} (rows : List Row) (made : A) (refused : ℕ → A) where
 
   module _ (number : A → ℕ) (made-is : number made ≡ done) (refused-is : (n : ℕ) → number (refused n) ≡ n) where
     -- the number in it is that of the first row whose test holds
-    pub outcome-number : number (outcomeOf rows made refused) ≡ firstOf rows
+    outcome-number : number (outcomeOf rows made refused) ≡ firstOf rows
     outcome-number = elim (bool (eqb (firstOf rows) done)) [
       | inl t ↦ rw t (made-is ∙ sym (eqb-true (firstOf rows) done t))
       | inr t ↦ rw t (refused-is (firstOf rows))
