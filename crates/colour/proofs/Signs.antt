@@ -79,7 +79,7 @@ module _ (w : Width) (wide : mostCoordinate < 2 ^ hbits w) (a b : ℕ) (h : a �
 
 module _ (a b : ℕ) (h : a ≤ mostCoordinate) (g : b ≤ mostCoordinate) where
   -- the square of the difference is `sq`
-  pub square-of : (pos a -ℤ pos b) *ℤ (pos a -ℤ pos b) ≡ pos (sq a b)
+  square-of : (pos a -ℤ pos b) *ℤ (pos a -ℤ pos b) ≡ pos (sq a b)
   unfolding sq
   square-of = difference-off a b .product
 

@@ -54,7 +54,7 @@ module _ (rows : List Row) (rule : Rule) (B : Base) (C : Colours) (k limit : ℕ
       })
 
 -- the outcome of what is accepted is accepted
-pub accepted-done : {o : RunOutcome} {r : Ran} {members totals : List ℕ} → AcceptedBy o r members totals
+accepted-done : {o : RunOutcome} {r : Ran} {members totals : List ℕ} → AcceptedBy o r members totals
     → o .answer .refusal ≡ done
 accepted-done h = ap (λ (x : Ran). x .refusal) (sym (h .meets .answer)) ∙ h .accepted
 

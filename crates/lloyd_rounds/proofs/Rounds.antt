@@ -62,11 +62,11 @@ module _ (rec : Record) (ks ws : List ℕ) (a : State) where
   }
 
   -- a plain round that is accepted passes its tests
-  pub plain-good : NoneHolds (plainRows rec ks ws a) → PlainGood
+  plain-good : NoneHolds (plainRows rec ks ws a) → PlainGood
   plain-good h = record { table = h .0; count = h .1 .0; centre = h .1 .1 .0; room = h .1 .1 .1 .0 }
 
   -- a shortened round that is accepted passes those of a plain one, and one more
-  pub short-good : NoneHolds (shortRows rec ks ws a)
+  short-good : NoneHolds (shortRows rec ks ws a)
       → PlainGood × (badMember (rec .used) (length (a .coordinates) / 3) (a .members) ≡ false)
   short-good h = (plain-good (none-front (plainRows rec ks ws a) (memberRow rec a ∷ []) h), h .1 .1 .1 .1 .0)
 

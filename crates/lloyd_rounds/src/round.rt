@@ -1,7 +1,12 @@
 // Single rounds.
 ghost use mathlib.Core.Path.{_≡_};
 ghost use Rattle.method.specs.{stateOf};
-ghost use Rattle.lloyd_rounds.specs.Outcomes.{plainRound, shortRound, refusedRound, RoundMeets};
+ghost use Rattle.lloyd_rounds.specs.Outcomes.{
+  plainRound,
+  shortRound,
+  refusedRound,
+  RoundMeets,
+};
 use super::Rounded;
 use lloyd_tests::bad_member;
 use refusal::BAD_CENTRE;

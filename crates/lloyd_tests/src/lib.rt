@@ -1,4 +1,5 @@
-// The tests of counts, limits, rooms and members, which the calls of the method and of palettes share.
+// The tests of counts, limits, rooms and members: those of runs and rounds, and what palettes share
+// with them.
 //
 // Calls; none refuses, and what one requires stands above it
 //   bad_count    the test of 4 BAD COUNT of a run     test.rt

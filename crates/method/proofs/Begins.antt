@@ -10,7 +10,7 @@ use Rattle.shades.specs.{mostShades, mostCoordinates, shadeAt}
 use Rattle.method.specs.Colouring.{Colours, pixelsIn, meanOf, Fair}
 use Rattle.method.specs.Rounding.{Fit, Joined}
 use Rattle.method.specs.Starting.{Base, flat, nextShade, startsFrom, onMean}
-use Rattle.method.specs.Running.{beginFrom, begin}
+use Rattle.method.specs.Running.{beginFrom}
 use Rattle.method.proofs.Costs.{mean-within}
 use Rattle.method.proofs.Startings.{
   over-length,
@@ -74,9 +74,3 @@ module _ (B : Base) (C : Colours) (k : ℕ) (members : List ℕ) where
 pub mean-low : (C : Colours) → Fair C → 0 < pixelsIn C → (q : ℕ) → Within mostCoordinate (onMean C .at q)
 mean-low C fair pixels =
     listed-within (flat (meanOf C)) (flat-low (meanOf C) (mean-within C mostCoordinate (fair .inside) pixels))
-
--- document 01's run begins fit, where the table has a pixel
-pub begin-fit : (C : Colours) (k : ℕ) (members : List ℕ) → Fair C → 0 < pixelsIn C → 0 < k → k ≤ mostShades
-    → C .n ≤ length members → Fit C k (begin C k members)
-begin-fit C k members fair pixels =
-    begin-from-fit (onMean C) C k members (mean-low C fair pixels) fair

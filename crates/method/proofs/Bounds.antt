@@ -31,7 +31,8 @@ from-zero (q ∷ qs) = (omega arith, from-zero qs)
 
 -- groups from number f on that are bounded each are bounded in sum
 pub sum-bounded : (f : ℕ) (G : ℕ → Colours) (cost : ℕ → ℕ) (qs : List ℕ) → From f qs
-    → ((q : ℕ) → f ≤ q → Bounded (G q) (cost q)) → SumBounded (leastSum G qs) (sumOf (λ q. pixelsIn (G q)) qs) (sumOf cost qs)
+    → ((q : ℕ) → f ≤ q → Bounded (G q) (cost q))
+    → SumBounded (leastSum G qs) (sumOf (λ q. pixelsIn (G q)) qs) (sumOf cost qs)
 sum-bounded f G cost [] free each = record { whole = omega arith; at-least = omega arith; at-most = omega arith }
 sum-bounded f G cost (q ∷ qs) free each =
     go (eqb (pixelsIn (G q)) 0) refl (sum-bounded f G cost qs (free .1) each)

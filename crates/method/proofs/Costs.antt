@@ -15,7 +15,7 @@ use Rattle.method.specs.Colouring.{Colours, on, pixelsIn, sumsOf, leastO
 use Rattle.method.specs.Rounding.{toMean, GoodRule, Means}
 
 -- a shade costs what its three coordinates cost
-pub cost-coordinates : (C : Colours) (z : Point)
+cost-coordinates : (C : Colours) (z : Point)
     → costAt C z ≡ cost (on (λ p. p .r) C) (z .r) + cost (on (λ p. p .g) C) (z .g) + cost (on (λ p. p .b) C) (z .b)
 unfolding distance
 cost-coordinates C z =
@@ -28,7 +28,7 @@ module _ (C : Colours) where
   empty-costs-nothing e z = sum-none (C .n) (C .w) (λ i. distance (C .c i) z) e
 
   -- no whole shade costs less than the rounded mean
-  pub mean-costs-least : 0 < pixelsIn C → (z : Point) → costAt C (meanOf C) ≤ costAt C z
+  mean-costs-least : 0 < pixelsIn C → (z : Point) → costAt C (meanOf C) ≤ costAt C z
   mean-costs-least pos z =
       omega (
         arith,

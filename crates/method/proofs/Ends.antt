@@ -52,7 +52,7 @@ use Rattle.method.proofs.Falls.{
 }
 
 -- groups by members that agree have one mean
-pub group-mean-same : (C : Colours) (m l : ℕ → ℕ) (q : ℕ) → ((i : ℕ) → i < C .n → m i ≡ l i)
+group-mean-same : (C : Colours) (m l : ℕ → ℕ) (q : ℕ) → ((i : ℕ) → i < C .n → m i ≡ l i)
     → meanOf (groupOf C m q) ≡ meanOf (groupOf C l q)
 group-mean-same C m l q same =
     rw (
@@ -63,7 +63,7 @@ group-mean-same C m l q same =
     )
 
 -- and go to one place
-pub to-mean-same : (C : Colours) (m l : ℕ → ℕ) (q : ℕ) (z : Point) → ((i : ℕ) → i < C .n → m i ≡ l i)
+to-mean-same : (C : Colours) (m l : ℕ → ℕ) (q : ℕ) (z : Point) → ((i : ℕ) → i < C .n → m i ≡ l i)
     → toMean q (groupOf C m q) z ≡ toMean q (groupOf C l q) z
 to-mean-same C m l q z same =
     ap₂ (λ (w : ℕ) (p : Point). cond (eqb w 0) z p) (group-pixels-same C m l q same) (group-mean-same C m l q same)
@@ -86,7 +86,7 @@ module _ (rule : Rule) (C : Colours) (k : ℕ) (a : State) (fit : Fit C k a) whe
       ∙ sum-zero (C .n)
 
   -- the members against any places of the shades, group by group
-  pub spent-by-groups : (s : ℕ → Point)
+  spent-by-groups : (s : ℕ → Point)
       → sum (C .n) (λ i. C .w i * distance (C .c i) (s (getD (step rule C k a .members) i 0)))
       ≡ sum k (λ q. costAt (groupAt C (step rule C k a) q) (s q))
   spent-by-groups s =
@@ -115,7 +115,7 @@ module _ (rule : Rule) (C : Colours) (k : ℕ) (a : State) (fit : Fit C k a) whe
         shade-is q free h ∙ to-mean-moves q (groupAt C (step rule C k a) q) (shadeAt (a .coordinates) q) pos
 
     -- no place is better for its group
-    pub shade-best : (q : ℕ) → f ≤ q → q < k → (z : Point)
+    shade-best : (q : ℕ) → f ≤ q → q < k → (z : Point)
         → groupCost C (step rule C k a) q ≤ costAt (groupAt C (step rule C k a) q) z
     shade-best q free h z =
         rw (shade-is q free h) (to-mean-least q (groupAt C (step rule C k a) q) (shadeAt (a .coordinates) q) z)
@@ -153,7 +153,7 @@ module _ (rule : Rule) (C : Colours) (k : ℕ) (a : State) (fit : Fit C k a) whe
 
 module _ (rule : Rule) (C : Colours) (k : ℕ) (a : State) (f : Fit C k a) (still : movedOf rule C k a ≡ 0) where
   -- each shade stays
-  pub shade-stays : (q : ℕ) → q < k → movedTo rule C k a q ≡ shadeAt (a .coordinates) q
+  shade-stays : (q : ℕ) → q < k → movedTo rule C k a q ≡ shadeAt (a .coordinates) q
   shade-stays q h =
       same-place-is (movedTo rule C k a q) (shadeAt (a .coordinates) q)
       (not-not (samePlace (movedTo rule C k a q) (shadeAt (a .coordinates) q))
@@ -167,7 +167,7 @@ module _ (rule : Rule) (C : Colours) (k : ℕ) (a : State) (f : Fit C k a) (stil
       ∙ sym (total-of-groups C k a f)
 
   -- the shades stand where they stood
-  pub still-shades : (q : ℕ) → q < k → shadeAt (step rule C k a .coordinates) q ≡ shadeAt (a .coordinates) q
+  still-shades : (q : ℕ) → q < k → shadeAt (step rule C k a .coordinates) q ≡ shadeAt (a .coordinates) q
   still-shades q h = shade-moved C k a f rule q h ∙ shade-stays q h
 
   -- and each member is the nearest of them

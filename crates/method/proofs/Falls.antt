@@ -62,7 +62,7 @@ module _ (C : Colours) (k : ℕ) (a : State) (f : Fit C k a) where
         (λ i l. nearest-below (a .coordinates) k (C .c i) (f .some))
 
     -- what a round leaves costs no more than its total
-    pub final-at-most-total : GoodRule rule → finalOf C (step rule C k a) ≤ totalOf C k a
+    final-at-most-total : GoodRule rule → finalOf C (step rule C k a) ≤ totalOf C k a
     final-at-most-total n =
         omega (
           arith,
@@ -72,7 +72,7 @@ module _ (C : Colours) (k : ℕ) (a : State) (f : Fit C k a) where
         )
 
     -- the next round's total is at most that
-    pub next-at-most-final : totalOf C k (step rule C k a) ≤ finalOf C (step rule C k a)
+    next-at-most-final : totalOf C k (step rule C k a) ≤ finalOf C (step rule C k a)
     next-at-most-final =
         nearest-total-least C k (step rule C k a .coordinates) (λ i. getD (grouped C k a) i 0) grouped-below
 

@@ -92,7 +92,8 @@ empty-costs-nothing = costs.empty-costs-nothing
 
 -- Groups from shade f on that are bounded each are bounded in sum, over any list of them.
 pub sum-bounded : (f : ℕ) (G : ℕ → Colours) (cost : ℕ → ℕ) (qs : List ℕ) → From f qs
-    → ((q : ℕ) → f ≤ q → Bounded (G q) (cost q)) → SumBounded (leastSum G qs) (sumOf (λ q. pixelsIn (G q)) qs) (sumOf cost qs)
+    → ((q : ℕ) → f ≤ q → Bounded (G q) (cost q))
+    → SumBounded (leastSum G qs) (sumOf (λ q. pixelsIn (G q)) qs) (sumOf cost qs)
 sum-bounded = bounds.sum-bounded
 
 -- ---- fractional shades

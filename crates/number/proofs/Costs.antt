@@ -27,7 +27,7 @@ module _ (w x : ℕ → ℕ) where
   upto-cauchy (suc n) = omega (arith, upto-cauchy n, ap (λ t. w n * t) (upto-cost n (x n)))
 
 -- a shade at z costs Q - 2zS + Wz²
-pub cost-law : (G : Group) (z : ℕ) → cost G z + 2 * (z * S G) ≡ Q G + W G * (z * z)
+cost-law : (G : Group) (z : ℕ) → cost G z + 2 * (z * S G) ≡ Q G + W G * (z * z)
 cost-law G z = upto-cost (G .w) (G .x) (G .n) z
 
 -- S² is at most WQ

@@ -10,7 +10,7 @@ use Rattle.number.specs.Count.{bit, howMany}
 use Rattle.number.proofs.Cases.{bool}
 
 -- one place more is counted where it passes the test
-pub howMany-more : (n : ℕ) (b : ℕ → Bool) → howMany (n + 1) b ≡ cond (b n) (howMany n b + 1) (howMany n b)
+howMany-more : (n : ℕ) (b : ℕ → Bool) → howMany (n + 1) b ≡ cond (b n) (howMany n b + 1) (howMany n b)
 unfolding howMany
 howMany-more n b = rw (add-one n)
 

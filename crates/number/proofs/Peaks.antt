@@ -65,7 +65,7 @@ peak-same zero f g e = refl
 peak-same (suc n) f g e = rw (e n (omega arith), peak-same n f g (λ i l. e i (omega arith)))
 
 -- what no value is above, the greatest is not above
-pub peak-at-most : (n a : ℕ) (f : ℕ → ℕ) → ((i : ℕ) → i < n → f i ≤ a) → peak n f ≤ a
+peak-at-most : (n a : ℕ) (f : ℕ → ℕ) → ((i : ℕ) → i < n → f i ≤ a) → peak n f ≤ a
 unfolding peak
 peak-at-most zero a f h = omega arith
 peak-at-most (suc n) a f h =

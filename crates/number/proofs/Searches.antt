@@ -26,12 +26,6 @@ module _ (better : ℕ → ℕ → Bool) where
   unfolding firstBest
   first-stays n f e = rw (add-one n, e)
 
-  -- one place more, whose value is better, is the first best
-  pub first-found : (n : ℕ) (f : ℕ → ℕ) → better (f n) (f (firstBest better n f)) ≡ true
-      → firstBest better (n + 1) f ≡ n
-  unfolding firstBest
-  first-found n f e = rw (add-one n, e)
-
   -- one place more, the count as the successor
   first-suc : (n : ℕ) (f : ℕ → ℕ)
       → firstBest better (suc n) f ≡ cond (better (f n) (f (firstBest better n f))) n (firstBest better n f)
@@ -70,7 +64,7 @@ module _ (better : ℕ → ℕ → Bool) where
 
 module _ {Beats : ℕ → ℕ → Type 0} {f : ℕ → ℕ} where
   -- one place q more is looked at, it is no better, and at a tie the best has the lower number: the best stays
-  pub best-stay : {S S′ : ℕ → Type 0} {m d : ℕ} (q : ℕ) → Best Beats S f m d → ((j : ℕ) → S j → S′ j)
+  best-stay : {S S′ : ℕ → Type 0} {m d : ℕ} (q : ℕ) → Best Beats S f m d → ((j : ℕ) → S j → S′ j)
       → ((j : ℕ) → S′ j → S j ⊎ (j ≡ q)) → ¬ Beats (f q) d → m ≤ q → Best Beats S′ f m d
   best-stay {m = m} q b more parts worse le =
       record {
@@ -99,26 +93,13 @@ not-itself o a w = o .one-way a a w w
 
 module _ {better : ℕ → ℕ → Bool} {Beats : ℕ → ℕ → Type 0} (o : Order better Beats) {f : ℕ → ℕ} where
   -- the only place looked at is the best
-  pub best-one : {S : ℕ → Type 0} (m : ℕ) → S m → ((j : ℕ) → S j → j ≡ m) → Best Beats S f m (f m)
+  best-one : {S : ℕ → Type 0} (m : ℕ) → S m → ((j : ℕ) → S j → j ≡ m) → Best Beats S f m (f m)
   best-one m h only =
       record {
         is = refl;
         member = h;
         unbettered = λ j s. rw (only j s) (not-itself o (f m));
         lower = λ j s l. absurd (omega (arith, only j s));
-      }
-
-  -- one place q more is looked at, it is no worse, and has a lower number: it is the best
-  pub best-lower : {S S′ : ℕ → Type 0} {m d : ℕ} (q : ℕ) → Best Beats S f m d → S′ q
-      → ((j : ℕ) → S′ j → S j ⊎ (j ≡ q)) → ¬ Beats d (f q) → q < m → Best Beats S′ f q (f q)
-  best-lower {d = d} q b h parts tie l =
-      record {
-        is = refl;
-        member = h;
-        unbettered = λ j s. ⊎-elim (λ i w. tie (o .past-left (f j) (f q) d w (b .unbettered j i)))
-            (λ e. rw e (not-itself o (f q))) (parts j s);
-        lower = λ j s k. ⊎-elim (λ i. o .past-left d (f j) (f q) (b .lower j i (omega arith)) tie)
-            (λ e. absurd (omega arith)) (parts j s);
       }
 
   -- places are taken in that are worse: the best stays
@@ -133,7 +114,7 @@ module _ {better : ℕ → ℕ → Bool} {Beats : ℕ → ℕ → Type 0} (o : O
       }
 
   -- one place q more is looked at, and it is better: it is the best
-  pub best-found : {S S′ : ℕ → Type 0} {m d : ℕ} (q : ℕ) → Best Beats S f m d → S′ q
+  best-found : {S S′ : ℕ → Type 0} {m d : ℕ} (q : ℕ) → Best Beats S f m d → S′ q
       → ((j : ℕ) → S′ j → S j ⊎ (j ≡ q)) → Beats (f q) d → Best Beats S′ f q (f q)
   best-found {d = d} q b h parts better-than =
       record {

@@ -24,7 +24,7 @@ unfolding howMany
 howMany-last n b = step (b n) (howMany n b)
 
 -- of no places none passes
-pub howMany-zero : (b : ℕ → Bool) → howMany 0 b ≡ 0
+howMany-zero : (b : ℕ → Bool) → howMany 0 b ≡ 0
 unfolding howMany
 howMany-zero b = refl
 

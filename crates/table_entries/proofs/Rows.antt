@@ -25,7 +25,7 @@ pub record Rows (low n : ℕ) (ks ws : List ℕ) : Type 0 where
   pub some : (i : ℕ) → i < n → 1 ≤ getD ws i 0
 
 -- the first place taken off
-pub rows-rest : (low n k w : ℕ) (ks ws : List ℕ) → Rows low (suc n) (k ∷ ks) (w ∷ ws) → Rows (k + 1) n ks ws
+rows-rest : (low n k w : ℕ) (ks ws : List ℕ) → Rows low (suc n) (k ∷ ks) (w ∷ ws) → Rows (k + 1) n ks ws
 rows-rest low n k w ks ws r = record {
   in-keys = le-of-suc-le-suc (r .in-keys);
   in-weights = le-of-suc-le-suc (r .in-weights);

@@ -44,7 +44,7 @@ cons-sound low e es s =
     simp (le-ltb (e .key) low (s .from), le-ltb mostKey (e .key) (s .upto), le-ltb (e .weight) 1 (s .some)) (s .rest)
 
 -- no key is below `low`
-pub sound-low : (low : ℕ) (es : List Entry) → sound low es ≡ true → (i : ℕ) → i < length es → low ≤ getD (keysOf es) i 0
+sound-low : (low : ℕ) (es : List Entry) → sound low es ≡ true → (i : ℕ) → i < length es → low ≤ getD (keysOf es) i 0
 sound-low low [] h i l = absurd (not-suc-le-zero l)
 sound-low low (e ∷ es) h zero l = sound-cons low e es h .from
 sound-low low (e ∷ es) h (suc i) l =

@@ -30,7 +30,7 @@ use Rattle.table_entries.proofs.Gives.{
 -- ---- the pixel that does not go in
 
 -- at a full pixel total none goes in
-pub stops-at-total : (room : ℕ) (es : List Entry) (k : ℕ) → mostPixels ≤ pixelsOf es → stops room es k ≡ true
+stops-at-total : (room : ℕ) (es : List Entry) (k : ℕ) → mostPixels ≤ pixelsOf es → stops room es k ≡ true
 stops-at-total room es k h = simp (le-leb mostPixels (pixelsOf es) h)
 
 module _ (room : ℕ) (es : List Entry) (k : ℕ) (s : sound 0 es ≡ true) where
@@ -46,7 +46,7 @@ module _ (room : ℕ) (es : List Entry) (k : ℕ) (s : sound 0 es ≡ true) wher
   ]
 
   -- where the table with the pixel is within both limits, it goes in
-  pub goes-in : length (put k es) ≤ room → pixelsOf (put k es) ≤ mostPixels → stops room es k ≡ false
+  goes-in : length (put k es) ≤ room → pixelsOf (put k es) ≤ mostPixels → stops room es k ≡ false
   goes-in a b =
       let u : leb mostPixels (pixelsOf es) ≡ false = lt-leb mostPixels (pixelsOf es) (omega (arith, give-pixels k 1 es))
       in
@@ -58,7 +58,7 @@ module _ (room : ℕ) (es : List Entry) (k : ℕ) (s : sound 0 es ≡ true) wher
       ]
 
   -- a pixel that goes in leaves the table within both limits
-  pub goes-in-fits : length es ≤ room → stops room es k ≡ false
+  goes-in-fits : length es ≤ room → stops room es k ≡ false
       → (length (put k es) ≤ room) × (pixelsOf (put k es) ≤ mostPixels)
   goes-in-fits a h = elim (bool (leb mostPixels (pixelsOf es))) [
     | inl u ↦ never (simp u at h)

@@ -1,5 +1,5 @@
--- When a run gives each refusal, and that a refused one writes nothing: each theorem in full, under a sentence that says
--- it. `runRows` are the tests of a run in their order; what each says stands in the Promises of the crate lloyd_tests.
+-- When a run gives each refusal, and that a refused one writes nothing: each theorem in full, under a sentence that
+-- says it. `runRows` are the tests of a run in their order; what each says stands in the Promises of lloyd_tests.
 use Prim.Native.Nat.{ℕ}
 use mathlib.Core.List.{List}
 use mathlib.Core.Logic.{_↔_}

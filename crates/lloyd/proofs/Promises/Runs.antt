@@ -170,7 +170,8 @@ module _ {rec : Record} {ks ws : List ℕ} {k limit : ℕ} {ms ts : List ℕ} {r
   -- Answered shades past the count are zeros.
   pub shades-past : (i : ℕ) → 3 * k ≤ i → getD (r .shades) i 0 ≡ 0
   shades-past i l =
-      made.shades-past (making h) i l ∙ begin-past (onMean (coloursOf (rec .used) ks ws)) (coloursOf (rec .used) ks ws) k ms i l
+      made.shades-past (making h) i l
+      ∙ begin-past (onMean (coloursOf (rec .used) ks ws)) (coloursOf (rec .used) ks ws) k ms i l
 
   -- Each used member is the number of a shade.
   pub member-below : (i : ℕ) → i < rec .used → getD members i 0 < k
@@ -179,7 +180,8 @@ module _ {rec : Record} {ks ws : List ℕ} {k limit : ℕ} {ms ts : List ℕ} {r
   -- Members past the used entries stay.
   pub members-kept : (i : ℕ) → rec .used ≤ i → getD members i 0 ≡ getD ms i 0
   members-kept i l =
-      made.members-kept (making h) i l ∙ begin-kept (onMean (coloursOf (rec .used) ks ws)) (coloursOf (rec .used) ks ws) k ms i l
+      made.members-kept (making h) i l
+      ∙ begin-kept (onMean (coloursOf (rec .used) ks ws)) (coloursOf (rec .used) ks ws) k ms i l
 
   -- Totals past the rounds made stay.
   pub totals-kept : (i : ℕ) → r .rounds ≤ i → getD totals i 0 ≡ getD ts i 0
