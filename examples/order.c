@@ -80,7 +80,7 @@ int main(int argc, char **argv)
     uint32_t *weights = room(entries * sizeof *weights);
     uint64_t record[2] = {0, 0};
     uint64_t taken[1];
-    check("the table", kf_add(record, keys, entries, weights, entries, raster, raster_length, taken));
+    check("the table", kf_add_strip(record, keys, entries, weights, entries, raster, raster_length, taken));
 
     /* the run, with the usual limit */
     uint32_t *members = room(entries * sizeof *members);

@@ -76,8 +76,8 @@ enum kf_refusal {
  * Refuses, in this order: KF_BAD_STRIP, KF_BAD_TABLE, KF_FULL.
  * KF_BAD_STRIP and KF_BAD_TABLE leave the record and the table as they came, and 0 in taken. KF_FULL leaves in taken the
  * pixels that went in, and record and table are those of exactly these pixels. */
-uint32_t kf_add(uint64_t record[2], uint32_t *keys, size_t keys_len, uint32_t *weights, size_t weights_len,
-                const uint8_t *strip, size_t strip_len, uint64_t taken[1]);
+uint32_t kf_add_strip(uint64_t record[2], uint32_t *keys, size_t keys_len, uint32_t *weights, size_t weights_len,
+                      const uint8_t *strip, size_t strip_len, uint64_t taken[1]);
 
 /* One round in which each colour looks at every shade: it joins the nearest, the lowest number at a tie; then each shade
  * moves to the rounded mean of its group, and a shade with no group stays.

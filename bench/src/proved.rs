@@ -53,7 +53,7 @@ pub fn add(table: &mut Table, strip: &[u8]) {
     let mut taken = [0u64; 1];
     // SAFETY: every pointer comes from a live slice of the length beside it, and none overlap.
     let refusal = unsafe {
-        raw::kf_add(
+        raw::kf_add_strip(
             &mut table.record,
             keys.as_mut_ptr(),
             keys.len(),
@@ -64,7 +64,7 @@ pub fn add(table: &mut Table, strip: &[u8]) {
             &mut taken,
         )
     };
-    accepted(refusal, "kf_add");
+    accepted(refusal, "kf_add_strip");
 }
 
 /// One round, shortened or plain: total, shades moved, distances.

@@ -33,14 +33,14 @@ fn kept(table: &Table, lent: (Guarded<u64>, Guarded<u32>, Guarded<u32>)) -> Resu
     lent.2.as_before(&table.weights)
 }
 
-/// `kf_add`.
+/// `kf_add_strip`.
 pub fn add(ask: &Add) -> Seen {
     let (mut record, mut keys, mut weights) = lent(&ask.table);
     let strip = Guarded::new("strip", &ask.strip, BYTE);
     let mut taken = answer::<1>("taken");
     // The pointers are those of live, apart buffers of the lengths told; so it is in every call below.
     let refusal = unsafe {
-        raw::kf_add(
+        raw::kf_add_strip(
             record.begin_mut().cast(),
             keys.begin_mut(),
             keys.len(),

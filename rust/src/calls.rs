@@ -35,7 +35,7 @@ pub(crate) fn add(record: &mut [u64; 2], keys: &mut [u32], weights: &mut [u32], 
     let mut taken = [0];
     // SAFETY: each pointer and length is that of a slice or array of this call, and all but the strip are exclusive.
     let number = unsafe {
-        raw::kf_add(
+        raw::kf_add_strip(
             record,
             keys.as_mut_ptr(),
             keys.len(),

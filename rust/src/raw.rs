@@ -5,7 +5,7 @@
 
 extern "C" {
     /// Adds a strip's pixels. `record` is used entries and pixels, as they are then; `taken` the pixels taken.
-    pub fn kf_add(
+    pub fn kf_add_strip(
         record: *mut [u64; 2],
         keys: *mut u32,
         keys_len: usize,

@@ -23,7 +23,7 @@ use Rattle.kohlenfloh.proofs.Refusing as refusing
 
 -- ---- each contract leaves one number, and one content of each slice and array
 
--- Of kf_add.
+-- Of kf_add_strip.
 pub add-only : (o : Outcome) {r r′ : ℕ} {rec rec′ ks ks′ ws ws′ t t′ : List ℕ}
     → AddCrosses o r rec ks ws t → AddCrosses o r′ rec′ ks′ ws′ t′
     → (r ≡ r′) × (rec ≡ rec′) × (ks ≡ ks′) × (ws ≡ ws′) × (t ≡ t′)

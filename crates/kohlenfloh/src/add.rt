@@ -20,7 +20,7 @@ pub fn record_in(rec: &[u64; 2]) -> Record
 // Refuses, in this order: 1 BAD STRIP, 2 BAD TABLE, 3 FULL. 1 and 2 leave everything as it came and
 // 0 taken; 3 leaves the record and the table of the pixels taken.
 #[no_mangle]
-pub extern "C" fn kf_add(
+pub extern "C" fn kf_add_strip(
     rec: &mut [u64; 2],
     keys: &mut [u32],
     weights: &mut [u32],

@@ -1,7 +1,7 @@
 // The boundary: what a C or Rust program links, as include/kohlenfloh.h declares it.
 //
 // Calls; none requires anything of its caller, and each answers 0 or the refusal's number
-//   kf_add           table::add_strip               add.rt       refuses 1, 2, 3
+//   kf_add_strip     table::add_strip               add.rt       refuses 1, 2, 3
 //   kf_plain_round   lloyd::plain_round             round.rt     refuses 2, 4, 8, 7
 //   kf_short_round   lloyd::short_round                          refuses 2, 4, 8, 7, 9
 //   kf_run           lloyd::run                                  refuses 2, 4, 5, 6, 7

@@ -1,7 +1,7 @@
 use borrow.Author.Needs.{needs}
 use Rattle.kohlenfloh.proofs.Arrays.{add-crosses}
-use Rattle.kohlenfloh.proofs.add.kf_add.Statement.{statement}
-use Rattle.kohlenfloh.proofs.add.kf_add.Tie as tie
+use Rattle.kohlenfloh.proofs.add.kf_add_strip.Statement.{statement}
+use Rattle.kohlenfloh.proofs.add.kf_add_strip.Tie as tie
 
 record-in-requires : tie.Need-record-in-requires
 record-in-requires c κs = search needs
@@ -23,7 +23,7 @@ returns c =
     let p = c .before .before .before .before .before .before .before in
     add-crosses (p .before .before .before .record-in .ensures) (p .add-strip .ensures)
 
-pub kf-add-spec : {M : Type 1} → statement M
-kf-add-spec =
+pub kf-add-strip-spec : {M : Type 1} → statement M
+kf-add-strip-spec =
     tie.close
     (tie.spec record-in-requires add-strip-requires cast-result same-length same-length-2 returns)
