@@ -92,7 +92,7 @@ int main(int argc, char **argv)
 
     /* the palette, and the index picture */
     uint8_t palette[KF_MOST_COORDINATES];
-    check("the palette", kf_palette(shades, 3 * count, palette, sizeof palette));
+    check("the palette", kf_palette_from_shades(shades, 3 * count, palette, sizeof palette));
     uint8_t *index = room(pixels);
     uint64_t error[5];
     double means[4];

@@ -109,7 +109,8 @@ uint32_t kf_run(const uint64_t record[2], const uint32_t *keys, size_t keys_len,
 /* The palette of some shades: three bytes each, in whole levels. The count is a third of coordinates_len; of a run's
  * shades lend the first 3 * count coordinates. Palette bytes past the last shade's stay.
  * Refuses, in this order: KF_BAD_COUNT, KF_BAD_CENTRE, KF_SHORT_ROOM. */
-uint32_t kf_palette(const uint32_t *coordinates, size_t coordinates_len, uint8_t *palette, size_t palette_len);
+uint32_t kf_palette_from_shades(const uint32_t *coordinates, size_t coordinates_len, uint8_t *palette,
+                                size_t palette_len);
 
 /* Maps a strip into its stretch of the index picture, which begins at place first and has a byte for each pixel: the
  * number of the nearest palette entry, the lowest at a tie. Every other index byte stays.

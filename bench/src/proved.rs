@@ -121,9 +121,10 @@ pub fn run(table: &Table, count: usize, run: &mut Run) {
 pub fn palette(coordinates: &[u32]) -> Vec<u8> {
     let mut palette = vec![0; coordinates.len()];
     // SAFETY: as in `add`.
-    let refusal =
-        unsafe { raw::kf_palette(coordinates.as_ptr(), coordinates.len(), palette.as_mut_ptr(), palette.len()) };
-    accepted(refusal, "kf_palette");
+    let refusal = unsafe {
+        raw::kf_palette_from_shades(coordinates.as_ptr(), coordinates.len(), palette.as_mut_ptr(), palette.len())
+    };
+    accepted(refusal, "kf_palette_from_shades");
     palette
 }
 

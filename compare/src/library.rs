@@ -128,12 +128,13 @@ pub fn run(ask: &Run) -> Seen {
     Ok(Outcome { refusal, fields })
 }
 
-/// `kf_palette`.
+/// `kf_palette_from_shades`.
 pub fn palette(ask: &Palette) -> Seen {
     let coordinates = Guarded::new("coordinates", &ask.coordinates, WORD);
     let mut palette = Guarded::new("palette", &ask.palette, BYTE);
-    let refusal =
-        unsafe { raw::kf_palette(coordinates.begin(), coordinates.len(), palette.begin_mut(), palette.len()) };
+    let refusal = unsafe {
+        raw::kf_palette_from_shades(coordinates.begin(), coordinates.len(), palette.begin_mut(), palette.len())
+    };
     coordinates.as_before(&ask.coordinates)?;
     Ok(Outcome { refusal, fields: vec![("palette", Values::Bytes(palette.taken_back()?))] })
 }

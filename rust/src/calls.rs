@@ -115,8 +115,9 @@ pub(crate) fn run(
 /// Makes the palette of some shades.
 pub(crate) fn palette(coordinates: &[u32], palette: &mut [u8]) -> Result<(), Refusal> {
     // SAFETY: each pointer and length is that of a slice of this call, and the palette is exclusive.
-    let number =
-        unsafe { raw::kf_palette(coordinates.as_ptr(), coordinates.len(), palette.as_mut_ptr(), palette.len()) };
+    let number = unsafe {
+        raw::kf_palette_from_shades(coordinates.as_ptr(), coordinates.len(), palette.as_mut_ptr(), palette.len())
+    };
     answer_to(number, 0, 0)
 }
 

@@ -62,7 +62,12 @@ extern "C" {
     ) -> u32;
 
     /// The palette of some shades, three bytes each.
-    pub fn kf_palette(coordinates: *const u32, coordinates_len: usize, palette: *mut u8, palette_len: usize) -> u32;
+    pub fn kf_palette_from_shades(
+        coordinates: *const u32,
+        coordinates_len: usize,
+        palette: *mut u8,
+        palette_len: usize,
+    ) -> u32;
 
     /// Maps a strip into its stretch of the index picture. `answer` is the error, that of R, of G, of B, and 1 where
     /// there is a mean; `means` is the mean and those of R, G and B.

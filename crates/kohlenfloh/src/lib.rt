@@ -1,13 +1,13 @@
 // The boundary: what a C or Rust program links, as include/kohlenfloh.h declares it.
 //
 // Calls; none requires anything of its caller, and each answers 0 or the refusal's number
-//   kf_add_strip     table::add_strip               add.rt       refuses 1, 2, 3
-//   kf_plain_round   lloyd::plain_round             round.rt     refuses 2, 4, 8, 7
-//   kf_short_round   lloyd::short_round                          refuses 2, 4, 8, 7, 9
-//   kf_run           lloyd::run                                  refuses 2, 4, 5, 6, 7
-//   kf_palette       palette::palette_from_shades   picture.rt   refuses 4, 8, 7
-//   kf_map           mapping::map_strip                          refuses 1, 10, 11, 7
-//   kf_picture       p6::read_picture                            refuses 12, 13, 14, 15
+//   kf_add_strip             table::add_strip               add.rt       refuses 1, 2, 3
+//   kf_plain_round           lloyd::plain_round             round.rt     refuses 2, 4, 8, 7
+//   kf_short_round           lloyd::short_round                          refuses 2, 4, 8, 7, 9
+//   kf_run                   lloyd::run                                  refuses 2, 4, 5, 6, 7
+//   kf_palette_from_shades   palette::palette_from_shades   picture.rt   refuses 4, 8, 7
+//   kf_map                   mapping::map_strip                          refuses 1, 10, 11, 7
+//   kf_picture               p6::read_picture                            refuses 12, 13, 14, 15
 // Only numbers, slices (a pointer and a length) and arrays of a fixed length (a pointer) cross. Each
 // call has the contract of the one beneath it, with the answer's fields laid into an array.
 //

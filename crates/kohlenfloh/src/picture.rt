@@ -11,7 +11,7 @@ use figures::Mean;
 // The palette of some shades: palette::palette_from_shades.
 // Refuses, in this order: 4 BAD COUNT, 8 BAD CENTRE, 7 SHORT ROOM, with the palette as it came.
 #[no_mangle]
-pub extern "C" fn kf_palette(coordinates: &[u32], palette: &mut [u8]) -> u32
+pub extern "C" fn kf_palette_from_shades(coordinates: &[u32], palette: &mut [u8]) -> u32
     ensures { λ r. ⌜ PaletteMeets
         (paletteFromShades (now (coordinates .entry)) (now (palette .entry)))
         r (now (palette .exit)) ⌝ }
