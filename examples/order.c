@@ -96,7 +96,7 @@ int main(int argc, char **argv)
     uint8_t *index = room(pixels);
     uint64_t error[5];
     double means[4];
-    check("the mapping", kf_map(raster, raster_length, palette, 3 * count, index, pixels, 0, error, means));
+    check("the mapping", kf_map_strip(raster, raster_length, palette, 3 * count, index, pixels, 0, error, means));
 
     /* the order: the pixels of each shade */
     uint64_t mapped[KF_MOST_SHADES] = {0};

@@ -118,8 +118,8 @@ uint32_t kf_palette_from_shades(const uint32_t *coordinates, size_t coordinates_
  * is a mean, which is wherever the strip has pixels; to means: the mean square error, and that of R, of G, of B, each
  * one division in binary64.
  * Refuses, in this order: KF_BAD_STRIP, KF_BAD_PALETTE, KF_MANY_PIXELS, KF_SHORT_ROOM. */
-uint32_t kf_map(const uint8_t *strip, size_t strip_len, const uint8_t *palette, size_t palette_len, uint8_t *index,
-                size_t index_len, size_t first, uint64_t answer[5], double means[4]);
+uint32_t kf_map_strip(const uint8_t *strip, size_t strip_len, const uint8_t *palette, size_t palette_len,
+                      uint8_t *index, size_t index_len, size_t first, uint64_t answer[5], double means[4]);
 
 /* Reads a P6 picture (Netpbm's, without comments, depth 255). Writes to answer: 0, width, height, and the place in input
  * at which the raster begins; the raster is the rest of the input.

@@ -133,7 +133,7 @@ pub fn map(strip: &[u8], palette: &[u8], index: &mut [u8]) -> [u64; 3] {
     let (mut answer, mut means) = ([0u64; 5], [0f64; 4]);
     // SAFETY: as in `add`.
     let refusal = unsafe {
-        raw::kf_map(
+        raw::kf_map_strip(
             strip.as_ptr(),
             strip.len(),
             palette.as_ptr(),
@@ -145,7 +145,7 @@ pub fn map(strip: &[u8], palette: &[u8], index: &mut [u8]) -> [u64; 3] {
             &mut means,
         )
     };
-    accepted(refusal, "kf_map");
+    accepted(refusal, "kf_map_strip");
     [answer[1], answer[2], answer[3]]
 }
 

@@ -139,7 +139,7 @@ pub fn palette(ask: &Palette) -> Seen {
     Ok(Outcome { refusal, fields: vec![("palette", Values::Bytes(palette.taken_back()?))] })
 }
 
-/// `kf_map`. The means are lent as longs, so that they are compared by their bits.
+/// `kf_map_strip`. The means are lent as longs, so that they are compared by their bits.
 pub fn map(ask: &Map) -> Seen {
     let strip = Guarded::new("strip", &ask.strip, BYTE);
     let palette = Guarded::new("palette", &ask.palette, BYTE);
@@ -147,7 +147,7 @@ pub fn map(ask: &Map) -> Seen {
     let mut errors = answer::<5>("answer");
     let mut means = answer::<4>("means");
     let refusal = unsafe {
-        raw::kf_map(
+        raw::kf_map_strip(
             strip.begin(),
             strip.len(),
             palette.begin(),

@@ -132,7 +132,7 @@ pub(crate) fn map(
     let mut means = [0.0; 4];
     // SAFETY: each pointer and length is that of a slice or array of this call; index, answer and means are exclusive.
     let number = unsafe {
-        raw::kf_map(
+        raw::kf_map_strip(
             strip.as_ptr(),
             strip.len(),
             palette.as_ptr(),

@@ -71,7 +71,7 @@ extern "C" {
 
     /// Maps a strip into its stretch of the index picture. `answer` is the error, that of R, of G, of B, and 1 where
     /// there is a mean; `means` is the mean and those of R, G and B.
-    pub fn kf_map(
+    pub fn kf_map_strip(
         strip: *const u8,
         strip_len: usize,
         palette: *const u8,

@@ -58,7 +58,7 @@ run-only o a b = (
   a .answer-is ∙ sym (b .answer-is),
 )
 
--- Of kf_map. That of kf_palette_from_shades is `palette-only` of palette: its contract is the one beneath.
+-- Of kf_map_strip. That of kf_palette_from_shades is `palette-only` of palette: its contract is the one beneath.
 pub map-only : (o : MapOutcome) {r r′ : ℕ} {x x′ s s′ : List ℕ} {m m′ : List Float}
     → MapCrosses o r x s m → MapCrosses o r′ x′ s′ m′ → (r ≡ r′) × (x ≡ x′) × (s ≡ s′) × (m ≡ m′)
 map-only o a b = (

@@ -45,7 +45,7 @@ fn figure_in(mean: Mean) -> f64
 // Refuses, in this order: 1 BAD STRIP, 10 BAD PALETTE, 11 MANY PIXELS, 7 SHORT ROOM, with zeros in
 // answer and means and the index picture as it came.
 #[no_mangle]
-pub extern "C" fn kf_map(
+pub extern "C" fn kf_map_strip(
     strip: &[u8],
     palette: &[u8],
     index: &mut [u8],

@@ -1,7 +1,7 @@
 use borrow.Author.Needs.{needs}
 use Rattle.kohlenfloh.proofs.Arrays.{map-crosses}
-use Rattle.kohlenfloh.proofs.picture.kf_map.Statement.{statement}
-use Rattle.kohlenfloh.proofs.picture.kf_map.Tie as tie
+use Rattle.kohlenfloh.proofs.picture.kf_map_strip.Statement.{statement}
+use Rattle.kohlenfloh.proofs.picture.kf_map_strip.Tie as tie
 
 map-strip-requires : tie.Need-map-strip-requires
 map-strip-requires c κs = search needs
@@ -23,8 +23,8 @@ returns c =
     let p = c .before .before .before .before .before .before .before .before .before in
     map-crosses (p .map-strip .ensures) (c .before .before .before .before .has-mean .ensures) (c .before .before .figure-in .ensures)
 
-pub kf-map-spec : {M : Type 1} → statement M
-kf-map-spec =
+pub kf-map-strip-spec : {M : Type 1} → statement M
+kf-map-strip-spec =
     tie.close
     (tie.spec
     map-strip-requires
