@@ -69,7 +69,7 @@ int main(int argc, char **argv)
     size_t length;
     uint8_t *input = all_input(&length);
     uint64_t picture[4];
-    check("the picture", kf_picture(input, length, picture));
+    check("the picture", kf_read_picture(input, length, picture));
     const uint8_t *raster = input + picture[3];
     size_t raster_length = length - (size_t)picture[3];
     size_t pixels = raster_length / 3;

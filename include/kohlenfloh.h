@@ -125,7 +125,7 @@ uint32_t kf_map_strip(const uint8_t *strip, size_t strip_len, const uint8_t *pal
  * at which the raster begins; the raster is the rest of the input.
  * Refuses, in this order: KF_BAD_HEADER, KF_BAD_SIZE, KF_BAD_DEPTH, KF_BAD_RASTER. After KF_BAD_HEADER answer[0] is the
  * offset of the first byte that cannot stand where it does, or input_len if the input ends early. */
-uint32_t kf_picture(const uint8_t *input, size_t input_len, uint64_t answer[4]);
+uint32_t kf_read_picture(const uint8_t *input, size_t input_len, uint64_t answer[4]);
 
 #ifdef __cplusplus
 }

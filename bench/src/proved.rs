@@ -153,7 +153,7 @@ pub fn map(strip: &[u8], palette: &[u8], index: &mut [u8]) -> [u64; 3] {
 pub fn picture(input: &[u8]) -> [u64; 3] {
     let mut answer = [0u64; 4];
     // SAFETY: as in `add`.
-    let refusal = unsafe { raw::kf_picture(input.as_ptr(), input.len(), &mut answer) };
-    accepted(refusal, "kf_picture");
+    let refusal = unsafe { raw::kf_read_picture(input.as_ptr(), input.len(), &mut answer) };
+    accepted(refusal, "kf_read_picture");
     [answer[1], answer[2], answer[3]]
 }

@@ -169,11 +169,11 @@ pub fn map(ask: &Map) -> Seen {
     Ok(Outcome { refusal, fields })
 }
 
-/// `kf_picture`.
+/// `kf_read_picture`.
 pub fn picture(ask: &Picture) -> Seen {
     let input = Guarded::new("input", &ask.input, BYTE);
     let mut answer = answer::<4>("answer");
-    let refusal = unsafe { raw::kf_picture(input.begin(), input.len(), answer.begin_mut().cast()) };
+    let refusal = unsafe { raw::kf_read_picture(input.begin(), input.len(), answer.begin_mut().cast()) };
     input.as_before(&ask.input)?;
     Ok(Outcome { refusal, fields: vec![("offset, width, height, raster", Values::Longs(answer.taken_back()?))] })
 }

@@ -151,7 +151,7 @@ pub(crate) fn map(
 pub(crate) fn picture(input: &[u8]) -> Result<[u64; 3], Refusal> {
     let mut answer = [0; 4];
     // SAFETY: the pointer and length are those of the input, and the answer is exclusive.
-    let number = unsafe { raw::kf_picture(input.as_ptr(), input.len(), &mut answer) };
+    let number = unsafe { raw::kf_read_picture(input.as_ptr(), input.len(), &mut answer) };
     let [offset, width, height, place] = answer;
     answer_to(number, 0, offset).map(|()| [width, height, place])
 }

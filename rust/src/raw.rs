@@ -84,5 +84,5 @@ extern "C" {
     ) -> u32;
 
     /// Reads a P6 picture. `answer` is the offset, width, height and the raster's first place.
-    pub fn kf_picture(input: *const u8, input_len: usize, answer: *mut [u64; 4]) -> u32;
+    pub fn kf_read_picture(input: *const u8, input_len: usize, answer: *mut [u64; 4]) -> u32;
 }

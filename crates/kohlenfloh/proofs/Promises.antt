@@ -68,7 +68,7 @@ map-only o a b = (
   a .means-are ∙ sym (b .means-are),
 )
 
--- Of kf_picture.
+-- Of kf_read_picture.
 pub picture-only : (p : Picture) {r r′ : ℕ} {s s′ : List ℕ}
     → PictureCrosses p r s → PictureCrosses p r′ s′ → (r ≡ r′) × (s ≡ s′)
 picture-only p a b = (a .number ∙ sym (b .number), a .answer-is ∙ sym (b .answer-is))

@@ -77,7 +77,7 @@ pub extern "C" fn kf_map_strip(
 // Refuses, in this order: 12 BAD HEADER, 13 BAD SIZE, 14 BAD DEPTH, 15 BAD RASTER, with zeros in
 // the answer, but for the offset of 12.
 #[no_mangle]
-pub extern "C" fn kf_picture(input: &[u8], answer: &mut [u64; 4]) -> u32
+pub extern "C" fn kf_read_picture(input: &[u8], answer: &mut [u64; 4]) -> u32
     ensures { λ r. ⌜ PictureCrosses (readPicture (now (input .entry))) r (now (answer .exit)) ⌝ }
 {
     let a = p6::read_picture(input);

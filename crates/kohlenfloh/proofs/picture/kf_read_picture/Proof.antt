@@ -1,7 +1,7 @@
 use borrow.Author.Needs.{needs}
 use Rattle.kohlenfloh.proofs.Arrays.{picture-crosses}
-use Rattle.kohlenfloh.proofs.picture.kf_picture.Statement.{statement}
-use Rattle.kohlenfloh.proofs.picture.kf_picture.Tie as tie
+use Rattle.kohlenfloh.proofs.picture.kf_read_picture.Statement.{statement}
+use Rattle.kohlenfloh.proofs.picture.kf_read_picture.Tie as tie
 
 read-picture-requires : tie.Need-read-picture-requires
 read-picture-requires c κs = search needs
@@ -18,5 +18,5 @@ cast-result c = search needs
 returns : tie.Need-returns
 returns c = picture-crosses (c .before .before .before .before .read-picture .ensures)
 
-pub kf-picture-spec : {M : Type 1} → statement M
-kf-picture-spec = tie.close (tie.spec read-picture-requires cast-t5 cast-t6 cast-result returns)
+pub kf-read-picture-spec : {M : Type 1} → statement M
+kf-read-picture-spec = tie.close (tie.spec read-picture-requires cast-t5 cast-t6 cast-result returns)
