@@ -46,7 +46,8 @@ add-refused s ks ws strip n back c =
     )
 
 -- a round whose outcome is that of a refusal
-round-refused : {o : RoundOutcome} (a : State) (n : ℕ) → o ≡ keptRound a n → {cs ms s : List ℕ} → RoundCrosses o n cs ms s
+round-refused : {o : RoundOutcome} (a : State) (n : ℕ) → o ≡ keptRound a n
+    → {cs ms s : List ℕ} → RoundCrosses o n cs ms s
     → (cs ≡ a .coordinates) × (ms ≡ a .members) × (s ≡ 0 ∷ 0 ∷ 0 ∷ [])
 round-refused a n e c = (
   c .coordinates-are ∙ ap (λ o. o .state .coordinates) e,

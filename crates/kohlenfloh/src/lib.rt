@@ -8,8 +8,9 @@
 //   kf_palette_from_shades   palette::palette_from_shades   picture.rt   refuses 4, 8, 7
 //   kf_map_strip             mapping::map_strip                          refuses 1, 10, 11, 7
 //   kf_read_picture          p6::read_picture                            refuses 12, 13, 14, 15
-// Only numbers, slices (a pointer and a length) and arrays of a fixed length (a pointer) cross. Each
-// call has the contract of the one beneath it, with the answer's fields laid into an array.
+// A call's name is kf_ and that of the call beneath it. Only numbers, slices (a pointer and a
+// length) and arrays of a fixed length (a pointer) cross. Each call has the contract of the one
+// beneath it, with the answer's fields laid into an array.
 //
 // Read next: specs/Lib.antt (what the words mean), proofs/Promises.antt (what is shown).
 

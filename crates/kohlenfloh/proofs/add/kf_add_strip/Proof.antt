@@ -1,3 +1,5 @@
+-- `kf_add_strip` meets its contract: what `add_strip` answers and leaves crosses, from the record that `record_in`
+-- read.
 use borrow.Author.Needs.{needs}
 use Rattle.kohlenfloh.proofs.Arrays.{add-crosses}
 use Rattle.kohlenfloh.proofs.add.kf_add_strip.Statement.{statement}

@@ -1,3 +1,4 @@
+-- `record_in` meets its contract: the two numbers of the array are the fields of the record.
 use mathlib.Core.Path.{refl}
 use borrow.Author.Needs.{needs}
 use Rattle.kohlenfloh.proofs.add.record_in.Statement.{statement}

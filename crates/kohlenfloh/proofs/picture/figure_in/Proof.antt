@@ -1,3 +1,4 @@
+-- `figure_in` meets its contract: zero for "no pixels", the value itself for a mean.
 use borrow.Author.Needs.{needs}
 use lib.Ieee.{ofBits}
 use Rattle.kohlenfloh.proofs.picture.figure_in.Statement.{statement}

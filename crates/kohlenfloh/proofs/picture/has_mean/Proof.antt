@@ -1,3 +1,4 @@
+-- `has_mean` meets its contract: 0 for "no pixels", 1 for a mean.
 use borrow.Author.Needs.{needs}
 use Rattle.kohlenfloh.proofs.picture.has_mean.Statement.{statement}
 use Rattle.kohlenfloh.proofs.picture.has_mean.Tie as tie

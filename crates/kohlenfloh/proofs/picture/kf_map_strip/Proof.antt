@@ -1,3 +1,4 @@
+-- `kf_map_strip` meets its contract: what `map_strip` answers and leaves crosses, its mean as a number and a figure.
 use borrow.Author.Needs.{needs}
 use Rattle.kohlenfloh.proofs.Arrays.{map-crosses}
 use Rattle.kohlenfloh.proofs.picture.kf_map_strip.Statement.{statement}
@@ -21,7 +22,10 @@ same-length c = search needs
 returns : tie.Need-returns
 returns c =
     let p = c .before .before .before .before .before .before .before .before .before in
-    map-crosses (p .map-strip .ensures) (c .before .before .before .before .has-mean .ensures) (c .before .before .figure-in .ensures)
+    map-crosses
+    (p .map-strip .ensures)
+    (c .before .before .before .before .has-mean .ensures)
+    (c .before .before .figure-in .ensures)
 
 pub kf-map-strip-spec : {M : Type 1} → statement M
 kf-map-strip-spec =

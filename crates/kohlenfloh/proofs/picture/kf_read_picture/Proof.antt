@@ -1,3 +1,4 @@
+-- `kf_read_picture` meets its contract: what `read_picture` answers crosses.
 use borrow.Author.Needs.{needs}
 use Rattle.kohlenfloh.proofs.Arrays.{picture-crosses}
 use Rattle.kohlenfloh.proofs.picture.kf_read_picture.Statement.{statement}

@@ -1,3 +1,5 @@
+-- `kf_run` meets its contract: what `run` answers and leaves crosses, from the record that `record_in` read, settled as
+-- the number that `flag_of` gave.
 use borrow.Author.Needs.{needs}
 use Rattle.kohlenfloh.proofs.Arrays.{run-crosses}
 use mathlib.Core.Path.{ap}

@@ -1,3 +1,5 @@
+-- `kf_short_round` meets its contract: what `short_round` answers and leaves crosses, from the record that `record_in`
+-- read.
 use borrow.Author.Needs.{needs}
 use Rattle.method.specs.{stateOf}
 use Rattle.kohlenfloh.proofs.Arrays.{round-crosses}
