@@ -68,25 +68,25 @@ int main(int argc, char **argv)
     /* the picture: its raster is that stretch of the input, uncopied */
     size_t length;
     uint8_t *input = all_input(&length);
-    uint64_t picture[4];
+    uint64_t picture[KF_READ_PICTURE_PLACES];
     check("the picture", kf_read_picture(input, length, picture));
-    const uint8_t *raster = input + picture[3];
-    size_t raster_length = length - (size_t)picture[3];
+    const uint8_t *raster = input + picture[KF_READ_PICTURE_RASTER];
+    size_t raster_length = length - (size_t)picture[KF_READ_PICTURE_RASTER];
     size_t pixels = raster_length / 3;
 
     /* the table: no more entries than pixels */
     size_t entries = pixels < KF_MOST_ENTRIES ? pixels : KF_MOST_ENTRIES;
     uint32_t *keys = room(entries * sizeof *keys);
     uint32_t *weights = room(entries * sizeof *weights);
-    uint64_t record[2] = {0, 0};
+    uint64_t record[KF_RECORD_PLACES] = {0};
     uint64_t taken[1];
     check("the table", kf_add_strip(record, keys, entries, weights, entries, raster, raster_length, taken));
 
     /* the run, with the usual limit */
     uint32_t *members = room(entries * sizeof *members);
     uint64_t totals[KF_USUAL_LIMIT];
-    uint32_t shades[192];
-    uint64_t run[4];
+    uint32_t shades[KF_MOST_COORDINATES];
+    uint64_t run[KF_RUN_PLACES];
     check("the run", kf_run(record, keys, entries, weights, entries, count, 0, members, entries, totals, KF_USUAL_LIMIT,
                             shades, run));
 
@@ -94,21 +94,22 @@ int main(int argc, char **argv)
     uint8_t palette[KF_MOST_COORDINATES];
     check("the palette", kf_palette_from_shades(shades, 3 * count, palette, sizeof palette));
     uint8_t *index = room(pixels);
-    uint64_t error[5];
-    double means[4];
-    check("the mapping", kf_map_strip(raster, raster_length, palette, 3 * count, index, pixels, 0, error, means));
+    uint64_t mapping[KF_MAP_STRIP_PLACES];
+    double means[KF_MAP_STRIP_MEAN_PLACES];
+    check("the mapping", kf_map_strip(raster, raster_length, palette, 3 * count, index, pixels, 0, mapping, means));
 
     /* the order: the pixels of each shade */
     uint64_t mapped[KF_MOST_SHADES] = {0};
     for (size_t i = 0; i < pixels; i++) {
         mapped[index[i]]++;
     }
-    printf("%" PRIu64 " %" PRIu64 " %" PRIu64 " %" PRIu64 " %" PRIu64 " %" PRIu64 "\n", record[0], record[1], run[0],
-           run[1], run[3], run[2]);
+    printf("%" PRIu64 " %" PRIu64 " %" PRIu64 " %" PRIu64 " %" PRIu64 " %" PRIu64 "\n", record[KF_RECORD_USED],
+           record[KF_RECORD_PIXELS], run[KF_RUN_ROUNDS], run[KF_RUN_SETTLED], run[KF_RUN_TOTAL],
+           run[KF_RUN_DISTANCES]);
     for (size_t q = 0; q < count; q++) {
         printf("%zu %d %d %d %" PRIu64 "\n", q, palette[3 * q], palette[3 * q + 1], palette[3 * q + 2], mapped[q]);
     }
-    printf("%" PRIu64 "\n", error[0]);
+    printf("%" PRIu64 "\n", mapping[KF_MAP_STRIP_ERROR]);
 
     free(input);
     free(keys);

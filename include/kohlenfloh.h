@@ -1,7 +1,7 @@
 /* Kohlenfloh: the shades of a drawing, certain.
  *
- * The seven calls of the proved library libkohlenfloh.a. Every function behind them is proved against a definition: on
- * every input, refused ones too, the returned number and all that a call writes are determined.
+ * The calls of the proved library libkohlenfloh.a. Every function behind them is proved against a definition: on every
+ * input, refused ones too, the returned number and all that a call writes are determined.
  *
  * Every call
  *   - returns KF_DONE (0) or the number of one refusal, the first of its list whose condition holds;
@@ -13,14 +13,15 @@
  *     their own.
  *
  * Memory. A slice is a pointer and the number of its elements; the pointer of an empty slice is not read and not
- * written, but must not be NULL. A fixed array is one pointer to as many elements as its type says. What a call may
- * write must not overlap anything else it is handed. Elements are aligned as their type wants.
+ * written, but must not be NULL. A fixed array is one pointer to as many elements as its type says; its places have
+ * names, KF_, what it belongs to, and what stands there. What a call may write must not overlap anything else it is
+ * handed. Elements are aligned as their type wants.
  *
  * Words
  *   colour     three bytes R, G, B; its key is 65536 R + 256 G + B
  *   table      keys, strictly rising, and beside them weights, the pixels of each colour; at most 1,048,576 entries and
  *              16,777,216 pixels
- *   record     record[0] used entries of the table, record[1] its pixels; { 0, 0 } for an empty table
+ *   record     how much of a table is used, an array of KF_RECORD_PLACES numbers; all zeros for an empty table
  *   strip      pixels from first to last, three bytes each
  *   shade      three coordinates in sixteenths of a level, 0 to 4080; colour (r, g, b) stands at (16 r, 16 g, 16 b)
  *   distance   the sum of three squared differences
@@ -44,7 +45,8 @@ enum kf_refusal {
     KF_DONE = 0,         /* nothing is refused */
     KF_BAD_STRIP = 1,    /* pixel bytes not a multiple of 3 */
     KF_BAD_TABLE = 2,    /* used entries above the room, a used key above 16,777,215 or not above the one before, a used
-                            weight of 0, or a pixel total that is not the sum of the used weights or is above 16,777,216 */
+                            weight of 0, or a pixel total that is not the sum of the used weights or is above
+                            16,777,216 */
     KF_FULL = 3,         /* the next pixel meets a total of 16,777,216, or is a new colour with no room */
     KF_BAD_COUNT = 4,    /* shades not 1 to 64; lent coordinates not 3 to 192 or not a multiple of 3 */
     KF_FEW_COLOURS = 5,  /* a run wants more shades than used entries */
@@ -61,50 +63,72 @@ enum kf_refusal {
     KF_BAD_RASTER = 15   /* raster shorter or longer than 3 bytes for each pixel */
 };
 
-/* The most entries of a table, shades of a run, rounds of a run, pixels of a table or a mapping, coordinates lent. */
-#define KF_MOST_ENTRIES 1048576u
-#define KF_MOST_SHADES 64u
-#define KF_MOST_ROUNDS 200u
-#define KF_USUAL_LIMIT 20u
-#define KF_MOST_PIXELS 16777216u
-#define KF_MOST_COORDINATES 192u
+/* Bounds. */
+#define KF_MOST_ENTRIES 1048576u /* entries of a table */
+#define KF_MOST_SHADES 64u       /* shades of a round or a run */
+#define KF_MOST_ROUNDS 200u      /* rounds of a run */
+#define KF_USUAL_LIMIT 20u       /* the round limit that 0 means */
+#define KF_MOST_PIXELS 16777216u /* pixels of a table, a mapping or a picture */
+#define KF_MOST_COORDINATES 192u /* coordinates of the most shades, and bytes of their palette */
+
+/* The places of a record. */
+enum kf_record_place {
+    KF_RECORD_USED = 0,   /* used entries of the table */
+    KF_RECORD_PIXELS = 1, /* its pixels, the sum of the used weights */
+    KF_RECORD_PLACES = 2  /* how many places there are */
+};
 
 /* Adds a strip's pixels to the table, from first to last.
- * Reads record, keys, weights, strip. Writes record, taken, and the table: a colour's weight is raised, or the colour
- * enters at its sorted place. The room is the shorter of keys and weights, at most KF_MOST_ENTRIES; places past the used
- * entries keep their values.
+ * Reads record, keys, weights, strip. Writes record, the pixels taken to taken[0], and the table: a colour's weight is
+ * raised, or the colour enters at its sorted place. The room is the shorter of keys and weights, at most
+ * KF_MOST_ENTRIES; places past the used entries keep their values.
  * Refuses, in this order: KF_BAD_STRIP, KF_BAD_TABLE, KF_FULL.
- * KF_BAD_STRIP and KF_BAD_TABLE leave the record and the table as they came, and 0 in taken. KF_FULL leaves in taken the
- * pixels that went in, and record and table are those of exactly these pixels. */
-uint32_t kf_add_strip(uint64_t record[2], uint32_t *keys, size_t keys_len, uint32_t *weights, size_t weights_len,
-                      const uint8_t *strip, size_t strip_len, uint64_t taken[1]);
+ * KF_BAD_STRIP and KF_BAD_TABLE leave the record and the table as they came, and 0 in taken. KF_FULL leaves in taken
+ * the pixels that went in, and record and table are those of exactly these pixels. */
+uint32_t kf_add_strip(uint64_t record[KF_RECORD_PLACES], uint32_t *keys, size_t keys_len, uint32_t *weights,
+                      size_t weights_len, const uint8_t *strip, size_t strip_len, uint64_t taken[1]);
 
-/* One round in which each colour looks at every shade: it joins the nearest, the lowest number at a tie; then each shade
- * moves to the rounded mean of its group, and a shade with no group stays.
+/* The places of the answer of kf_plain_round and kf_short_round. */
+enum kf_round_place {
+    KF_ROUND_TOTAL = 0,     /* the round's total, against the shades before the move */
+    KF_ROUND_MOVED = 1,     /* how many shades moved */
+    KF_ROUND_DISTANCES = 2, /* how many distances were worked out */
+    KF_ROUND_PLACES = 3     /* how many places there are */
+};
+
+/* One round in which each colour looks at every shade: it joins the nearest, the lowest number at a tie; then each
+ * shade moves to the rounded mean of its group, and a shade with no group stays.
  * The count of shades is a third of coordinates_len. Writes the moved shades to coordinates, each used entry's shade to
- * members (those past the used entries stay), and to answer: the round's total against the shades before the move, how
- * many shades moved, how many distances were worked out.
+ * members (those past the used entries stay), and the answer.
  * Refuses, in this order: KF_BAD_TABLE, KF_BAD_COUNT, KF_BAD_CENTRE, KF_SHORT_ROOM. */
-uint32_t kf_plain_round(const uint64_t record[2], const uint32_t *keys, size_t keys_len, const uint32_t *weights,
-                        size_t weights_len, uint32_t *coordinates, size_t coordinates_len, uint32_t *members,
-                        size_t members_len, uint64_t answer[3]);
+uint32_t kf_plain_round(const uint64_t record[KF_RECORD_PLACES], const uint32_t *keys, size_t keys_len,
+                        const uint32_t *weights, size_t weights_len, uint32_t *coordinates, size_t coordinates_len,
+                        uint32_t *members, size_t members_len, uint64_t answer[KF_ROUND_PLACES]);
 
 /* The same round by the shortened search, from the former shades in members: it leaves what kf_plain_round leaves, and
  * counts the distances it worked out.
  * Refuses, in this order: KF_BAD_TABLE, KF_BAD_COUNT, KF_BAD_CENTRE, KF_SHORT_ROOM, KF_BAD_MEMBER. */
-uint32_t kf_short_round(const uint64_t record[2], const uint32_t *keys, size_t keys_len, const uint32_t *weights,
-                        size_t weights_len, uint32_t *coordinates, size_t coordinates_len, uint32_t *members,
-                        size_t members_len, uint64_t answer[3]);
+uint32_t kf_short_round(const uint64_t record[KF_RECORD_PLACES], const uint32_t *keys, size_t keys_len,
+                        const uint32_t *weights, size_t weights_len, uint32_t *coordinates, size_t coordinates_len,
+                        uint32_t *members, size_t members_len, uint64_t answer[KF_ROUND_PLACES]);
+
+/* The places of the answer of kf_run. */
+enum kf_run_place {
+    KF_RUN_ROUNDS = 0,    /* rounds made */
+    KF_RUN_SETTLED = 1,   /* 1 if the last round moved no shade, 0 if it moved one */
+    KF_RUN_DISTANCES = 2, /* the distances worked out in all rounds */
+    KF_RUN_TOTAL = 3,     /* the final total: the last grouping against the final shades */
+    KF_RUN_PLACES = 4     /* how many places there are */
+};
 
 /* A run: count starting shades, every colour in shade 0, then shortened rounds to the first that moves no shade
  * ("settled") or to the limit. A limit of 0 means KF_USUAL_LIMIT.
  * Writes the last round's grouping to members, each round's total to totals (places past those filled stay), to shades
- * three coordinates a shade and zeros past the count, and to answer: rounds made, 1 if settled, distances of all rounds,
- * and the final total: the last grouping against the final shades.
+ * three coordinates a shade and zeros past the count, and the answer.
  * Refuses, in this order: KF_BAD_TABLE, KF_BAD_COUNT, KF_FEW_COLOURS, KF_BAD_LIMIT, KF_SHORT_ROOM. */
-uint32_t kf_run(const uint64_t record[2], const uint32_t *keys, size_t keys_len, const uint32_t *weights,
+uint32_t kf_run(const uint64_t record[KF_RECORD_PLACES], const uint32_t *keys, size_t keys_len, const uint32_t *weights,
                 size_t weights_len, size_t count, size_t limit, uint32_t *members, size_t members_len, uint64_t *totals,
-                size_t totals_len, uint32_t shades[192], uint64_t answer[4]);
+                size_t totals_len, uint32_t shades[KF_MOST_COORDINATES], uint64_t answer[KF_RUN_PLACES]);
 
 /* The palette of some shades: three bytes each, in whole levels. The count is a third of coordinates_len; of a run's
  * shades lend the first 3 * count coordinates. Palette bytes past the last shade's stay.
@@ -112,20 +136,46 @@ uint32_t kf_run(const uint64_t record[2], const uint32_t *keys, size_t keys_len,
 uint32_t kf_palette_from_shades(const uint32_t *coordinates, size_t coordinates_len, uint8_t *palette,
                                 size_t palette_len);
 
+/* The places of the answer of kf_map_strip. */
+enum kf_map_strip_place {
+    KF_MAP_STRIP_ERROR = 0,       /* the strip's error: the sum of squared level differences */
+    KF_MAP_STRIP_RED_ERROR = 1,   /* that of R */
+    KF_MAP_STRIP_GREEN_ERROR = 2, /* that of G */
+    KF_MAP_STRIP_BLUE_ERROR = 3,  /* that of B */
+    KF_MAP_STRIP_HAS_MEAN = 4,    /* 1 where there is a mean, which is wherever the strip has pixels; 0 elsewhere */
+    KF_MAP_STRIP_PLACES = 5       /* how many places there are */
+};
+
+/* The places of the means of kf_map_strip, each one division in binary64; zeros where there is no mean. */
+enum kf_map_strip_mean_place {
+    KF_MAP_STRIP_MEAN = 0,       /* the mean square error */
+    KF_MAP_STRIP_RED_MEAN = 1,   /* that of R */
+    KF_MAP_STRIP_GREEN_MEAN = 2, /* that of G */
+    KF_MAP_STRIP_BLUE_MEAN = 3,  /* that of B */
+    KF_MAP_STRIP_MEAN_PLACES = 4 /* how many places there are */
+};
+
 /* Maps a strip into its stretch of the index picture, which begins at place first and has a byte for each pixel: the
- * number of the nearest palette entry, the lowest at a tie. Every other index byte stays.
- * Writes to answer: the strip's error (the sum of squared level differences), that of R, of G, of B, and 1 where there
- * is a mean, which is wherever the strip has pixels; to means: the mean square error, and that of R, of G, of B, each
- * one division in binary64.
+ * number of the nearest palette entry, the lowest at a tie. Every other index byte stays. Writes the answer and the
+ * means.
  * Refuses, in this order: KF_BAD_STRIP, KF_BAD_PALETTE, KF_MANY_PIXELS, KF_SHORT_ROOM. */
 uint32_t kf_map_strip(const uint8_t *strip, size_t strip_len, const uint8_t *palette, size_t palette_len,
-                      uint8_t *index, size_t index_len, size_t first, uint64_t answer[5], double means[4]);
+                      uint8_t *index, size_t index_len, size_t first, uint64_t answer[KF_MAP_STRIP_PLACES],
+                      double means[KF_MAP_STRIP_MEAN_PLACES]);
 
-/* Reads a P6 picture (Netpbm's, without comments, depth 255). Writes to answer: 0, width, height, and the place in input
- * at which the raster begins; the raster is the rest of the input.
- * Refuses, in this order: KF_BAD_HEADER, KF_BAD_SIZE, KF_BAD_DEPTH, KF_BAD_RASTER. After KF_BAD_HEADER answer[0] is the
- * offset of the first byte that cannot stand where it does, or input_len if the input ends early. */
-uint32_t kf_read_picture(const uint8_t *input, size_t input_len, uint64_t answer[4]);
+/* The places of the answer of kf_read_picture. */
+enum kf_read_picture_place {
+    KF_READ_PICTURE_OFFSET = 0, /* after KF_BAD_HEADER the offset of the first byte that cannot stand where it does, or
+                                   input_len if the input ends early; 0 elsewhere */
+    KF_READ_PICTURE_WIDTH = 1,  /* pixels in a row */
+    KF_READ_PICTURE_HEIGHT = 2, /* rows */
+    KF_READ_PICTURE_RASTER = 3, /* the place in input at which the raster begins; the raster is the rest of the input */
+    KF_READ_PICTURE_PLACES = 4  /* how many places there are */
+};
+
+/* Reads a P6 picture (Netpbm's, without comments, depth 255). Writes the answer.
+ * Refuses, in this order: KF_BAD_HEADER, KF_BAD_SIZE, KF_BAD_DEPTH, KF_BAD_RASTER. */
+uint32_t kf_read_picture(const uint8_t *input, size_t input_len, uint64_t answer[KF_READ_PICTURE_PLACES]);
 
 #ifdef __cplusplus
 }
