@@ -1,12 +1,78 @@
-//! The seven functions as they cross the boundary, as `include/kohlenfloh.h` declares them.
+//! The functions as they cross the boundary, and the places of their arrays, as `include/kohlenfloh.h` declares them.
 //!
-//! Each answers 0 or the refusal's number. A slice is a pointer and its length; a fixed array is one pointer. What a
-//! call may write must not overlap anything else it is handed. The rest of this crate is a safe face over these.
+//! Each function answers 0 or the refusal's number. A slice is a pointer and its length; a fixed array is one pointer,
+//! and its places have the names below. What a call may write must not overlap anything else it is handed. The rest of
+//! this crate is a safe face over these.
+
+/// The most coordinates that can be lent, and so the length of a run's shades.
+pub const KF_MOST_COORDINATES: usize = 192;
+
+/// In a record: used entries of the table.
+pub const KF_RECORD_USED: usize = 0;
+/// In a record: its pixels, the sum of the used weights.
+pub const KF_RECORD_PIXELS: usize = 1;
+/// The places of a record.
+pub const KF_RECORD_PLACES: usize = 2;
+
+/// In the answer of a round: its total, against the shades before the move.
+pub const KF_ROUND_TOTAL: usize = 0;
+/// In the answer of a round: how many shades moved.
+pub const KF_ROUND_MOVED: usize = 1;
+/// In the answer of a round: how many distances were worked out.
+pub const KF_ROUND_DISTANCES: usize = 2;
+/// The places of the answer of a round.
+pub const KF_ROUND_PLACES: usize = 3;
+
+/// In the answer of a run: rounds made.
+pub const KF_RUN_ROUNDS: usize = 0;
+/// In the answer of a run: 1 if the last round moved no shade, 0 if it moved one.
+pub const KF_RUN_SETTLED: usize = 1;
+/// In the answer of a run: the distances worked out in all rounds.
+pub const KF_RUN_DISTANCES: usize = 2;
+/// In the answer of a run: the final total.
+pub const KF_RUN_TOTAL: usize = 3;
+/// The places of the answer of a run.
+pub const KF_RUN_PLACES: usize = 4;
+
+/// In the answer of a mapping: the error.
+pub const KF_MAP_STRIP_ERROR: usize = 0;
+/// In the answer of a mapping: the error of R.
+pub const KF_MAP_STRIP_RED_ERROR: usize = 1;
+/// In the answer of a mapping: the error of G.
+pub const KF_MAP_STRIP_GREEN_ERROR: usize = 2;
+/// In the answer of a mapping: the error of B.
+pub const KF_MAP_STRIP_BLUE_ERROR: usize = 3;
+/// In the answer of a mapping: 1 where there is a mean, 0 for no pixels.
+pub const KF_MAP_STRIP_HAS_MEAN: usize = 4;
+/// The places of the answer of a mapping.
+pub const KF_MAP_STRIP_PLACES: usize = 5;
+
+/// In the means of a mapping: the mean square error.
+pub const KF_MAP_STRIP_MEAN: usize = 0;
+/// In the means of a mapping: that of R.
+pub const KF_MAP_STRIP_RED_MEAN: usize = 1;
+/// In the means of a mapping: that of G.
+pub const KF_MAP_STRIP_GREEN_MEAN: usize = 2;
+/// In the means of a mapping: that of B.
+pub const KF_MAP_STRIP_BLUE_MEAN: usize = 3;
+/// The places of the means of a mapping.
+pub const KF_MAP_STRIP_MEAN_PLACES: usize = 4;
+
+/// In the answer of a reading: after BAD HEADER the offset of the byte at fault, 0 elsewhere.
+pub const KF_READ_PICTURE_OFFSET: usize = 0;
+/// In the answer of a reading: pixels in a row.
+pub const KF_READ_PICTURE_WIDTH: usize = 1;
+/// In the answer of a reading: rows.
+pub const KF_READ_PICTURE_HEIGHT: usize = 2;
+/// In the answer of a reading: the place at which the raster begins.
+pub const KF_READ_PICTURE_RASTER: usize = 3;
+/// The places of the answer of a reading.
+pub const KF_READ_PICTURE_PLACES: usize = 4;
 
 extern "C" {
-    /// Adds a strip's pixels. `record` is used entries and pixels, as they are then; `taken` the pixels taken.
+    /// Adds a strip's pixels. The record is as it is then; `taken` is the pixels taken.
     pub fn kf_add_strip(
-        record: *mut [u64; 2],
+        record: *mut [u64; KF_RECORD_PLACES],
         keys: *mut u32,
         keys_len: usize,
         weights: *mut u32,
@@ -16,9 +82,9 @@ extern "C" {
         taken: *mut [u64; 1],
     ) -> u32;
 
-    /// One round in which each colour looks at every shade. `answer` is total, shades moved, distances.
+    /// One round in which each colour looks at every shade.
     pub fn kf_plain_round(
-        record: *const [u64; 2],
+        record: *const [u64; KF_RECORD_PLACES],
         keys: *const u32,
         keys_len: usize,
         weights: *const u32,
@@ -27,12 +93,12 @@ extern "C" {
         coordinates_len: usize,
         members: *mut u32,
         members_len: usize,
-        answer: *mut [u64; 3],
+        answer: *mut [u64; KF_ROUND_PLACES],
     ) -> u32;
 
-    /// The same round by the shortened search. `answer` is total, shades moved, distances.
+    /// The same round by the shortened search.
     pub fn kf_short_round(
-        record: *const [u64; 2],
+        record: *const [u64; KF_RECORD_PLACES],
         keys: *const u32,
         keys_len: usize,
         weights: *const u32,
@@ -41,12 +107,12 @@ extern "C" {
         coordinates_len: usize,
         members: *mut u32,
         members_len: usize,
-        answer: *mut [u64; 3],
+        answer: *mut [u64; KF_ROUND_PLACES],
     ) -> u32;
 
-    /// The run. `answer` is rounds made, settled as 1 or 0, distances, final total.
+    /// The run. `shades` receives three coordinates a shade, zeros past the count.
     pub fn kf_run(
-        record: *const [u64; 2],
+        record: *const [u64; KF_RECORD_PLACES],
         keys: *const u32,
         keys_len: usize,
         weights: *const u32,
@@ -57,8 +123,8 @@ extern "C" {
         members_len: usize,
         totals: *mut u64,
         totals_len: usize,
-        shades: *mut [u32; 192],
-        answer: *mut [u64; 4],
+        shades: *mut [u32; KF_MOST_COORDINATES],
+        answer: *mut [u64; KF_RUN_PLACES],
     ) -> u32;
 
     /// The palette of some shades, three bytes each.
@@ -69,8 +135,7 @@ extern "C" {
         palette_len: usize,
     ) -> u32;
 
-    /// Maps a strip into its stretch of the index picture. `answer` is the error, that of R, of G, of B, and 1 where
-    /// there is a mean; `means` is the mean and those of R, G and B.
+    /// Maps a strip into its stretch of the index picture.
     pub fn kf_map_strip(
         strip: *const u8,
         strip_len: usize,
@@ -79,10 +144,10 @@ extern "C" {
         index: *mut u8,
         index_len: usize,
         first: usize,
-        answer: *mut [u64; 5],
-        means: *mut [f64; 4],
+        answer: *mut [u64; KF_MAP_STRIP_PLACES],
+        means: *mut [f64; KF_MAP_STRIP_MEAN_PLACES],
     ) -> u32;
 
-    /// Reads a P6 picture. `answer` is the offset, width, height and the raster's first place.
-    pub fn kf_read_picture(input: *const u8, input_len: usize, answer: *mut [u64; 4]) -> u32;
+    /// Reads a P6 picture.
+    pub fn kf_read_picture(input: *const u8, input_len: usize, answer: *mut [u64; KF_READ_PICTURE_PLACES]) -> u32;
 }

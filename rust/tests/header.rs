@@ -1,0 +1,78 @@
+//! The header and this crate: a name that both have stands for the same number.
+use std::collections::BTreeMap;
+
+use kohlenfloh::{raw, Shades, Table};
+
+/// The header.
+const HEADER: &str = include_str!("../../include/kohlenfloh.h");
+
+/// The numbers of names.
+type Numbers = BTreeMap<&'static str, u64>;
+
+/// The names of `raw` with their numbers.
+macro_rules! numbers {
+    ($($name:ident)*) => {
+        Numbers::from([$((stringify!($name), raw::$name as u64)),*])
+    };
+}
+
+/// The name and the number of a line `NAME = NUMBER` or `#define NAME NUMBER`.
+fn named(line: &'static str) -> Option<(&'static str, u64)> {
+    let words: Vec<&str> = line.split_whitespace().collect();
+    let (name, number) = match words[..] {
+        ["#define", name, number, ..] | [name, "=", number, ..] => (name, number),
+        _ => return None,
+    };
+    Some((name, number.trim_end_matches([',', 'u']).parse().ok()?))
+}
+
+/// The names of the header's enums whose tag ends so.
+fn names_of_enums(end: &str) -> Numbers {
+    let enums = HEADER.split("\nenum ").skip(1).map(|from| from.split_once(" {").unwrap());
+    let wanted = enums.filter(|(tag, _)| tag.ends_with(end));
+    wanted.flat_map(|(_, from)| from.split_once("};").unwrap().0.lines().filter_map(named)).collect()
+}
+
+#[test]
+fn places_are_those_of_the_header() {
+    let places = numbers![
+        KF_RECORD_USED
+        KF_RECORD_PIXELS
+        KF_RECORD_PLACES
+        KF_ROUND_TOTAL
+        KF_ROUND_MOVED
+        KF_ROUND_DISTANCES
+        KF_ROUND_PLACES
+        KF_RUN_ROUNDS
+        KF_RUN_SETTLED
+        KF_RUN_DISTANCES
+        KF_RUN_TOTAL
+        KF_RUN_PLACES
+        KF_MAP_STRIP_ERROR
+        KF_MAP_STRIP_RED_ERROR
+        KF_MAP_STRIP_GREEN_ERROR
+        KF_MAP_STRIP_BLUE_ERROR
+        KF_MAP_STRIP_HAS_MEAN
+        KF_MAP_STRIP_PLACES
+        KF_MAP_STRIP_MEAN
+        KF_MAP_STRIP_RED_MEAN
+        KF_MAP_STRIP_GREEN_MEAN
+        KF_MAP_STRIP_BLUE_MEAN
+        KF_MAP_STRIP_MEAN_PLACES
+        KF_READ_PICTURE_OFFSET
+        KF_READ_PICTURE_WIDTH
+        KF_READ_PICTURE_HEIGHT
+        KF_READ_PICTURE_RASTER
+        KF_READ_PICTURE_PLACES
+    ];
+    assert_eq!(names_of_enums("_place"), places);
+}
+
+#[test]
+fn bounds_are_those_of_the_header() {
+    let bounds: Numbers = HEADER.lines().filter(|line| line.starts_with("#define")).filter_map(named).collect();
+    assert_eq!(bounds["KF_MOST_ENTRIES"], Table::MOST_ENTRIES as u64);
+    assert_eq!(bounds["KF_MOST_PIXELS"], Table::MOST_PIXELS);
+    assert_eq!(bounds["KF_MOST_SHADES"], Shades::MOST as u64);
+    assert_eq!(bounds["KF_MOST_COORDINATES"], raw::KF_MOST_COORDINATES as u64);
+}
