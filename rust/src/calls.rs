@@ -20,14 +20,9 @@ pub(crate) enum Search {
     Short,
 }
 
-/// The answer to a number: 0 is done, every other one its refusal, with the values that FULL and BAD HEADER carry.
-fn answer_to(number: u32, taken: u64, offset: u64) -> Result<(), Refusal> {
-    match number {
-        0 => Ok(()),
-        3 => Err(Refusal::Full { taken }),
-        12 => Err(Refusal::BadHeader { offset: offset as usize }),
-        _ => Err(Refusal::from_number(number).expect("the library answers 0 to 15")),
-    }
+/// The answer to a number: 0 is done, every other one its refusal, with the value that it carries if it carries one.
+fn answer_to(number: u32, value: u64) -> Result<(), Refusal> {
+    Refusal::carrying(number, value).map_or(Ok(()), Err)
 }
 
 /// Adds a strip's pixels to a table and answers how many were taken.
@@ -46,7 +41,7 @@ pub(crate) fn add(record: &mut [u64; 2], keys: &mut [u32], weights: &mut [u32], 
             &mut taken,
         )
     };
-    answer_to(number, taken[0], 0).map(|()| taken[0])
+    answer_to(number, taken[0]).map(|()| taken[0])
 }
 
 /// Makes one round and answers total, shades moved and distances.
@@ -77,7 +72,7 @@ pub(crate) fn round(
             &mut answer,
         )
     };
-    answer_to(number, 0, 0).map(|()| answer)
+    answer_to(number, 0).map(|()| answer)
 }
 
 /// Makes a run and answers all 192 coordinates, and rounds, settled as 1 or 0, distances and final total.
@@ -109,7 +104,7 @@ pub(crate) fn run(
             &mut answer,
         )
     };
-    answer_to(number, 0, 0).map(|()| (shades, answer))
+    answer_to(number, 0).map(|()| (shades, answer))
 }
 
 /// Makes the palette of some shades.
@@ -118,7 +113,7 @@ pub(crate) fn palette(coordinates: &[u32], palette: &mut [u8]) -> Result<(), Ref
     let number = unsafe {
         raw::kf_palette_from_shades(coordinates.as_ptr(), coordinates.len(), palette.as_mut_ptr(), palette.len())
     };
-    answer_to(number, 0, 0)
+    answer_to(number, 0)
 }
 
 /// Maps a strip into its stretch of the index picture and answers errors and means.
@@ -144,7 +139,7 @@ pub(crate) fn map(
             &mut means,
         )
     };
-    answer_to(number, 0, 0).map(|()| (answer, means))
+    answer_to(number, 0).map(|()| (answer, means))
 }
 
 /// Reads a P6 picture and answers width, height and the raster's first place.
@@ -153,5 +148,25 @@ pub(crate) fn picture(input: &[u8]) -> Result<[u64; 3], Refusal> {
     // SAFETY: the pointer and length are those of the input, and the answer is exclusive.
     let number = unsafe { raw::kf_read_picture(input.as_ptr(), input.len(), &mut answer) };
     let [offset, width, height, place] = answer;
-    answer_to(number, 0, offset).map(|()| [width, height, place])
+    answer_to(number, offset).map(|()| [width, height, place])
+}
+
+#[cfg(test)]
+mod tests {
+    use super::{answer_to, Refusal};
+
+    #[test]
+    fn a_number_is_done_or_its_refusal_with_what_it_carries() {
+        assert_eq!(answer_to(0, 7), Ok(()));
+        assert_eq!(answer_to(1, 7), Err(Refusal::BadStrip));
+        assert_eq!(answer_to(3, 7), Err(Refusal::Full { taken: 7 }));
+        assert_eq!(answer_to(12, 7), Err(Refusal::BadHeader { offset: 7 }));
+    }
+
+    #[test]
+    fn an_unknown_number_is_an_error_and_no_panic() {
+        for number in [1000, 1 << 31, u32::MAX] {
+            assert_eq!(answer_to(number, 7), Err(Refusal::Unknown { number }));
+        }
+    }
 }

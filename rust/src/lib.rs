@@ -41,7 +41,7 @@
 //!
 //! # What may be refused
 //!
-//! Every input is accepted or refused by one of fifteen numbers, each a case of [`Refusal`]. The library alone judges:
+//! Every input is accepted or refused by a number, and each number is a case of [`Refusal`]. The library alone judges:
 //! no rule is written a second time here. A [`Table`], [`Shades`] or [`Palette`] made from a caller's own numbers is
 //! handed to the library before it is given out, so what these types hold is good, and a refusal is met at the place
 //! that this table names. A refused call changes nothing, except that [`Refusal::Full`] leaves the pixels taken so far.

@@ -1,78 +1,90 @@
-//! The fifteen refusals: numbers, names, and when each is given.
+//! The refusals: numbers, names, and when each is given, in one table.
 use std::fmt;
 
-/// Why a call was refused. Each case has a fixed number, which is also the exit status of the command.
-///
-/// ```
-/// use kohlenfloh::{Refusal, Table};
-///
-/// let refusal = Table::with_room(4).add(&[1, 2]).unwrap_err();
-/// assert_eq!(refusal, Refusal::BadStrip);
-/// assert_eq!(refusal.number(), 1);
-/// assert_eq!(refusal.to_string(), "1 BAD STRIP: pixel bytes not a multiple of 3");
-/// ```
-#[derive(Clone, Copy, Debug, PartialEq, Eq, Hash)]
-#[non_exhaustive]
-pub enum Refusal {
-    /// 1: pixel bytes not a multiple of 3.
-    BadStrip,
-    /// 2: the record, the keys and the weights are no table.
-    BadTable,
-    /// 3: the next pixel has no place. The table holds exactly the pixels taken before it.
-    Full {
-        /// How many pixels of the strip were taken.
-        taken: u64,
-    },
-    /// 4: shades not 1 to 64.
-    BadCount,
-    /// 5: a run wants more shades than used entries.
-    FewColours,
-    /// 6: round limit above 200.
-    BadLimit,
-    /// 7: a lent slice is too short.
-    ShortRoom,
-    /// 8: a coordinate above 4080.
-    BadCentre,
-    /// 9: a used entry's former shade number not below the count.
-    BadMember,
-    /// 10: palette bytes not 3 to 192 or not a multiple of 3.
-    BadPalette,
-    /// 11: mapping over 16,777,216 pixels.
-    ManyPixels,
-    /// 12: the input does not begin with the header of a P6 picture.
-    BadHeader {
-        /// Place of the first byte that cannot stand there, or the input's length if it ends early.
-        offset: usize,
-    },
-    /// 13: sides or product out of range.
-    BadSize,
-    /// 14: depth not 255.
-    BadDepth,
-    /// 15: raster shorter or longer.
-    BadRaster,
+/// Makes [`Refusal`], and what goes by its numbers, from a table. A row is a refusal's number; its case, with the value
+/// it carries and what that is; its name; and when it is given, in the words of the scope.
+macro_rules! refusals {
+    ($(
+        $number:literal, $case:ident $({ $value:ident: $kind:ty, $what:literal })?, $name:literal, $sentence:literal;
+    )*) => {
+        /// Why a call was refused. Each case has a fixed number, which is also the exit status of the command.
+        ///
+        /// ```
+        /// use kohlenfloh::{Refusal, Table};
+        ///
+        /// let refusal = Table::with_room(4).add(&[1, 2]).unwrap_err();
+        /// assert_eq!(refusal, Refusal::BadStrip);
+        /// assert_eq!(refusal.number(), 1);
+        /// assert_eq!(refusal.to_string(), "1 BAD STRIP: pixel bytes not a multiple of 3");
+        /// ```
+        #[derive(Clone, Copy, Debug, PartialEq, Eq, Hash)]
+        #[non_exhaustive]
+        pub enum Refusal {
+            $(
+                #[doc = concat!($number, " ", $name, ": ", $sentence, ".")]
+                $case $({
+                    #[doc = $what]
+                    $value: $kind,
+                })?,
+            )*
+            /// A number that is none of the others: that of a library later than this crate.
+            Unknown {
+                /// The number.
+                number: u32,
+            },
+        }
+
+        impl Refusal {
+            /// The refusal of a number, with the value that it carries if it carries one; none for 0.
+            pub(crate) fn carrying(number: u32, value: u64) -> Option<Refusal> {
+                match number {
+                    0 => None,
+                    $($number => Some(Refusal::$case $({ $value: value as $kind })?),)*
+                    _ => Some(Refusal::Unknown { number }),
+                }
+            }
+
+            /// Number, name and sentence.
+            fn row(self) -> (u32, &'static str, &'static str) {
+                match self {
+                    $(Refusal::$case { .. } => ($number, $name, $sentence),)*
+                    Refusal::Unknown { number } => (number, "UNKNOWN", "a number that has no name here"),
+                }
+            }
+        }
+    };
 }
 
-/// Every refusal once, in the order of the numbers.
-const ALL: [Refusal; 15] = [
-    Refusal::BadStrip,
-    Refusal::BadTable,
-    Refusal::Full { taken: 0 },
-    Refusal::BadCount,
-    Refusal::FewColours,
-    Refusal::BadLimit,
-    Refusal::ShortRoom,
-    Refusal::BadCentre,
-    Refusal::BadMember,
-    Refusal::BadPalette,
-    Refusal::ManyPixels,
-    Refusal::BadHeader { offset: 0 },
-    Refusal::BadSize,
-    Refusal::BadDepth,
-    Refusal::BadRaster,
-];
+refusals! {
+    1, BadStrip, "BAD STRIP", "pixel bytes not a multiple of 3";
+    2, BadTable, "BAD TABLE",
+        "used entries above the room, a used key above 16,777,215 or not above the one before, a used weight of 0, or \
+         a pixel total that isn't the sum of the used weights or is above 16,777,216";
+    3, Full { taken: u64, "How many pixels of the strip were taken; the table holds exactly these." }, "FULL",
+        "the next pixel meets a total of 16,777,216, or is a new colour with no room";
+    4, BadCount, "BAD COUNT",
+        "shades not 1 to 64; for a single round or a palette from shades, coordinates not 3 to 192 or not a multiple \
+         of 3";
+    5, FewColours, "FEW COLOURS", "a run wants more shades than used entries";
+    6, BadLimit, "BAD LIMIT", "round limit above 200";
+    7, ShortRoom, "SHORT ROOM",
+        "members fewer than the used entries; totals fewer than the round limit (20 for 0); palette bytes fewer than \
+         3 for each shade; or the stretch's first place plus the strip's pixels above the index length";
+    8, BadCentre, "BAD CENTRE", "a coordinate above 4080";
+    9, BadMember, "BAD MEMBER", "a used entry's former shade number not below the count";
+    10, BadPalette, "BAD PALETTE", "palette bytes not 3 to 192 or not a multiple of 3";
+    11, ManyPixels, "MANY PIXELS", "mapping over 16,777,216 pixels";
+    12, BadHeader { offset: usize, "Place of the first byte that cannot stand there, or the input's length." },
+        "BAD HEADER",
+        "the offset is that of the first byte that cannot stand there, or the input's length if it ends early";
+    13, BadSize, "BAD SIZE", "sides or product out of range";
+    14, BadDepth, "BAD DEPTH", "depth not 255";
+    15, BadRaster, "BAD RASTER", "raster shorter or longer";
+}
 
 impl Refusal {
-    /// The refusal of a number from 1 to 15. FULL and BAD HEADER carry 0, as a number alone does not tell more.
+    /// The refusal of a number; none for 0, which refuses nothing. FULL and BAD HEADER carry 0, as a number alone does
+    /// not tell more. A number that is in no row of the table is [`Refusal::Unknown`].
     ///
     /// ```
     /// use kohlenfloh::Refusal;
@@ -80,12 +92,13 @@ impl Refusal {
     /// assert_eq!(Refusal::from_number(5), Some(Refusal::FewColours));
     /// assert_eq!(Refusal::from_number(12), Some(Refusal::BadHeader { offset: 0 }));
     /// assert_eq!(Refusal::from_number(0), None);
+    /// assert_eq!(Refusal::from_number(1000), Some(Refusal::Unknown { number: 1000 }));
     /// ```
     pub fn from_number(number: u32) -> Option<Refusal> {
-        ALL.into_iter().find(|refusal| refusal.number() == number)
+        Refusal::carrying(number, 0)
     }
 
-    /// The refusal's number, 1 to 15.
+    /// The refusal's number, which is above 0.
     ///
     /// ```
     /// assert_eq!(kohlenfloh::Refusal::Full { taken: 7 }.number(), 3);
@@ -110,49 +123,6 @@ impl Refusal {
     /// ```
     pub fn sentence(self) -> &'static str {
         self.row().2
-    }
-
-    /// Number, name and sentence.
-    fn row(self) -> (u32, &'static str, &'static str) {
-        match self {
-            Refusal::BadStrip => (1, "BAD STRIP", "pixel bytes not a multiple of 3"),
-            Refusal::BadTable => (
-                2,
-                "BAD TABLE",
-                "used entries above the room, a used key above 16,777,215 or not above the one before, a used weight \
-                 of 0, or a pixel total that isn't the sum of the used weights or is above 16,777,216",
-            ),
-            Refusal::Full { .. } => {
-                (3, "FULL", "the next pixel meets a total of 16,777,216, or is a new colour with no room")
-            }
-            Refusal::BadCount => (
-                4,
-                "BAD COUNT",
-                "shades not 1 to 64; for a single round or a palette from shades, coordinates not 3 to 192 or not a \
-                 multiple of 3",
-            ),
-            Refusal::FewColours => (5, "FEW COLOURS", "a run wants more shades than used entries"),
-            Refusal::BadLimit => (6, "BAD LIMIT", "round limit above 200"),
-            Refusal::ShortRoom => (
-                7,
-                "SHORT ROOM",
-                "members fewer than the used entries; totals fewer than the round limit (20 for 0); palette bytes \
-                 fewer than 3 for each shade; or the stretch's first place plus the strip's pixels above the index \
-                 length",
-            ),
-            Refusal::BadCentre => (8, "BAD CENTRE", "a coordinate above 4080"),
-            Refusal::BadMember => (9, "BAD MEMBER", "a used entry's former shade number not below the count"),
-            Refusal::BadPalette => (10, "BAD PALETTE", "palette bytes not 3 to 192 or not a multiple of 3"),
-            Refusal::ManyPixels => (11, "MANY PIXELS", "mapping over 16,777,216 pixels"),
-            Refusal::BadHeader { .. } => (
-                12,
-                "BAD HEADER",
-                "the offset is that of the first byte that cannot stand there, or the input's length if it ends early",
-            ),
-            Refusal::BadSize => (13, "BAD SIZE", "sides or product out of range"),
-            Refusal::BadDepth => (14, "BAD DEPTH", "depth not 255"),
-            Refusal::BadRaster => (15, "BAD RASTER", "raster shorter or longer"),
-        }
     }
 }
 

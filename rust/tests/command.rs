@@ -176,7 +176,9 @@ fn help_and_version() {
     for arguments in [["--help"].as_slice(), &["-h"], &["shades", "--help"], &["shades", "6", "-h"]] {
         let output = run(arguments, b"");
         assert_eq!((said(&output), output.status.code()), ("", Some(0)));
-        for word in ["--limit N", "--index FILE", "--sheet FILE", "15  BAD RASTER", "Examples"] {
+        for word in
+            ["--limit N", "--index FILE", "--sheet FILE", "13  BAD SIZE: a side", "15  BAD RASTER", "70  ", "Examples"]
+        {
             assert!(printed(&output).contains(word), "{word}");
         }
         assert!(printed(&output).lines().all(|line| line.len() <= 80));

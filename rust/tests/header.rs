@@ -1,7 +1,7 @@
 //! The header and this crate: a name that both have stands for the same number.
 use std::collections::BTreeMap;
 
-use kohlenfloh::{raw, Shades, Table};
+use kohlenfloh::{raw, Refusal, Shades, Table};
 
 /// The header.
 const HEADER: &str = include_str!("../../include/kohlenfloh.h");
@@ -75,4 +75,20 @@ fn bounds_are_those_of_the_header() {
     assert_eq!(bounds["KF_MOST_PIXELS"], Table::MOST_PIXELS);
     assert_eq!(bounds["KF_MOST_SHADES"], Shades::MOST as u64);
     assert_eq!(bounds["KF_MOST_COORDINATES"], raw::KF_MOST_COORDINATES as u64);
+}
+
+#[test]
+fn refusals_are_those_of_the_header() {
+    let refusals = names_of_enums("_refusal");
+    for (name, number) in &refusals {
+        match Refusal::from_number(*number as u32) {
+            None => assert_eq!((*name, *number), ("KF_DONE", 0)),
+            Some(refusal) => {
+                assert_eq!(u64::from(refusal.number()), *number);
+                assert_eq!(format!("KF_{}", refusal.name().replace(' ', "_")), *name);
+            }
+        }
+    }
+    let number = refusals.len() as u32;
+    assert_eq!(Refusal::from_number(number), Some(Refusal::Unknown { number }));
 }

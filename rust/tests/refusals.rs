@@ -1,4 +1,4 @@
-//! Each of the fifteen refusals, met through the safe types, and what is left unchanged by it.
+//! Each refusal, met through the safe types, and what is left unchanged by it.
 use kohlenfloh::{Palette, Picture, Record, Refusal, Shades, Table};
 
 /// A table of two colours.
@@ -9,34 +9,24 @@ fn two_colours() -> Table {
 }
 
 #[test]
-fn numbers_names_and_sentences_go_together() {
-    let names = [
-        "BAD STRIP",
-        "BAD TABLE",
-        "FULL",
-        "BAD COUNT",
-        "FEW COLOURS",
-        "BAD LIMIT",
-        "SHORT ROOM",
-        "BAD CENTRE",
-        "BAD MEMBER",
-        "BAD PALETTE",
-        "MANY PIXELS",
-        "BAD HEADER",
-        "BAD SIZE",
-        "BAD DEPTH",
-        "BAD RASTER",
-    ];
-    for (number, name) in (1..).zip(names) {
-        let refusal = Refusal::from_number(number).unwrap();
-        assert_eq!((refusal.number(), refusal.name()), (number, name));
-        assert!(refusal.to_string().starts_with(&format!("{number} {name}")));
-        assert!(refusal.to_string().ends_with(refusal.sentence()));
+fn a_refusal_tells_number_name_what_it_carries_and_sentence() {
+    let known = (1..).map_while(Refusal::from_number).take_while(|refusal| !matches!(refusal, Refusal::Unknown { .. }));
+    for refusal in known {
+        assert!(refusal.to_string().starts_with(&format!("{} {}", refusal.number(), refusal.name())));
+        assert!(refusal.to_string().ends_with(&format!(": {}", refusal.sentence())));
     }
-    assert_eq!(Refusal::from_number(0), None);
-    assert_eq!(Refusal::from_number(16), None);
-    assert!(Refusal::Full { taken: 7 }.to_string().contains("7 pixels taken"));
-    assert!(Refusal::BadHeader { offset: 9 }.to_string().contains("at offset 9"));
+    assert!(Refusal::Full { taken: 7 }.to_string().starts_with("3 FULL, 7 pixels taken: the next pixel"));
+    assert!(Refusal::BadHeader { offset: 9 }.to_string().starts_with("12 BAD HEADER at offset 9: the offset"));
+}
+
+#[test]
+fn an_unknown_number_is_a_refusal_of_its_own() {
+    for number in [1000, 1 << 31, u32::MAX] {
+        let refusal = Refusal::from_number(number).unwrap();
+        assert_eq!(refusal, Refusal::Unknown { number });
+        assert_eq!(refusal.number(), number);
+        assert_eq!(refusal.to_string(), format!("{number} UNKNOWN: a number that has no name here"));
+    }
 }
 
 #[test]

@@ -68,6 +68,7 @@ impl Failure {
             Failure::Usage(_) => 64,
             Failure::Unreadable { .. } => 66,
             Failure::Unwritable { .. } => 73,
+            Failure::Refused { refusal: Refusal::Unknown { .. }, .. } => 70,
             Failure::Refused { refusal, .. } => refusal.number() as u8,
         }
     }
@@ -83,6 +84,21 @@ impl fmt::Display for Failure {
             Failure::Refused { name, refusal, meaning } => {
                 write!(to, "{name}: refused {} {}: {meaning}", refusal.number(), refusal.name())
             }
+        }
+    }
+}
+
+#[cfg(test)]
+mod tests {
+    use super::{Failure, Refusal};
+
+    #[test]
+    fn a_refusal_ends_by_its_number_and_an_unknown_one_by_70() {
+        let status = |refusal| Failure::Refused { name: String::new(), refusal, meaning: String::new() }.status();
+        assert_eq!(status(Refusal::BadStrip), 1);
+        assert_eq!(status(Refusal::BadRaster), 15);
+        for number in [256, 1000, u32::MAX] {
+            assert_eq!(status(Refusal::Unknown { number }), 70);
         }
     }
 }

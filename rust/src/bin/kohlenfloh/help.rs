@@ -1,4 +1,5 @@
 //! What the program tells of itself.
+use kohlenfloh::Refusal;
 
 /// The lines that a wrong command line is answered with.
 pub const USAGE: &str = "\
@@ -9,8 +10,30 @@ usage: kohlenfloh shades K [PICTURE.ppm] [--limit N]
 /// The answer to --version.
 pub const VERSION: &str = concat!("kohlenfloh ", env!("CARGO_PKG_VERSION"), "\n");
 
+/// What each refusal means that a picture and its options can meet.
+const REFUSALS: [(Refusal, &str); 8] = [
+    (Refusal::Full { taken: 0 }, "more than 1,048,576 colours"),
+    (Refusal::BadCount, "K is not 1 to 64"),
+    (Refusal::FewColours, "the picture has fewer colours than K"),
+    (Refusal::BadLimit, "N is above 200"),
+    (Refusal::BadHeader { offset: 0 }, "no P6 header; the message says at which byte"),
+    (
+        Refusal::BadSize,
+        "a side is not 1 to 16,384, or too many pixels; or the input
+      is longer than 64 MiB, which is tested first",
+    ),
+    (Refusal::BadDepth, "the depth is not 255"),
+    (Refusal::BadRaster, "the raster is shorter or longer than the sides say"),
+];
+
 /// The answer to --help.
-pub const HELP: &str = "\
+pub fn help() -> String {
+    let row = |(refusal, means): (Refusal, &str)| format!("{:>4}  {}: {means}\n", refusal.number(), refusal.name());
+    [BEFORE_REFUSALS, &REFUSALS.map(row).concat(), AFTER_REFUSALS].concat()
+}
+
+/// What --help answers before the refusals.
+const BEFORE_REFUSALS: &str = "\
 kohlenfloh - the shades of a drawing, and the pixels of each
 
 usage: kohlenfloh shades K [PICTURE.ppm] [options]
@@ -46,17 +69,12 @@ and means are rounded to two digits by whole-number arithmetic, halves up.
 
 Exit status
    0  done
-   3  FULL: more than 1,048,576 colours
-   4  BAD COUNT: K is not 1 to 64
-   5  FEW COLOURS: the picture has fewer colours than K
-   6  BAD LIMIT: N is above 200
-  12  BAD HEADER: no P6 header; the message says at which byte
-  13  BAD SIZE: a side is not 1 to 16,384, or too many pixels; or the input
-      is longer than 64 MiB, which is tested first
-  14  BAD DEPTH: the depth is not 255
-  15  BAD RASTER: the raster is shorter or longer than the sides say
-  64  the command line is wrong
+";
+
+/// What --help answers after the refusals.
+const AFTER_REFUSALS: &str = "  64  the command line is wrong
   66  the picture cannot be read
+  70  the library refused by a number that has no name here
   73  an output cannot be written
 
 Examples

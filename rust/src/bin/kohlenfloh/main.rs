@@ -26,7 +26,7 @@ use order::Order;
 /// Does what the command line asks, and ends with 0 or with the failure's status.
 fn main() -> ExitCode {
     let done = options::read(std::env::args_os().skip(1)).and_then(|request| match request {
-        Request::Help => print(help::HELP),
+        Request::Help => print(&help::help()),
         Request::Version => print(help::VERSION),
         Request::Shades(options) => shades(&options),
     });
