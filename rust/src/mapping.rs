@@ -21,6 +21,7 @@ use crate::refusal::Refusal;
 /// # Ok::<(), kohlenfloh::Refusal>(())
 /// ```
 #[derive(Clone, Copy, Debug, PartialEq)]
+#[non_exhaustive]
 pub struct Figures {
     /// The sum of squared level differences over all pixels and channels.
     pub error: u64,
@@ -34,6 +35,7 @@ pub struct Figures {
 
 /// A strip's stretch of the index picture, and its figures.
 #[derive(Clone, Debug, PartialEq)]
+#[non_exhaustive]
 pub struct Mapped {
     /// The number of the nearest palette entry, one byte for each pixel.
     pub index: Vec<u8>,

@@ -9,6 +9,7 @@ const MOST_ROUNDS: usize = 200;
 
 /// What a single round answers.
 #[derive(Clone, Copy, Debug, PartialEq, Eq)]
+#[non_exhaustive]
 pub struct Round {
     /// The sum over colours of weight times distance to the shade joined, before the shades moved.
     pub total: u64,
@@ -33,6 +34,7 @@ pub struct Round {
 /// # Ok::<(), kohlenfloh::Refusal>(())
 /// ```
 #[derive(Clone, Debug, PartialEq, Eq)]
+#[non_exhaustive]
 pub struct Run {
     /// The shades as the last round left them.
     pub shades: Shades,

@@ -2,15 +2,47 @@
 use std::fmt;
 
 use crate::calls;
+use crate::raw::{KF_RECORD_PIXELS, KF_RECORD_PLACES, KF_RECORD_USED};
 use crate::refusal::Refusal;
 
-/// How much of a table is used: its entries and the pixels they stand for.
+/// How much of a table is used: its entries and the pixels they stand for. The default is that of an empty table.
+///
+/// It is made by [`Record::new`] and read by its fields, so that a record with more of them breaks no caller.
+///
+/// ```
+/// use kohlenfloh::Record;
+///
+/// let record = Record::new(2, 4);
+/// assert_eq!((record.used, record.pixels), (2, 4));
+/// assert_eq!(Record::default(), Record::new(0, 0));
+/// ```
 #[derive(Clone, Copy, Debug, Default, PartialEq, Eq, Hash)]
+#[non_exhaustive]
 pub struct Record {
     /// Used entries.
     pub used: u64,
     /// Pixels, the sum of the used weights.
     pub pixels: u64,
+}
+
+impl Record {
+    /// A record of so many used entries and so many pixels.
+    pub const fn new(used: u64, pixels: u64) -> Record {
+        Record { used, pixels }
+    }
+
+    /// The record that lies in an array.
+    pub(crate) fn in_array(array: [u64; KF_RECORD_PLACES]) -> Record {
+        Record::new(array[KF_RECORD_USED], array[KF_RECORD_PIXELS])
+    }
+
+    /// The record laid into an array.
+    pub(crate) fn to_array(self) -> [u64; KF_RECORD_PLACES] {
+        let mut array = [0; KF_RECORD_PLACES];
+        array[KF_RECORD_USED] = self.used;
+        array[KF_RECORD_PIXELS] = self.pixels;
+        array
+    }
 }
 
 /// A table of colours, filled strip by strip.
@@ -64,7 +96,7 @@ impl Table {
     /// ```
     /// use kohlenfloh::{Record, Refusal, Table};
     ///
-    /// let record = Record { used: 2, pixels: 4 };
+    /// let record = Record::new(2, 4);
     /// let table = Table::from_parts(record, vec![0, 655_360], vec![3, 1])?;
     /// assert_eq!(table.run(1, 0)?.totals, [19_200]);
     ///
@@ -98,10 +130,9 @@ impl Table {
     /// # Refusals
     /// BAD STRIP; FULL, after which the table holds exactly the pixels taken.
     pub fn add(&mut self, strip: &[u8]) -> Result<u64, Refusal> {
-        let mut record = [self.record.used, self.record.pixels];
+        let mut record = self.record.to_array();
         let taken = calls::add(&mut record, &mut self.keys, &mut self.weights, strip);
-        let [used, pixels] = record;
-        self.record = Record { used, pixels };
+        self.record = Record::in_array(record);
         taken
     }
 
@@ -112,7 +143,7 @@ impl Table {
     ///
     /// let mut table = Table::with_room(4);
     /// table.add(&[0, 0, 0, 0, 0, 0])?;
-    /// assert_eq!(table.record(), Record { used: 1, pixels: 2 });
+    /// assert_eq!(table.record(), Record::new(1, 2));
     /// # Ok::<(), kohlenfloh::Refusal>(())
     /// ```
     pub fn record(&self) -> Record {
@@ -151,7 +182,7 @@ impl Table {
 
     /// The table as a call that reads it gets it.
     pub(crate) fn lent(&self) -> calls::Lent<'_> {
-        calls::Lent { record: [self.record.used, self.record.pixels], keys: &self.keys, weights: &self.weights }
+        calls::Lent { record: self.record.to_array(), keys: &self.keys, weights: &self.weights }
     }
 }
 

@@ -50,7 +50,7 @@ fn bad_table() {
         (1, 16_777_217, &[5], &[16_777_217]),
     ];
     for (used, pixels, keys, weights) in cases {
-        let table = Table::from_parts(Record { used, pixels }, keys.to_vec(), weights.to_vec());
+        let table = Table::from_parts(Record::new(used, pixels), keys.to_vec(), weights.to_vec());
         assert_eq!(table.unwrap_err(), Refusal::BadTable, "{used} {pixels} {keys:?} {weights:?}");
     }
 }
@@ -71,7 +71,7 @@ fn full_by_room_holds_the_pixels_taken() {
 #[test]
 fn full_by_pixels() {
     let most = Table::MOST_PIXELS;
-    let mut table = Table::from_parts(Record { used: 1, pixels: most - 1 }, vec![0, 0], vec![16_777_215, 0]).unwrap();
+    let mut table = Table::from_parts(Record::new(1, most - 1), vec![0, 0], vec![16_777_215, 0]).unwrap();
     assert_eq!(table.add(&[0; 9]), Err(Refusal::Full { taken: 1 }));
     assert_eq!((table.pixels(), table.weights()), (most, [16_777_216].as_slice()));
     assert_eq!(table.add(&[]), Ok(0));

@@ -1,5 +1,5 @@
 //! Sheets A to I of the scope, and the cases that stand beside them, through the safe types.
-use kohlenfloh::{Palette, Picture, Record, Refusal, Round, Shades, Table};
+use kohlenfloh::{Palette, Picture, Record, Refusal, Shades, Table};
 
 /// The raster of sheet A: pixels (0,0,0) three times and (10,0,0).
 const RASTER: [u8; 12] = [0, 0, 0, 0, 0, 0, 0, 0, 0, 10, 0, 0];
@@ -22,7 +22,7 @@ fn sheet_a_the_table() {
     assert_eq!(table.keys(), [0, 655_360]);
     assert_eq!(table.weights(), [3, 1]);
     assert_eq!(table.entries().collect::<Vec<_>>(), [(0, 3), (655_360, 1)]);
-    assert_eq!(table.record(), Record { used: 2, pixels: 4 });
+    assert_eq!(table.record(), Record::new(2, 4));
 }
 
 #[test]
@@ -57,10 +57,10 @@ fn sheet_d_two_shades() {
 
     let mut shades = Shades::from_coordinates(&[40, 0, 0, 160, 0, 0]).unwrap();
     let mut members = [0, 0, 7];
-    let first = table.short_round(&mut shades, &mut members);
-    assert_eq!(first, Ok(Round { total: 4800, moved: 1, distances: 3 }));
-    let second = table.short_round(&mut shades, &mut members);
-    assert_eq!(second, Ok(Round { total: 0, moved: 0, distances: 2 }));
+    let first = table.short_round(&mut shades, &mut members).unwrap();
+    assert_eq!((first.total, first.moved, first.distances), (4800, 1, 3));
+    let second = table.short_round(&mut shades, &mut members).unwrap();
+    assert_eq!((second.total, second.moved, second.distances), (0, 0, 2));
     assert_eq!(shades, run.shades);
     assert_eq!(members, [0, 1, 7]);
 }
