@@ -1,37 +1,86 @@
-//! Each raw call as a safe function on slices: the one file of this crate with unsafe code.
+//! The library's calls as safe functions on slices, each by the name of the call beneath it.
 //!
-//! A slice goes over as its pointer and length, an array as its pointer, and the number that comes back becomes a
-//! [`Refusal`]. The boundary asks two things. Every pointer must be good for its length: slices and arrays of Rust are,
-//! empty ones too. And what a call may write must not overlap anything else it is handed: such memory is borrowed
-//! exclusively here.
-use crate::raw;
+//! These work in memory that the caller lends: they allocate nothing and copy nothing that is lent. [`Table`],
+//! [`Shades`] and [`Palette`] hold such memory for a caller who wants to lend none. No call asks anything of the values
+//! it is handed. A refused one changes nothing, except that [`Refusal::Full`] leaves the pixels taken so far; the
+//! refusals of each are listed in the order in which they are tested.
+//!
+//! ```
+//! use kohlenfloh::{calls, Record};
+//!
+//! # fn main() -> Result<(), kohlenfloh::Refusal> {
+//! let (mut record, mut keys, mut weights) = (Record::default(), [0; 16], [0; 16]);
+//! let strip = [0, 0, 0, 0, 0, 0, 0, 0, 0, 10, 0, 0];
+//! assert_eq!(calls::add_strip(&mut record, &mut keys, &mut weights, &strip)?, 4);
+//!
+//! let (mut members, mut totals) = ([0; 16], [0; 20]);
+//! let ran = calls::run(record, &keys, &weights, 2, 0, &mut members, &mut totals)?;
+//! assert_eq!((ran.rounds, ran.settled, ran.shades[3]), (2, true, 160));
+//!
+//! let (mut palette, mut index) = ([0; 6], [0; 4]);
+//! calls::palette_from_shades(&ran.shades[..6], &mut palette)?;
+//! assert_eq!(calls::map_strip(&strip, &palette, &mut index, 0)?.error, 0);
+//! assert_eq!(index, [0, 0, 0, 1]);
+//! # Ok(())
+//! # }
+//! ```
+//!
+//! [`Table`]: crate::Table
+//! [`Shades`]: crate::Shades
+//! [`Palette`]: crate::Palette
+// This is the one file of the crate with unsafe code. A slice goes over as its pointer and length, an array as its
+// pointer, and the number that comes back becomes a `Refusal`. The boundary asks two things. Every pointer must be good
+// for its length: slices and arrays of Rust are, empty ones too. And what a call may write must not overlap anything
+// else it is handed: such memory is borrowed exclusively here.
+#![allow(unsafe_code)]
+use crate::mapping::Figures;
+use crate::picture::Picture;
+use crate::raw::*;
 use crate::refusal::Refusal;
+use crate::rounds::Round;
+use crate::table::Record;
 
-/// A table as a call that reads it gets it.
-pub(crate) struct Lent<'a> {
-    pub(crate) record: [u64; 2],
-    pub(crate) keys: &'a [u32],
-    pub(crate) weights: &'a [u32],
+/// What a run answers, beside what it leaves in the members and totals that are lent to it.
+#[derive(Clone, Copy, Debug, PartialEq, Eq)]
+#[non_exhaustive]
+pub struct Ran {
+    /// Three coordinates for each shade, and zeros past the last one's.
+    pub shades: [u32; KF_MOST_COORDINATES],
+    /// Rounds made, and so totals left.
+    pub rounds: usize,
+    /// Whether the last round moved no shade.
+    pub settled: bool,
+    /// The distances worked out in all rounds together.
+    pub distances: u64,
+    /// The final total: the last grouping against the final shades.
+    pub total: u64,
 }
 
 /// The two ways a round looks for the nearest shade.
-pub(crate) enum Search {
+enum Search {
     Plain,
     Short,
 }
 
 /// The answer to a number: 0 is done, every other one its refusal, with the value that it carries if it carries one.
+#[inline]
 fn answer_to(number: u32, value: u64) -> Result<(), Refusal> {
     Refusal::carrying(number, value).map_or(Ok(()), Err)
 }
 
-/// Adds a strip's pixels to a table and answers how many were taken.
-pub(crate) fn add(record: &mut [u64; 2], keys: &mut [u32], weights: &mut [u32], strip: &[u8]) -> Result<u64, Refusal> {
+/// Adds a strip's pixels to the table of a record, keys and weights, and answers how many were taken: all of them.
+/// Places past the used entries keep their values.
+///
+/// # Refusals
+/// BAD STRIP; BAD TABLE; FULL, after which record and table are those of exactly the pixels taken.
+#[inline]
+pub fn add_strip(record: &mut Record, keys: &mut [u32], weights: &mut [u32], strip: &[u8]) -> Result<u64, Refusal> {
+    let mut array = record.to_array();
     let mut taken = [0];
     // SAFETY: each pointer and length is that of a slice or array of this call, and all but the strip are exclusive.
     let number = unsafe {
-        raw::kf_add_strip(
-            record,
+        kf_add_strip(
+            &mut array,
             keys.as_mut_ptr(),
             keys.len(),
             weights.as_mut_ptr(),
@@ -41,30 +90,65 @@ pub(crate) fn add(record: &mut [u64; 2], keys: &mut [u32], weights: &mut [u32], 
             &mut taken,
         )
     };
+    *record = Record::in_array(array);
     answer_to(number, taken[0]).map(|()| taken[0])
 }
 
-/// Makes one round and answers total, shades moved and distances.
-pub(crate) fn round(
-    search: Search,
-    table: Lent<'_>,
+/// One round in which each colour looks at every shade. The shades move in their coordinates, and the number of each
+/// used entry's shade is left in the members; those past the used entries stay.
+///
+/// # Refusals
+/// BAD TABLE, BAD COUNT, BAD CENTRE, SHORT ROOM.
+#[inline]
+pub fn plain_round(
+    record: Record,
+    keys: &[u32],
+    weights: &[u32],
     coordinates: &mut [u32],
     members: &mut [u32],
-) -> Result<[u64; 3], Refusal> {
+) -> Result<Round, Refusal> {
+    round(Search::Plain, record, keys, weights, coordinates, members)
+}
+
+/// The same round by the shortened search, from the former shades in the members.
+///
+/// # Refusals
+/// BAD TABLE, BAD COUNT, BAD CENTRE, SHORT ROOM, BAD MEMBER.
+#[inline]
+pub fn short_round(
+    record: Record,
+    keys: &[u32],
+    weights: &[u32],
+    coordinates: &mut [u32],
+    members: &mut [u32],
+) -> Result<Round, Refusal> {
+    round(Search::Short, record, keys, weights, coordinates, members)
+}
+
+/// One round by either search.
+#[inline]
+fn round(
+    search: Search,
+    record: Record,
+    keys: &[u32],
+    weights: &[u32],
+    coordinates: &mut [u32],
+    members: &mut [u32],
+) -> Result<Round, Refusal> {
     let call = match search {
-        Search::Plain => raw::kf_plain_round,
-        Search::Short => raw::kf_short_round,
+        Search::Plain => kf_plain_round,
+        Search::Short => kf_short_round,
     };
-    let mut answer = [0; 3];
+    let mut answer = [0; KF_ROUND_PLACES];
     // SAFETY: each pointer and length is that of a slice or array of this call; coordinates, members and answer are
     // exclusive.
     let number = unsafe {
         call(
-            &table.record,
-            table.keys.as_ptr(),
-            table.keys.len(),
-            table.weights.as_ptr(),
-            table.weights.len(),
+            &record.to_array(),
+            keys.as_ptr(),
+            keys.len(),
+            weights.as_ptr(),
+            weights.len(),
             coordinates.as_mut_ptr(),
             coordinates.len(),
             members.as_mut_ptr(),
@@ -72,28 +156,39 @@ pub(crate) fn round(
             &mut answer,
         )
     };
-    answer_to(number, 0).map(|()| answer)
+    answer_to(number, 0).map(|()| Round {
+        total: answer[KF_ROUND_TOTAL],
+        moved: answer[KF_ROUND_MOVED],
+        distances: answer[KF_ROUND_DISTANCES],
+    })
 }
 
-/// Makes a run and answers all 192 coordinates, and rounds, settled as 1 or 0, distances and final total.
-pub(crate) fn run(
-    table: Lent<'_>,
+/// A run: starting shades, then shortened rounds to the first that moves no shade or to the limit; a limit of 0 means
+/// 20. The last grouping is left in the members, and each round's total in the totals; places past those filled stay.
+///
+/// # Refusals
+/// BAD TABLE, BAD COUNT, FEW COLOURS, BAD LIMIT, SHORT ROOM.
+#[inline]
+pub fn run(
+    record: Record,
+    keys: &[u32],
+    weights: &[u32],
     count: usize,
     limit: usize,
     members: &mut [u32],
     totals: &mut [u64],
-) -> Result<([u32; 192], [u64; 4]), Refusal> {
-    let mut shades = [0; 192];
-    let mut answer = [0; 4];
+) -> Result<Ran, Refusal> {
+    let mut shades = [0; KF_MOST_COORDINATES];
+    let mut answer = [0; KF_RUN_PLACES];
     // SAFETY: each pointer and length is that of a slice or array of this call; members, totals, shades and answer are
     // exclusive.
     let number = unsafe {
-        raw::kf_run(
-            &table.record,
-            table.keys.as_ptr(),
-            table.keys.len(),
-            table.weights.as_ptr(),
-            table.weights.len(),
+        kf_run(
+            &record.to_array(),
+            keys.as_ptr(),
+            keys.len(),
+            weights.as_ptr(),
+            weights.len(),
             count,
             limit,
             members.as_mut_ptr(),
@@ -104,30 +199,39 @@ pub(crate) fn run(
             &mut answer,
         )
     };
-    answer_to(number, 0).map(|()| (shades, answer))
+    answer_to(number, 0).map(|()| Ran {
+        shades,
+        rounds: answer[KF_RUN_ROUNDS] as usize,
+        settled: answer[KF_RUN_SETTLED] == 1,
+        distances: answer[KF_RUN_DISTANCES],
+        total: answer[KF_RUN_TOTAL],
+    })
 }
 
-/// Makes the palette of some shades.
-pub(crate) fn palette(coordinates: &[u32], palette: &mut [u8]) -> Result<(), Refusal> {
+/// The palette of some shades, three bytes each; bytes past the last shade's stay.
+///
+/// # Refusals
+/// BAD COUNT, BAD CENTRE, SHORT ROOM.
+#[inline]
+pub fn palette_from_shades(coordinates: &[u32], palette: &mut [u8]) -> Result<(), Refusal> {
     // SAFETY: each pointer and length is that of a slice of this call, and the palette is exclusive.
-    let number = unsafe {
-        raw::kf_palette_from_shades(coordinates.as_ptr(), coordinates.len(), palette.as_mut_ptr(), palette.len())
-    };
+    let number =
+        unsafe { kf_palette_from_shades(coordinates.as_ptr(), coordinates.len(), palette.as_mut_ptr(), palette.len()) };
     answer_to(number, 0)
 }
 
-/// Maps a strip into its stretch of the index picture and answers errors and means.
-pub(crate) fn map(
-    strip: &[u8],
-    palette: &[u8],
-    index: &mut [u8],
-    first: usize,
-) -> Result<([u64; 5], [f64; 4]), Refusal> {
-    let mut answer = [0; 5];
-    let mut means = [0.0; 4];
+/// Maps a strip into its stretch of the index picture, which begins at place `first` and has a byte for each pixel.
+/// Every other index byte stays.
+///
+/// # Refusals
+/// BAD STRIP, BAD PALETTE, MANY PIXELS, SHORT ROOM.
+#[inline]
+pub fn map_strip(strip: &[u8], palette: &[u8], index: &mut [u8], first: usize) -> Result<Figures, Refusal> {
+    let mut answer = [0; KF_MAP_STRIP_PLACES];
+    let mut means = [0.0; KF_MAP_STRIP_MEAN_PLACES];
     // SAFETY: each pointer and length is that of a slice or array of this call; index, answer and means are exclusive.
     let number = unsafe {
-        raw::kf_map_strip(
+        kf_map_strip(
             strip.as_ptr(),
             strip.len(),
             palette.as_ptr(),
@@ -139,16 +243,30 @@ pub(crate) fn map(
             &mut means,
         )
     };
-    answer_to(number, 0).map(|()| (answer, means))
+    let errors = [KF_MAP_STRIP_RED_ERROR, KF_MAP_STRIP_GREEN_ERROR, KF_MAP_STRIP_BLUE_ERROR];
+    let channels = [KF_MAP_STRIP_RED_MEAN, KF_MAP_STRIP_GREEN_MEAN, KF_MAP_STRIP_BLUE_MEAN];
+    answer_to(number, 0).map(|()| Figures {
+        error: answer[KF_MAP_STRIP_ERROR],
+        channel_errors: errors.map(|place| answer[place]),
+        mean: (answer[KF_MAP_STRIP_HAS_MEAN] == 1).then_some(means[KF_MAP_STRIP_MEAN]),
+        channel_means: channels.map(|place| means[place]),
+    })
 }
 
-/// Reads a P6 picture and answers width, height and the raster's first place.
-pub(crate) fn picture(input: &[u8]) -> Result<[u64; 3], Refusal> {
-    let mut answer = [0; 4];
+/// Reads a P6 picture; its raster is a stretch of the input, uncopied.
+///
+/// # Refusals
+/// BAD HEADER, BAD SIZE, BAD DEPTH, BAD RASTER.
+#[inline]
+pub fn read_picture(input: &[u8]) -> Result<Picture<'_>, Refusal> {
+    let mut answer = [0; KF_READ_PICTURE_PLACES];
     // SAFETY: the pointer and length are those of the input, and the answer is exclusive.
-    let number = unsafe { raw::kf_read_picture(input.as_ptr(), input.len(), &mut answer) };
-    let [offset, width, height, place] = answer;
-    answer_to(number, offset).map(|()| [width, height, place])
+    let number = unsafe { kf_read_picture(input.as_ptr(), input.len(), &mut answer) };
+    answer_to(number, answer[KF_READ_PICTURE_OFFSET]).map(|()| Picture {
+        width: answer[KF_READ_PICTURE_WIDTH] as usize,
+        height: answer[KF_READ_PICTURE_HEIGHT] as usize,
+        raster: &input[answer[KF_READ_PICTURE_RASTER] as usize..],
+    })
 }
 
 #[cfg(test)]

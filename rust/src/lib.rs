@@ -73,13 +73,12 @@
 //!
 //! # Where things are
 //!
-//! The crate has one file a subject. Unsafe code stands in `calls.rs` alone, where each of the seven functions of
-//! [`raw`] becomes a safe one.
+//! The crate has one file a subject. [`raw`] is the library's functions as C sees them; [`calls`] makes each a safe
+//! one on slices, and alone has unsafe code; the types lend these functions memory of their own.
 #![deny(missing_docs)]
 #![deny(unsafe_code)]
 
-#[allow(unsafe_code)]
-mod calls;
+pub mod calls;
 mod mapping;
 mod palette;
 mod picture;

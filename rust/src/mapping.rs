@@ -84,8 +84,6 @@ impl Palette {
     /// # Refusals
     /// BAD STRIP, MANY PIXELS; SHORT ROOM, for a stretch that does not lie in the index picture.
     pub fn map_into(&self, strip: &[u8], index: &mut [u8], first: usize) -> Result<Figures, Refusal> {
-        let ([error, channel_errors @ .., has_mean], [mean, channel_means @ ..]) =
-            calls::map(strip, self.bytes(), index, first)?;
-        Ok(Figures { error, channel_errors, mean: (has_mean == 1).then_some(mean), channel_means })
+        calls::map_strip(strip, self.bytes(), index, first)
     }
 }

@@ -18,9 +18,9 @@ use crate::refusal::Refusal;
 /// ```
 #[derive(Clone, Copy, Debug, PartialEq, Eq)]
 pub struct Picture<'a> {
-    width: usize,
-    height: usize,
-    raster: &'a [u8],
+    pub(crate) width: usize,
+    pub(crate) height: usize,
+    pub(crate) raster: &'a [u8],
 }
 
 impl<'a> Picture<'a> {
@@ -31,8 +31,7 @@ impl<'a> Picture<'a> {
     /// # Refusals
     /// BAD HEADER, BAD SIZE, BAD DEPTH, BAD RASTER.
     pub fn read(input: &'a [u8]) -> Result<Picture<'a>, Refusal> {
-        let [width, height, place] = calls::picture(input)?;
-        Ok(Picture { width: width as usize, height: height as usize, raster: &input[place as usize..] })
+        calls::read_picture(input)
     }
 
     /// Pixels in a row.

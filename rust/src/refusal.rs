@@ -36,6 +36,7 @@ macro_rules! refusals {
 
         impl Refusal {
             /// The refusal of a number, with the value that it carries if it carries one; none for 0.
+            #[inline]
             pub(crate) fn carrying(number: u32, value: u64) -> Option<Refusal> {
                 match number {
                     0 => None,

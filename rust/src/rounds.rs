@@ -1,5 +1,5 @@
 //! Single rounds and the run: a table's colours join their nearest shades, and the shades move.
-use crate::calls::{self, Search};
+use crate::calls;
 use crate::refusal::Refusal;
 use crate::shades::Shades;
 use crate::table::Table;
@@ -73,17 +73,16 @@ impl Table {
     pub fn run(&self, count: usize, limit: usize) -> Result<Run, Refusal> {
         let mut members = vec![0; self.used()];
         let mut totals = vec![0; MOST_ROUNDS];
-        let (coordinates, answer) = calls::run(self.lent(), count, limit, &mut members, &mut totals)?;
-        let [rounds, settled, distances, total] = answer;
-        totals.truncate(rounds as usize);
+        let ran = calls::run(self.record(), self.keys(), self.weights(), count, limit, &mut members, &mut totals)?;
+        totals.truncate(ran.rounds);
         Ok(Run {
-            shades: Shades::held(coordinates[..3 * count].to_vec()),
+            shades: Shades::held(ran.shades[..3 * count].to_vec()),
             members,
             totals,
-            rounds: rounds as usize,
-            settled: settled == 1,
-            distances,
-            total,
+            rounds: ran.rounds,
+            settled: ran.settled,
+            distances: ran.distances,
+            total: ran.total,
         })
     }
 
@@ -107,7 +106,7 @@ impl Table {
     /// # Refusals
     /// SHORT ROOM, for members fewer than the used entries.
     pub fn plain_round(&self, shades: &mut Shades, members: &mut [u32]) -> Result<Round, Refusal> {
-        self.round(Search::Plain, shades, members)
+        calls::plain_round(self.record(), self.keys(), self.weights(), shades.coordinates_mut(), members)
     }
 
     /// Makes the same round by the shortened search, which reads each colour's former shade from the members and works
@@ -131,13 +130,6 @@ impl Table {
     /// # Refusals
     /// SHORT ROOM, for members fewer than the used entries; BAD MEMBER.
     pub fn short_round(&self, shades: &mut Shades, members: &mut [u32]) -> Result<Round, Refusal> {
-        self.round(Search::Short, shades, members)
-    }
-
-    /// One round by either search.
-    fn round(&self, search: Search, shades: &mut Shades, members: &mut [u32]) -> Result<Round, Refusal> {
-        let answer = calls::round(search, self.lent(), shades.coordinates_mut(), members)?;
-        let [total, moved, distances] = answer;
-        Ok(Round { total, moved, distances })
+        calls::short_round(self.record(), self.keys(), self.weights(), shades.coordinates_mut(), members)
     }
 }

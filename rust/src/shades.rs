@@ -71,7 +71,7 @@ impl Shades {
     /// None is met, as these shades are good; the library's answer is handed on as it comes.
     pub fn palette(&self) -> Result<Palette, Refusal> {
         let mut bytes = vec![0; self.coordinates.len()];
-        calls::palette(&self.coordinates, &mut bytes)?;
+        calls::palette_from_shades(&self.coordinates, &mut bytes)?;
         Ok(Palette::held(bytes))
     }
 

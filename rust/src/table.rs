@@ -32,11 +32,13 @@ impl Record {
     }
 
     /// The record that lies in an array.
+    #[inline]
     pub(crate) fn in_array(array: [u64; KF_RECORD_PLACES]) -> Record {
         Record::new(array[KF_RECORD_USED], array[KF_RECORD_PIXELS])
     }
 
     /// The record laid into an array.
+    #[inline]
     pub(crate) fn to_array(self) -> [u64; KF_RECORD_PLACES] {
         let mut array = [0; KF_RECORD_PLACES];
         array[KF_RECORD_USED] = self.used;
@@ -130,10 +132,7 @@ impl Table {
     /// # Refusals
     /// BAD STRIP; FULL, after which the table holds exactly the pixels taken.
     pub fn add(&mut self, strip: &[u8]) -> Result<u64, Refusal> {
-        let mut record = self.record.to_array();
-        let taken = calls::add(&mut record, &mut self.keys, &mut self.weights, strip);
-        self.record = Record::in_array(record);
-        taken
+        calls::add_strip(&mut self.record, &mut self.keys, &mut self.weights, strip)
     }
 
     /// How much of the table is used.
@@ -178,11 +177,6 @@ impl Table {
     /// Each used entry as its key and weight, in the order of the keys.
     pub fn entries(&self) -> impl ExactSizeIterator<Item = (u32, u32)> + '_ {
         self.keys().iter().copied().zip(self.weights().iter().copied())
-    }
-
-    /// The table as a call that reads it gets it.
-    pub(crate) fn lent(&self) -> calls::Lent<'_> {
-        calls::Lent { record: self.record.to_array(), keys: &self.keys, weights: &self.weights }
     }
 }
 
