@@ -1,9 +1,10 @@
 //! How the proved library's costs grow: each job at three sizes of what it grows with.
 use crate::jobs::rounds::{self, Kind, State};
-use crate::jobs::tables;
+use crate::jobs::{mapping, tables, ACCEPTED};
 use crate::pictures::{self, Picture};
-use crate::proved::{self, Table};
 use crate::race::{figure, race, timed, Pace};
+use crate::table::Table;
+use kohlenfloh::{calls, Record};
 
 /// The heading of the table of growth.
 const HEADING: &str =
@@ -26,8 +27,8 @@ fn row(job: &str, with: &str, unit: &str, seen: [(f64, f64); 3]) {
 fn fill(pace: Pace, picture: &Picture) -> (f64, f64) {
     let mut table = Table::empty(1 << 20);
     let time = best(pace, &mut || {
-        table.record = [0; 2];
-        timed(|| proved::add(&mut table, &picture.raster)).0
+        table.record = Record::default();
+        timed(|| tables::proved(&mut table, &picture.raster)).0
     });
     (picture.pixels() as f64, time)
 }
@@ -36,21 +37,19 @@ fn fill(pace: Pace, picture: &Picture) -> (f64, f64) {
 fn add_row(pace: Pace, table: &Table, row: &[u8]) -> f64 {
     best(pace, &mut || {
         let mut table = table.clone();
-        timed(|| proved::add(&mut table, row)).0
+        timed(|| tables::proved(&mut table, row)).0
     })
 }
 
 /// A round from a state.
 fn round(pace: Pace, kind: Kind, table: &Table, before: &State) -> f64 {
-    best(pace, &mut || {
-        rounds::one(before, |shades, members| proved::round(table, kind != Kind::Plain, shades, members)).0
-    })
+    best(pace, &mut || rounds::one(before, |shades, members| rounds::proved_round(table, kind, shades, members)).0)
 }
 
 /// Mapping a strip to a palette.
 fn map(pace: Pace, strip: &[u8], palette: &[u8]) -> f64 {
     let mut index = vec![1; strip.len() / 3];
-    best(pace, &mut || timed(|| proved::map(strip, palette, &mut index)).0)
+    best(pace, &mut || timed(|| mapping::proved(strip, palette, &mut index)).0)
 }
 
 /// How a picture of a side is made.
@@ -100,8 +99,11 @@ fn with_shades(pace: Pace, side: usize) {
         let pixels = format!("entries, a {}", picture.name);
         row("mapping", &pixels, "entry", sized(&|count| map(pace, &picture.raster, &palette(count))));
     }
-    let coordinates = vec![7; 192];
-    let time = |count: usize| best(pace, &mut || timed(|| proved::palette(&coordinates[..3 * count])).0);
+    let (coordinates, mut palette) = ([7; 192], [0; 192]);
+    let mut time = |count: usize| {
+        let shades = &coordinates[..3 * count];
+        best(pace, &mut || timed(|| calls::palette_from_shades(shades, &mut palette).expect(ACCEPTED)).0)
+    };
     row("palette", "shades", "shade", [4, 16, 64].map(|count| (count as f64, time(count))));
 }
 
@@ -109,7 +111,7 @@ fn with_shades(pace: Pace, side: usize) {
 fn with_bytes(pace: Pace) {
     let padded = |white: usize| {
         let header = [b"P6".to_vec(), vec![b' '; white], b"1 1 255 abc".to_vec()].concat();
-        (header.len() as f64, best(pace, &mut || timed(|| proved::picture(&header)).0))
+        (header.len() as f64, best(pace, &mut || timed(|| mapping::proved_reading(&header)).0))
     };
     row("P6 header", "bytes of white space", "byte", [100, 10_000, 1_000_000].map(padded));
 }

@@ -9,14 +9,14 @@ mod forms;
 mod growth;
 mod jobs;
 mod pictures;
-mod proved;
 mod race;
+mod table;
 
 use jobs::rounds::Kind;
 use jobs::{mapping, rounds, tables};
 use pictures::Picture;
-use proved::Table;
 use race::Pace;
+use table::Table;
 
 /// The counts of shades of runs and of mapping.
 const COUNTS: [usize; 3] = [8, 16, 64];

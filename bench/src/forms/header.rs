@@ -13,7 +13,7 @@ fn number(input: &[u8], at: usize) -> Option<(u64, usize)> {
     (1..=5).contains(&digits).then_some((value, at + digits))
 }
 
-/// Width, height and the raster's first place, or none where the picture is refused.
+/// Width, height and the raster's bytes, or none where the picture is refused.
 pub fn picture(input: &[u8]) -> Option<[u64; 3]> {
     if !input.starts_with(b"P6") {
         return None;
@@ -23,6 +23,6 @@ pub fn picture(input: &[u8]) -> Option<[u64; 3]> {
     let (depth, at) = number(input, white(input, at)?)?;
     let first = at + b" \t\r\n".contains(input.get(at)?).then_some(1)?;
     let sides = (1..=16384).contains(&width) && (1..=16384).contains(&height) && width * height <= 1 << 24;
-    let whole = (input.len() - first) as u64 == 3 * width * height;
-    (sides && depth == 255 && whole).then_some([width, height, first as u64])
+    let raster = (input.len() - first) as u64;
+    (sides && depth == 255 && raster == 3 * width * height).then_some([width, height, raster])
 }

@@ -1,6 +1,7 @@
 //! Single rounds: plain, in blocks of colours; and shortened, along rows of shades sorted by distance.
 use super::groups::{Groups, Shades};
 use super::{colour_of, distance, table};
+use kohlenfloh::Record;
 
 /// The colours of a block.
 const BLOCK: usize = 256;
@@ -93,14 +94,14 @@ pub type Grouping = fn(&[u32], &[u32], &Shades, &mut [u32]) -> (Groups, u64);
 /// A single round by a grouping, with the tests of its input: total, shades moved, distances.
 pub fn round(
     grouping: Grouping,
-    record: [u64; 2],
+    record: Record,
     (keys, weights): (&[u32], &[u32]),
     coordinates: &mut [u32],
     members: &mut [u32],
 ) -> [u64; 3] {
     assert!(table::is_table(record, keys, weights), "bad table");
     let mut shades = Shades::of(coordinates);
-    let used = record[0] as usize;
+    let used = record.used as usize;
     let count = shades.count as u32;
     assert!(members.len() >= used && members[..used].iter().all(|member| *member < count), "bad member");
     let (groups, distances) = grouping(&keys[..used], &weights[..used], &shades, &mut members[..used]);

@@ -3,6 +3,7 @@ use super::groups::{Groups, Shades};
 use super::onward::group_onward;
 use super::rounds::{group_short, Grouping};
 use super::{colour_of, distance, table, Point};
+use kohlenfloh::Record;
 
 /// The rounded mean of a table.
 fn mean_of(keys: &[u32], weights: &[u32]) -> Point {
@@ -59,7 +60,7 @@ pub const USUAL: Way = Way { first: group_short, onward: false };
 /// A run of `count` shades; totals lent are the limit. The answer is rounds, settled, distances, final total.
 pub fn run(
     way: Way,
-    record: [u64; 2],
+    record: Record,
     (keys, weights): (&[u32], &[u32]),
     count: usize,
     members: &mut [u32],
@@ -67,7 +68,7 @@ pub fn run(
     coordinates: &mut [u32],
 ) -> [u64; 4] {
     assert!(table::is_table(record, keys, weights), "bad table");
-    let used = record[0] as usize;
+    let used = record.used as usize;
     assert!((1..=64).contains(&count) && count <= used && totals.len() <= 200 && members.len() >= used, "refused");
     let (keys, weights, members) = (&keys[..used], &weights[..used], &mut members[..used]);
     let mut shades = starts(keys, weights, count, members);

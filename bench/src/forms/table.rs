@@ -1,11 +1,12 @@
 //! Adding a strip to a table: the table's test, then lists of runs, sorted and merged.
 use super::merge::Merge;
 use super::{key_of, runs};
+use kohlenfloh::Record;
 
 /// Whether record and used entries are a table: every pass goes through to its end.
-pub fn is_table(record: [u64; 2], keys: &[u32], weights: &[u32]) -> bool {
-    let used = record[0] as usize;
-    if used > keys.len().min(weights.len()).min(1 << 20) || record[1] > 1 << 24 {
+pub fn is_table(record: Record, keys: &[u32], weights: &[u32]) -> bool {
+    let used = record.used as usize;
+    if used > keys.len().min(weights.len()).min(1 << 20) || record.pixels > 1 << 24 {
         return false;
     }
     let falls = keys[..used].windows(2).map(|pair| (pair[1] <= pair[0]) as u32).sum::<u32>();
@@ -14,13 +15,13 @@ pub fn is_table(record: [u64; 2], keys: &[u32], weights: &[u32]) -> bool {
         zeros += (*weight == 0) as u32;
         pixels += *weight as u64;
     }
-    falls + zeros == 0 && pixels == record[1] && (used == 0 || keys[used - 1] < 1 << 24)
+    falls + zeros == 0 && pixels == record.pixels && (used == 0 || keys[used - 1] < 1 << 24)
 }
 
 /// Adds a strip, its runs taken in by `merge`. Where it is refused or does not go in whole, the program ends.
-pub fn add(merge: Merge, record: &mut [u64; 2], keys: &mut [u32], weights: &mut [u32], strip: &[u8]) {
+pub fn add(merge: Merge, record: &mut Record, keys: &mut [u32], weights: &mut [u32], strip: &[u8]) {
     assert!(strip.len().is_multiple_of(3) && is_table(*record, keys, weights), "refused");
-    assert!(record[1] + strip.len() as u64 / 3 <= 1 << 24, "full");
+    assert!(record.pixels + strip.len() as u64 / 3 <= 1 << 24, "full");
     match strip.len() / 3 {
         0 => {}
         1..=4096 => take::<4096>(merge, record, keys, weights, strip),
@@ -30,23 +31,23 @@ pub fn add(merge: Merge, record: &mut [u64; 2], keys: &mut [u32], weights: &mut 
 
 /// Takes a strip into a table in lists of at most `MOST` runs.
 #[inline(never)]
-fn take<const MOST: usize>(merge: Merge, record: &mut [u64; 2], keys: &mut [u32], weights: &mut [u32], strip: &[u8]) {
+fn take<const MOST: usize>(merge: Merge, record: &mut Record, keys: &mut [u32], weights: &mut [u32], strip: &[u8]) {
     let (mut list, mut other) = ([0; MOST], [0; MOST]);
     let mut left = strip;
     while !left.is_empty() {
         let (len, pixels) = runs::gather(left, &mut list);
         runs::sort(&mut list[..len], &mut other[..len]);
-        let used = merge(keys, weights, record[0] as usize, &mut list[..len], &mut other[..len]).expect("full");
-        *record = [used as u64, record[1] + pixels as u64];
+        let used = merge(keys, weights, record.used as usize, &mut list[..len], &mut other[..len]).expect("full");
+        *record = Record::new(used as u64, record.pixels + pixels as u64);
         left = &left[3 * pixels..];
     }
 }
 
 /// Adds a strip pixel by pixel: the place by halving, and the entries above a new colour moved up.
-pub fn add_plain(record: &mut [u64; 2], keys: &mut [u32], weights: &mut [u32], strip: &[u8]) {
+pub fn add_plain(record: &mut Record, keys: &mut [u32], weights: &mut [u32], strip: &[u8]) {
     assert!(strip.len().is_multiple_of(3) && is_table(*record, keys, weights), "refused");
     for pixel in strip.chunks_exact(3) {
-        let (key, used) = (key_of(pixel), record[0] as usize);
+        let (key, used) = (key_of(pixel), record.used as usize);
         match keys[..used].binary_search(&key) {
             Ok(at) => weights[at] += 1,
             Err(at) => {
@@ -54,9 +55,9 @@ pub fn add_plain(record: &mut [u64; 2], keys: &mut [u32], weights: &mut [u32], s
                 keys.copy_within(at..used, at + 1);
                 weights.copy_within(at..used, at + 1);
                 (keys[at], weights[at]) = (key, 1);
-                record[0] += 1;
+                record.used += 1;
             }
         }
-        record[1] += 1;
+        record.pixels += 1;
     }
 }

@@ -1,12 +1,24 @@
 //! Jobs of mapping, and the reading of a header.
+use super::ACCEPTED;
 use crate::forms::{blocks, cells, header};
 use crate::pictures::Picture;
-use crate::proved;
 use crate::race::{race, row, timed, Pace};
+use kohlenfloh::calls;
 use std::hint::black_box;
 
 /// A mapper: strip, palette, index picture; the errors of R, G and B.
 type Mapper = fn(&[u8], &[u8], &mut [u8]) -> [u64; 3];
+
+/// Maps a strip into an index picture of its own by the proved library.
+pub fn proved(strip: &[u8], palette: &[u8], index: &mut [u8]) -> [u64; 3] {
+    calls::map_strip(strip, palette, index, 0).expect(ACCEPTED).channel_errors
+}
+
+/// Reads a picture by the proved library: width, height and the raster's bytes.
+pub fn proved_reading(input: &[u8]) -> [u64; 3] {
+    let picture = calls::read_picture(input).expect(ACCEPTED);
+    [picture.width() as u64, picture.height() as u64, picture.raster().len() as u64]
+}
 
 /// Mapping a picture as one strip.
 pub fn whole(pace: Pace, picture: &Picture, palette: &[u8]) {
@@ -20,9 +32,7 @@ pub fn whole(pace: Pace, picture: &Picture, palette: &[u8]) {
     let times = race(
         pace,
         "mapping",
-        &mut [&mut || mapped(proved::map, first), &mut || mapped(blocks::map, second), &mut || {
-            mapped(cells::map, third)
-        }],
+        &mut [&mut || mapped(proved, first), &mut || mapped(blocks::map, second), &mut || mapped(cells::map, third)],
     );
     row(&format!("mapping, k = {}", palette.len() / 3), &picture.name, ("pixel", pixels as f64), &times, "cells");
 }
@@ -35,7 +45,7 @@ pub fn read(pace: Pace, picture: &Picture) {
     let times = race(
         pace,
         "header",
-        &mut [&mut || many(&proved::picture), &mut || many(&|input| header::picture(input).expect("a good picture"))],
+        &mut [&mut || many(&proved_reading), &mut || many(&|input| header::picture(input).expect(ACCEPTED))],
     );
     row("P6 header", &picture.name, ("picture", 10_000.0), &times, "");
 }

@@ -1,10 +1,50 @@
 //! Jobs of rounds and runs.
+use super::ACCEPTED;
 use crate::forms::first::group_counted;
 use crate::forms::rounds::{self, group_plain, group_short, Grouping};
 use crate::forms::run::{self, Way, USUAL};
 use crate::pictures::Picture;
-use crate::proved::{self, Run, Table};
 use crate::race::{race, row, timed, Form, Pace};
+use crate::table::Table;
+use kohlenfloh::calls;
+use kohlenfloh::raw::KF_MOST_COORDINATES;
+
+/// What a run leaves in the memory it is lent, and its answer: rounds made, settled as 1 or 0, distances, final total.
+#[derive(Clone, PartialEq)]
+struct Run {
+    shades: Vec<u32>,
+    members: Vec<u32>,
+    totals: Vec<u64>,
+    answer: [u64; 4],
+}
+
+impl Run {
+    /// Room for a run over `used` entries with at most `limit` rounds.
+    fn room(used: usize, limit: usize) -> Run {
+        Run { shades: vec![0; KF_MOST_COORDINATES], members: vec![1; used], totals: vec![0; limit], answer: [0; 4] }
+    }
+}
+
+/// A run of `count` shades by the proved library: the seconds of the call, and what it leaves.
+fn proved_run(table: &Table, count: usize, limit: usize) -> (f64, Run) {
+    let mut done = Run::room(table.used(), limit);
+    let (members, totals) = (&mut done.members, &mut done.totals);
+    let (seconds, ran) = timed(|| calls::run(table.record, &table.keys, &table.weights, count, limit, members, totals));
+    let ran = ran.expect(ACCEPTED);
+    done.shades.copy_from_slice(&ran.shades);
+    done.answer = [ran.rounds as u64, u64::from(ran.settled), ran.distances, ran.total];
+    (seconds, done)
+}
+
+/// A single round by the proved library: total, shades moved, distances.
+pub fn proved_round(table: &Table, kind: Kind, coordinates: &mut [u32], members: &mut [u32]) -> [u64; 3] {
+    let round = match kind {
+        Kind::Plain => calls::plain_round(table.record, &table.keys, &table.weights, coordinates, members),
+        Kind::First | Kind::Late => calls::short_round(table.record, &table.keys, &table.weights, coordinates, members),
+    };
+    let round = round.expect(ACCEPTED);
+    [round.total, round.moved, round.distances]
+}
 
 /// What stands before a round: the shades' coordinates, and the members.
 #[derive(Clone)]
@@ -15,13 +55,14 @@ pub struct State {
 
 /// The state after so many rounds of a run; after none, starting shades and every colour in shade 0.
 pub fn state(table: &Table, count: usize, rounds_made: usize) -> State {
-    let mut done = Run::room(table.used(), rounds_made);
-    if rounds_made > 0 {
-        proved::run(table, count, &mut done);
+    let done = if rounds_made > 0 {
+        proved_run(table, count, rounds_made).1
     } else {
+        let mut done = Run::room(table.used(), 0);
         let entries = (&table.keys[..], &table.weights[..]);
         run::run(USUAL, table.record, entries, count, &mut done.members, &mut [], &mut done.shades);
-    }
+        done
+    };
     State { coordinates: done.shades[..3 * count].to_vec(), members: done.members }
 }
 
@@ -60,8 +101,7 @@ pub fn single(pace: Pace, kind: Kind, picture: &Picture, table: &Table, before: 
             rounds::round(grouping, table.record, (&table.keys, &table.weights), coordinates, members)
         })
     };
-    let shortened = kind != Kind::Plain;
-    let mut proved = || one(before, |coordinates, members| proved::round(table, shortened, coordinates, members));
+    let mut proved = || one(before, |coordinates, members| proved_round(table, kind, coordinates, members));
     let (mut second, mut third) = (|| rust(same), || rust(group_counted));
     let mut forms: Vec<Form<Outcome>> = vec![&mut proved, &mut second];
     if kind == Kind::First {
@@ -82,22 +122,18 @@ pub fn whole(pace: Pace, picture: &Picture, table: &Table, count: usize, limit: 
         });
         (seconds, Run { answer, ..done })
     };
-    let mut proved = || {
-        let mut done = Run::room(table.used(), limit);
-        let (seconds, ()) = timed(|| proved::run(table, count, &mut done));
-        (seconds, done)
-    };
+    let mut proved = || proved_run(table, count, limit);
     let other = Way { first: group_counted, onward: true };
     let times = race(pace, "run", &mut [&mut proved, &mut || rust(USUAL), &mut || rust(other)]);
-    let mut done = Run::room(table.used(), limit);
-    proved::run(table, count, &mut done);
-    let unit = ("colour and round", table.used() as f64 * done.answer[0] as f64);
+    let [rounds, ..] = proved().1.answer;
+    let unit = ("colour and round", table.used() as f64 * rounds as f64);
     row(&format!("run, limit {limit}, k = {count}"), &picture.name, unit, &times, "first round in blocks, sums go on");
 }
 
 /// The palette of a run at limit 20.
 pub fn palette(table: &Table, count: usize) -> Vec<u8> {
-    let mut done = Run::room(table.used(), 20);
-    proved::run(table, count, &mut done);
-    proved::palette(&done.shades[..3 * count])
+    let (_, done) = proved_run(table, count, 20);
+    let mut palette = vec![0; 3 * count];
+    calls::palette_from_shades(&done.shades[..3 * count], &mut palette).expect(ACCEPTED);
+    palette
 }

@@ -1,9 +1,11 @@
 //! Jobs of the table: a whole picture as one strip, a picture row by row, and the test of a table.
+use super::ACCEPTED;
 use crate::floors;
 use crate::forms::{self, merge};
 use crate::pictures::Picture;
-use crate::proved::{self, Table};
 use crate::race::{race, row, timed, Pace};
+use crate::table::Table;
+use kohlenfloh::{calls, Record};
 
 /// The room of every table.
 const ROOM: usize = 1 << 20;
@@ -19,9 +21,14 @@ fn contents(table: &Table) -> Contents {
 
 /// Fills a table strip by strip, from nothing, by `add`: the seconds, and the contents.
 fn filled(table: &mut Table, picture: &Picture, strip: usize, add: fn(&mut Table, &[u8])) -> (f64, Contents) {
-    table.record = [0; 2];
+    table.record = Record::default();
     let (seconds, ()) = timed(|| picture.raster.chunks(strip).for_each(|strip| add(table, strip)));
     (seconds, contents(table))
+}
+
+/// Adds a strip by the proved library.
+pub fn proved(table: &mut Table, strip: &[u8]) {
+    calls::add_strip(&mut table.record, &mut table.keys, &mut table.weights, strip).expect(ACCEPTED);
 }
 
 /// Adds a strip by the usual form in Rust.
@@ -42,7 +49,7 @@ fn in_strips(pace: Pace, job: &str, picture: &Picture, strip: usize) {
         pace,
         job,
         &mut [
-            &mut || filled(first, picture, strip, proved::add),
+            &mut || filled(first, picture, strip, proved),
             &mut || filled(second, picture, strip, walked),
             &mut || filled(third, picture, strip, leapt),
         ],
@@ -53,7 +60,7 @@ fn in_strips(pace: Pace, job: &str, picture: &Picture, strip: usize) {
 /// The table of a picture.
 pub fn table_of(picture: &Picture) -> Table {
     let mut table = Table::empty(ROOM);
-    proved::add(&mut table, &picture.raster);
+    proved(&mut table, &picture.raster);
     table
 }
 
@@ -75,14 +82,14 @@ pub fn floor(pace: Pace, picture: &Picture) -> String {
     let (raster, pixels) = (&picture.raster, picture.pixels());
     let floor = |table: &mut Table, job: &mut dyn FnMut(&mut [u32], &mut [u32]) -> usize| {
         let (seconds, used) = timed(|| job(&mut table.keys, &mut table.weights));
-        table.record = [used as u64, pixels as u64];
+        table.record = Record::new(used as u64, pixels as u64);
         (seconds, contents(table))
     };
     let times = race(
         pace,
         "table's floors",
         &mut [
-            &mut || filled(first, picture, raster.len(), proved::add),
+            &mut || filled(first, picture, raster.len(), proved),
             &mut || floor(second, &mut |keys, weights| floors::counts(&mut counts, keys, weights, raster)),
             &mut || floor(third, &mut |keys, weights| floors::bits(&mut bits, &mut before, keys, weights, raster)),
         ],
@@ -98,11 +105,8 @@ pub fn test(pace: Pace, picture: &Picture, table: &Table) {
         let (seconds, ()) = timed(|| add(table, &[]));
         (seconds, table.record)
     };
-    let times = race(
-        pace,
-        "the table's test",
-        &mut [&mut || empty(&mut first, proved::add), &mut || empty(&mut second, walked)],
-    );
+    let times =
+        race(pace, "the table's test", &mut [&mut || empty(&mut first, proved), &mut || empty(&mut second, walked)]);
     row("the table's test", &picture.name, ("entry", table.used() as f64), &times, "");
 }
 
@@ -119,6 +123,6 @@ pub fn pixel(pace: Pace, picture: &Picture, table: &Table) {
     let plain = |table: &mut Table, strip: &[u8]| {
         forms::table::add_plain(&mut table.record, &mut table.keys, &mut table.weights, strip)
     };
-    let times = race(pace, "a new pixel", &mut [&mut || once(proved::add), &mut || once(plain)]);
+    let times = race(pace, "a new pixel", &mut [&mut || once(proved), &mut || once(plain)]);
     row("a new pixel", &picture.name, ("pixel", 1.0), &times, "");
 }
