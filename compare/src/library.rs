@@ -1,4 +1,5 @@
 //! The library's side: each call through the boundary, on guarded memory, with rubbish in the answers beforehand.
+#![allow(unsafe_code)]
 use kohlenfloh::raw;
 
 use crate::ask::{Add, Map, Palette, Picture, Round, Run, Search, Table};
@@ -38,7 +39,7 @@ pub fn add(ask: &Add) -> Seen {
     let (mut record, mut keys, mut weights) = lent(&ask.table);
     let strip = Guarded::new("strip", &ask.strip, BYTE);
     let mut taken = answer::<1>("taken");
-    // The pointers are those of live, apart buffers of the lengths told; so it is in every call below.
+    // SAFETY: the pointers are those of live, apart buffers of the lengths told.
     let refusal = unsafe {
         raw::kf_add_strip(
             record.begin_mut().cast(),
@@ -71,6 +72,7 @@ pub fn round(ask: &Round) -> Seen {
         Search::Plain => raw::kf_plain_round,
         Search::Shortened => raw::kf_short_round,
     };
+    // SAFETY: the pointers are those of live, apart buffers of the lengths told.
     let refusal = unsafe {
         call(
             record.begin().cast(),
@@ -101,6 +103,7 @@ pub fn run(ask: &Run) -> Seen {
     let mut totals = Guarded::new("totals", &ask.totals, LONG);
     let mut shades = Guarded::new("shades", &[RUBBISH as u32; 192], WORD);
     let mut answer = answer::<4>("answer");
+    // SAFETY: the pointers are those of live, apart buffers of the lengths told.
     let refusal = unsafe {
         raw::kf_run(
             record.begin().cast(),
@@ -132,6 +135,7 @@ pub fn run(ask: &Run) -> Seen {
 pub fn palette(ask: &Palette) -> Seen {
     let coordinates = Guarded::new("coordinates", &ask.coordinates, WORD);
     let mut palette = Guarded::new("palette", &ask.palette, BYTE);
+    // SAFETY: the pointers are those of live, apart buffers of the lengths told.
     let refusal = unsafe {
         raw::kf_palette_from_shades(coordinates.begin(), coordinates.len(), palette.begin_mut(), palette.len())
     };
@@ -146,6 +150,7 @@ pub fn map(ask: &Map) -> Seen {
     let mut index = Guarded::new("index", &ask.index, BYTE);
     let mut errors = answer::<5>("answer");
     let mut means = answer::<4>("means");
+    // SAFETY: the pointers are those of live, apart buffers of the lengths told.
     let refusal = unsafe {
         raw::kf_map_strip(
             strip.begin(),
@@ -173,6 +178,7 @@ pub fn map(ask: &Map) -> Seen {
 pub fn picture(ask: &Picture) -> Seen {
     let input = Guarded::new("input", &ask.input, BYTE);
     let mut answer = answer::<4>("answer");
+    // SAFETY: the pointers are those of live, apart buffers of the lengths told.
     let refusal = unsafe { raw::kf_read_picture(input.begin(), input.len(), answer.begin_mut().cast()) };
     input.as_before(&ask.input)?;
     Ok(Outcome { refusal, fields: vec![("offset, width, height, raster", Values::Longs(answer.taken_back()?))] })

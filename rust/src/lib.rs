@@ -76,7 +76,6 @@
 //! The crate has one file a subject. [`raw`] is the library's functions as C sees them; [`calls`] makes each a safe
 //! one on slices, and alone has unsafe code; the types lend these functions memory of their own.
 #![deny(missing_docs)]
-#![deny(unsafe_code)]
 
 pub mod calls;
 mod mapping;

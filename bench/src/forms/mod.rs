@@ -4,6 +4,7 @@
 //! without what it does for long tables, small ones, pixels that equal the one before, and colours that stay in their
 //! group. `merge::leap`, `first`, `onward` and `cells` are other methods that give the same answers, and on some
 //! pictures sooner.
+#![allow(unsafe_code)]
 pub mod blocks;
 pub mod cells;
 pub mod first;

@@ -2,8 +2,6 @@
 //!
 //! Table, shades, palette and index picture come from the proved library. This program reads, adds up the errors of the
 //! strips, counts index bytes, divides where it rounds, prints and draws.
-#![forbid(unsafe_code)]
-
 mod digits;
 mod failure;
 mod files;
