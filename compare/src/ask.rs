@@ -1,9 +1,12 @@
 //! What is asked of a call: the values and slices handed in.
+use kohlenfloh::Record;
 
-/// A table as it is lent: the record (used entries, pixels), keys and weights.
+use crate::outcome::Outcome;
+
+/// A table as it is lent: the record, keys and weights.
 #[derive(Clone, Debug)]
 pub struct Table {
-    pub record: [u64; 2],
+    pub record: Record,
     pub keys: Vec<u32>,
     pub weights: Vec<u32>,
 }
@@ -11,7 +14,17 @@ pub struct Table {
 impl Table {
     /// The used entries of a good table, as a number.
     pub fn used(&self) -> usize {
-        self.record[0] as usize
+        self.record.used as usize
+    }
+
+    /// The table that an add left.
+    pub fn left_by(add: &Outcome) -> Table {
+        let record = add.longs("record").try_into().expect("a record has its places");
+        Table {
+            record: Record::from_array(record),
+            keys: add.words("keys").to_vec(),
+            weights: add.words("weights").to_vec(),
+        }
     }
 }
 

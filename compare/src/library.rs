@@ -21,7 +21,7 @@ fn answer<const SIZE: usize>(name: &'static str) -> Guarded<u64> {
 /// A table's slices between guard elements.
 fn lent(table: &Table) -> (Guarded<u64>, Guarded<u32>, Guarded<u32>) {
     (
-        Guarded::new("record", &table.record, LONG),
+        Guarded::new("record", &table.record.to_array(), LONG),
         Guarded::new("keys", &table.keys, WORD),
         Guarded::new("weights", &table.weights, WORD),
     )
@@ -29,7 +29,7 @@ fn lent(table: &Table) -> (Guarded<u64>, Guarded<u32>, Guarded<u32>) {
 
 /// Nothing where a table that is only read is as it was.
 fn kept(table: &Table, lent: (Guarded<u64>, Guarded<u32>, Guarded<u32>)) -> Result<(), Difference> {
-    lent.0.as_before(&table.record)?;
+    lent.0.as_before(&table.record.to_array())?;
     lent.1.as_before(&table.keys)?;
     lent.2.as_before(&table.weights)
 }
@@ -67,7 +67,7 @@ pub fn round(ask: &Round) -> Seen {
     let (record, keys, weights) = lent(&ask.table);
     let mut coordinates = Guarded::new("coordinates", &ask.coordinates, WORD);
     let mut members = Guarded::new("members", &ask.members, WORD);
-    let mut answer = answer::<3>("answer");
+    let mut answer = answer::<{ raw::KF_ROUND_PLACES }>("answer");
     let call = match ask.search {
         Search::Plain => raw::kf_plain_round,
         Search::Shortened => raw::kf_short_round,
@@ -101,8 +101,8 @@ pub fn run(ask: &Run) -> Seen {
     let (record, keys, weights) = lent(&ask.table);
     let mut members = Guarded::new("members", &ask.members, WORD);
     let mut totals = Guarded::new("totals", &ask.totals, LONG);
-    let mut shades = Guarded::new("shades", &[RUBBISH as u32; 192], WORD);
-    let mut answer = answer::<4>("answer");
+    let mut shades = Guarded::new("shades", &[RUBBISH as u32; raw::KF_MOST_COORDINATES], WORD);
+    let mut answer = answer::<{ raw::KF_RUN_PLACES }>("answer");
     // SAFETY: the pointers are those of live, apart buffers of the lengths told.
     let refusal = unsafe {
         raw::kf_run(
@@ -148,8 +148,8 @@ pub fn map(ask: &Map) -> Seen {
     let strip = Guarded::new("strip", &ask.strip, BYTE);
     let palette = Guarded::new("palette", &ask.palette, BYTE);
     let mut index = Guarded::new("index", &ask.index, BYTE);
-    let mut errors = answer::<5>("answer");
-    let mut means = answer::<4>("means");
+    let mut errors = answer::<{ raw::KF_MAP_STRIP_PLACES }>("answer");
+    let mut means = answer::<{ raw::KF_MAP_STRIP_MEAN_PLACES }>("means");
     // SAFETY: the pointers are those of live, apart buffers of the lengths told.
     let refusal = unsafe {
         raw::kf_map_strip(
@@ -177,7 +177,7 @@ pub fn map(ask: &Map) -> Seen {
 /// `kf_read_picture`.
 pub fn picture(ask: &Picture) -> Seen {
     let input = Guarded::new("input", &ask.input, BYTE);
-    let mut answer = answer::<4>("answer");
+    let mut answer = answer::<{ raw::KF_READ_PICTURE_PLACES }>("answer");
     // SAFETY: the pointers are those of live, apart buffers of the lengths told.
     let refusal = unsafe { raw::kf_read_picture(input.begin(), input.len(), answer.begin_mut().cast()) };
     input.as_before(&ask.input)?;

@@ -90,7 +90,7 @@ pub fn add_strip(record: &mut Record, keys: &mut [u32], weights: &mut [u32], str
             &mut taken,
         )
     };
-    *record = Record::in_array(array);
+    *record = Record::from_array(array);
     answer_to(number, taken[0]).map(|()| taken[0])
 }
 

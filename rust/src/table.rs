@@ -31,15 +31,23 @@ impl Record {
         Record { used, pixels }
     }
 
-    /// The record that lies in an array.
+    /// The record in an array of the boundary, by the places that [`raw`](crate::raw) names.
     #[inline]
-    pub(crate) fn in_array(array: [u64; KF_RECORD_PLACES]) -> Record {
+    pub fn from_array(array: [u64; KF_RECORD_PLACES]) -> Record {
         Record::new(array[KF_RECORD_USED], array[KF_RECORD_PIXELS])
     }
 
-    /// The record laid into an array.
+    /// The record as an array of the boundary.
+    ///
+    /// ```
+    /// use kohlenfloh::{raw, Record};
+    ///
+    /// let array = Record::new(2, 4).to_array();
+    /// assert_eq!((array[raw::KF_RECORD_USED], array[raw::KF_RECORD_PIXELS]), (2, 4));
+    /// assert_eq!(Record::from_array(array), Record::new(2, 4));
+    /// ```
     #[inline]
-    pub(crate) fn to_array(self) -> [u64; KF_RECORD_PLACES] {
+    pub fn to_array(self) -> [u64; KF_RECORD_PLACES] {
         let mut array = [0; KF_RECORD_PLACES];
         array[KF_RECORD_USED] = self.used;
         array[KF_RECORD_PIXELS] = self.pixels;

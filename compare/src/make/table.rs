@@ -1,6 +1,8 @@
 //! Tables, good and damaged.
 use std::collections::BTreeSet;
 
+use kohlenfloh::Record;
+
 use super::colours::colour;
 use crate::ask::Table;
 use crate::chance::Chance;
@@ -15,7 +17,7 @@ pub fn table(chance: &mut Chance, levels: &[u8], most: usize) -> Table {
     let drawn: BTreeSet<u32> = (0..draws).map(|_| key_of(&colour(chance, levels))).collect();
     let mut keys: Vec<u32> = drawn.into_iter().collect();
     let mut weights = weights(chance, keys.len());
-    let record = [keys.len() as u64, sum(&weights)];
+    let record = Record::new(keys.len() as u64, sum(&weights));
     for slice in [&mut keys, &mut weights] {
         let spare = chance.one_of(&[0, 0, 1, 2, 5, 40]);
         slice.extend(chance.words(spare));
@@ -48,10 +50,10 @@ pub fn damage(chance: &mut Chance, table: &mut Table) {
     let room = table.keys.len().min(table.weights.len());
     if table.used() == 0 || chance.one_in(4) {
         match chance.below(4) {
-            0 => table.record[0] = room as u64 + 1,
-            1 => table.record[0] = chance.one_of(&[u64::MAX, 1 << 32, MOST_ENTRIES as u64 + 1]),
-            2 => table.record[1] = chance.one_of(&[table.record[1] + 1, table.record[1].wrapping_sub(1)]),
-            _ => table.record[1] = chance.one_of(&[u64::MAX, 1 << 32, MOST + 1]),
+            0 => table.record.used = room as u64 + 1,
+            1 => table.record.used = chance.one_of(&[u64::MAX, 1 << 32, MOST_ENTRIES as u64 + 1]),
+            2 => table.record.pixels = chance.one_of(&[table.record.pixels + 1, table.record.pixels.wrapping_sub(1)]),
+            _ => table.record.pixels = chance.one_of(&[u64::MAX, 1 << 32, MOST + 1]),
         }
         return;
     }
@@ -60,7 +62,7 @@ pub fn damage(chance: &mut Chance, table: &mut Table) {
         0 => damage_key(chance, table, place),
         1 => lose_weight(table, place),
         2 => gain_weight(chance, table, place),
-        _ => table.record[0] -= 1,
+        _ => table.record.used -= 1,
     }
 }
 
@@ -75,15 +77,15 @@ fn damage_key(chance: &mut Chance, table: &mut Table, place: usize) {
 
 /// A weight of 0 and a pixel total to match.
 fn lose_weight(table: &mut Table, place: usize) {
-    table.record[1] -= u64::from(table.weights[place]);
+    table.record.pixels -= u64::from(table.weights[place]);
     table.weights[place] = 0;
 }
 
 /// A weight so large that the pixel total, made to match, is above 16,777,216; at times the total does not match.
 fn gain_weight(chance: &mut Chance, table: &mut Table, place: usize) {
-    let least = MOST - table.record[1] + u64::from(table.weights[place]) + 1;
+    let least = MOST - table.record.pixels + u64::from(table.weights[place]) + 1;
     table.weights[place] = chance.one_of(&[least as u32, u32::MAX]);
     if !chance.one_in(4) {
-        table.record[1] = sum(&table.weights[..table.used()]);
+        table.record.pixels = sum(&table.weights[..table.used()]);
     }
 }

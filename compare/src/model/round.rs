@@ -83,7 +83,7 @@ impl Model {
 
     /// "Single round: 2, 4, 8, 7, 9 (plain: no 9)."
     pub fn round(&mut self, ask: &Round) -> Outcome {
-        let used = usize::try_from(ask.table.record[0]).unwrap_or(usize::MAX);
+        let used = usize::try_from(ask.table.record.used).unwrap_or(usize::MAX);
         let count = ask.coordinates.len() / 3;
         // "members fewer than the used entries"
         let short = when(ask.members.len() < used, "members fewer than used");

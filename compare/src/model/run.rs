@@ -68,7 +68,7 @@ impl Model {
 
     /// "Run: 2, 4, 5, 6, 7."
     pub fn run(&mut self, ask: &Run) -> Outcome {
-        let used = u128::from(ask.table.record[0]);
+        let used = u128::from(ask.table.record.used);
         // "members fewer than the used entries; totals fewer than the round limit (20 for 0)"
         let short_members = when((ask.members.len() as u128) < used, "members fewer than used");
         let short_totals = when(ask.totals.len() < limit_meant(ask.limit), "totals fewer than the limit");

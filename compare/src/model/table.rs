@@ -1,6 +1,8 @@
 //! The table: its test and adding a strip.
 use std::collections::BTreeMap;
 
+use kohlenfloh::Record;
+
 use super::{Model, BAD_STRIP, BAD_TABLE, FULL, MOST_ENTRIES, MOST_KEY, MOST_PIXELS};
 use crate::ask::{Add, Table};
 use crate::outcome::{Outcome, Values};
@@ -14,7 +16,7 @@ pub fn room(table: &Table) -> u128 {
 /// BAD TABLE: "used entries above the room, a used key above 16,777,215 or not above the one before, a used weight of
 /// 0, or a pixel total that isn't the sum of the used weights or is above 16,777,216".
 pub fn bad_table(table: &Table) -> Option<&'static str> {
-    let [used, pixels] = table.record.map(u128::from);
+    let (used, pixels) = (u128::from(table.record.used), u128::from(table.record.pixels));
     if used > room(table) {
         return Some("used above the room");
     }
@@ -48,7 +50,7 @@ pub fn key_of(pixel: &[u8]) -> u32 {
 fn outcome(refusal: u32, taken: u64, table: Table) -> Outcome {
     let fields = vec![
         ("taken", Values::Longs(vec![taken])),
-        ("record", Values::Longs(table.record.to_vec())),
+        ("record", Values::Longs(table.record.to_array().to_vec())),
         ("keys", Values::Words(table.keys)),
         ("weights", Values::Words(table.weights)),
     ];
@@ -68,7 +70,7 @@ impl Model {
             return outcome(BAD_TABLE, 0, ask.table.clone());
         }
         let mut entries: BTreeMap<u32, u32> = used_entries(&ask.table).collect();
-        let mut pixels = u128::from(ask.table.record[1]);
+        let mut pixels = u128::from(ask.table.record.pixels);
         let mut taken = 0;
         let mut refusal = 0;
         // "Adding a strip takes pixels from first to last."
@@ -103,7 +105,7 @@ fn used_entries(table: &Table) -> impl Iterator<Item = (u32, u32)> + '_ {
 /// The table with these entries. "Places past the used entries keep their values."
 fn with_entries(before: &Table, entries: &BTreeMap<u32, u32>, pixels: u128) -> Table {
     let mut table = before.clone();
-    table.record = [entries.len() as u64, pixels as u64];
+    table.record = Record::new(entries.len() as u64, pixels as u64);
     for (place, (&key, &weight)) in entries.iter().enumerate() {
         table.keys[place] = key;
         table.weights[place] = weight;

@@ -1,5 +1,7 @@
 //! The boundaries that document 01 names, met on purpose: the largest table and picture, and each bound from both
 //! sides. The model computes these too; it only takes longer.
+use kohlenfloh::Record;
+
 use super::Subject;
 use crate::ask::{Add, Map, Palette, Picture, Round, Run, Search, Table};
 use crate::bench::Bench;
@@ -42,9 +44,7 @@ fn refused_by(number: u32, seen: Outcome) -> Result<Outcome, Difference> {
 /// An add that answers this number.
 fn add(bench: &mut Bench, number: u32, ask: &Add) -> Result<Table, Difference> {
     let seen = refused_by(number, bench.compare(ask, library::add, Model::add)?)?;
-    let record = seen.longs("record");
-    let (keys, weights) = (seen.words("keys").to_vec(), seen.words("weights").to_vec());
-    Ok(Table { record: [record[0], record[1]], keys, weights })
+    Ok(Table::left_by(&seen))
 }
 
 /// The three bytes of a key.
@@ -58,19 +58,20 @@ fn most_entries(bench: &mut Bench, chance: &mut Chance) -> Result<Table, Differe
     let keys = (0..ENTRIES).map(|number| (number * 0x9E_3779 * 16 + 5) % (1 << 24));
     let strip: Vec<u8> = keys.flat_map(pixel).collect();
     let longer = ENTRIES + 3;
-    let table = Table { record: [0, 0], keys: chance.words(longer), weights: chance.words(longer + 2) };
+    let table = Table { record: Record::default(), keys: chance.words(longer), weights: chance.words(longer + 2) };
     let table = add(bench, 0, &Add { table, strip })?;
     Difference::unless_equal("entries of a full table", table.used(), ENTRIES)?;
     let (known, unknown) = (pixel(5), pixel(6));
     let table = add(bench, FULL, &Add { table, strip: unknown.to_vec() })?;
     let table = add(bench, 0, &Add { table, strip: known.to_vec() })?;
     let mut table = add(bench, FULL, &Add { table, strip: [known, unknown, known].concat() })?;
-    table.record[0] += 1;
-    let last = table.record[0] as usize - 1;
+    table.record.used += 1;
+    let last = table.record.used as usize - 1;
     (table.keys[last], table.weights[last]) = (16_777_215, 1);
-    table.record[1] += 1;
+    table.record.pixels += 1;
     let mut table = add(bench, BAD_TABLE, &Add { table, strip: Vec::new() })?;
-    table.record = [table.record[0] - 1, table.record[1] - 1];
+    table.record.used -= 1;
+    table.record.pixels -= 1;
     Ok(table)
 }
 
@@ -92,14 +93,14 @@ fn on_most_entries(bench: &mut Bench, chance: &mut Chance, table: Table) -> Resu
 
 /// 16,777,216 pixels, all but a few of them in one strip: one more is not taken, none more is.
 fn most_pixels(bench: &mut Bench) -> Result<(), Difference> {
-    let table = Table { record: [1, 2], keys: vec![9, 0, 0, 8], weights: vec![2, 0, 0, 8] };
+    let table = Table { record: Record::new(1, 2), keys: vec![9, 0, 0, 8], weights: vec![2, 0, 0, 8] };
     let strip = [pixel(9), pixel(70_000)].concat().repeat((PIXELS - 2) / 2);
     let table = add(bench, 0, &Add { table, strip })?;
-    Difference::unless_equal("pixels of a full table", table.record[1], PIXELS as u64)?;
+    Difference::unless_equal("pixels of a full table", table.record.pixels, PIXELS as u64)?;
     let table = add(bench, FULL, &Add { table, strip: pixel(9).to_vec() })?;
     let mut table = add(bench, 0, &Add { table, strip: Vec::new() })?;
     table.weights[0] -= 1;
-    table.record[1] -= 1;
+    table.record.pixels -= 1;
     add(bench, FULL, &Add { table, strip: [pixel(9), pixel(9)].concat() }).map(drop)
 }
 
@@ -108,7 +109,7 @@ fn colours(count: usize) -> Table {
     let keys = (0..count).map(|number| (number * 7919 % 256 + 65536 * (number % 200)) as u32);
     let mut keys: Vec<u32> = keys.collect();
     keys.sort_unstable();
-    Table { record: [count as u64; 2], keys, weights: vec![1; count] }
+    Table { record: Record::new(count as u64, count as u64), keys, weights: vec![1; count] }
 }
 
 /// 64 shades are accepted and 65 are not, by the run, by both rounds and by the palette.

@@ -4,6 +4,8 @@ use std::fs;
 use std::path::{Path, PathBuf};
 use std::process::{self, Command};
 
+use kohlenfloh::Record;
+
 use super::Subject;
 use crate::ask::{Add, Map, Palette, Picture, Run, Table};
 use crate::bench::Bench;
@@ -105,10 +107,9 @@ fn read(bench: &mut Bench, input: &[u8]) -> Result<Vec<u8>, Difference> {
 /// The table of a raster.
 fn counted(bench: &mut Bench, raster: &[u8]) -> Result<Table, Difference> {
     let room = raster.len() / 3;
-    let table = Table { record: [0, 0], keys: vec![0; room], weights: vec![0; room] };
+    let table = Table { record: Record::default(), keys: vec![0; room], weights: vec![0; room] };
     let seen = bench.compare(&Add { table, strip: raster.to_vec() }, library::add, Model::add)?;
-    let (record, keys, weights) = (seen.longs("record"), seen.words("keys"), seen.words("weights"));
-    Ok(Table { record: [record[0], record[1]], keys: keys.to_vec(), weights: weights.to_vec() })
+    Ok(Table::left_by(&seen))
 }
 
 /// A table's used entries, key and weight.

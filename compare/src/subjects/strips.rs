@@ -60,12 +60,7 @@ fn add_strips(bench: &mut Bench, table: Table, strips: &[Vec<u8>]) -> Result<Out
         ask.strip.clone_from(strip);
         last = bench.compare(&ask, library::add, Model::add)?;
         taken += last.longs("taken")[0];
-        let record = last.longs("record");
-        ask.table = Table {
-            record: [record[0], record[1]],
-            keys: last.words("keys").to_vec(),
-            weights: last.words("weights").to_vec(),
-        };
+        ask.table = Table::left_by(&last);
         if last.refusal != 0 {
             break;
         }
