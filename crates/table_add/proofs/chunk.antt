@@ -1,2 +1,2 @@
--- The pixels of a chunk as a sorted list of runs, and the slices with them.
+-- The pixels of a chunk as a sorted list of streaks, and the slices with them.
 pub mod Listing

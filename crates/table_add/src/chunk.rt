@@ -1,8 +1,8 @@
-// Pixels of a strip, tried at once: one alone where they are few, else a list of runs.
+// Pixels of a strip, tried at once: one alone where they are few, else a list of streaks.
 ghost use mathlib.Core.Path.{_≡_};
 ghost use Prim.Native.Nat.{_≤_, _<_};
 ghost use lib.ListN.{length};
-ghost use Rattle.table_streaks.specs.{mostRuns};
+ghost use Rattle.table_streaks.specs.{mostStreaks};
 ghost use Rattle.table_add.specs.Trying.{Ready, Tried};
 use super::pixel::add_pixel;
 use table_merge::merge::count_with;
@@ -35,8 +35,8 @@ pub fn add_one(
     }
 }
 
-// Pixels from `from` on, `most` at the most: as many as the list holds as runs. The two lists are
-// room to work in, of at most 65,536 places.
+// Pixels from `from` on, `most` at the most: as many as the list holds as streaks. The two lists
+// are room to work in, of at most 65,536 places.
 fn add_chunk(
     keys: &mut [u32],
     weights: &mut [u32],
@@ -49,7 +49,7 @@ fn add_chunk(
     other: &mut [u32],
 ) -> Chunk
     requires { ⌜ Ready used room (now keys) (now weights) (now strip) from most ⌝ }
-    requires { ⌜ (0 < length (now list)) × (length (now list) ≤ mostRuns)
+    requires { ⌜ (0 < length (now list)) × (length (now list) ≤ mostStreaks)
         × (length (now list) ≤ length (now other)) ⌝ }
     ensures { λ r. ⌜ Tried used room (now (keys .entry)) (now (weights .entry)) (now (strip .entry))
         from most (r .used) (r .pixels) (now (keys .exit)) (now (weights .exit)) ⌝ }
@@ -57,7 +57,7 @@ fn add_chunk(
     let got = table_streaks::gather::gather(strip, from, most, list);
     let len = got.len;
     let pixels = got.pixels;
-    table_streaks::sort::sort_runs(list, other, len);
+    table_streaks::sort::sort_streaks(list, other, len);
     let next = count_with(keys, used, list, len);
     if room < next {
         return Chunk { used: next, pixels };

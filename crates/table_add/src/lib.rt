@@ -1,10 +1,10 @@
-// Adding pixels to a table that lies in two slices: one by one, or gathered as runs, sorted and
+// Adding pixels to a table that lies in two slices: one by one, or gathered as streaks, sorted and
 // merged.
 //
 // Functions, for the crate above (each says what it requires)
 //   pixel::add_pixel   one pixel, by a search for its place
 //   chunk::add_one     one pixel of a strip
-//   chunk::add_some    as many pixels of a strip as one list of runs holds
+//   chunk::add_some    as many pixels of a strip as one list of streaks holds
 // A function that adds answers the number of entries with the pixels. Where that is above the room,
 // the slices are as they were.
 //

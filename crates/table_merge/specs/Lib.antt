@@ -4,8 +4,8 @@
 --   sixteenPassed ks i k   the last sixteen of the first i keys are there, and none is below k
 --   passSixteens ks i k    how many of the first i keys are left, passed by sixteens as long as they can be
 --   lift n i o         the n values before place i stored before place o
---   giveBack           the runs of a list added to a table, the last one first
---   withRuns           the table in two slices with the first runs of a list
+--   giveBack           the streaks of a list added to a table, the last one first
+--   withStreaks        the table in two slices with the first streaks of a list
 --   InOrder f n        f never falls along the first n of a list
 pub mod Walk
-unfoldable pub use Walk.{below, allBelow, sixteenPassed, passSixteens, lift, giveBack, withRuns, InOrder}
+unfoldable pub use Walk.{below, allBelow, sixteenPassed, passSixteens, lift, giveBack, withStreaks, InOrder}

@@ -2,7 +2,8 @@
 ghost use mathlib.Core.Path.{_≡_};
 ghost use Prim.Native.Nat.{_≤_};
 ghost use lib.ListN.{length, take};
-ghost use Rattle.table_merge.specs.Walk.{below, allBelow, sixteenPassed, passSixteens, InOrder};
+ghost use Rattle.table_merge.specs.Walk.{below, allBelow, sixteenPassed};
+ghost use Rattle.table_merge.specs.Walk.{passSixteens, InOrder};
 
 // Whether the first `i` keys, which rise, are all below `key`.
 pub fn clear(keys: &[u32], i: usize, key: u32) -> bool

@@ -1,2 +1,2 @@
--- The loop that gathers pixels as runs: what holds at each turn.
+-- The loop that gathers pixels as streaks: what holds at each turn.
 pub mod Gathers

@@ -1,14 +1,14 @@
-// Gathering the pixels of a strip as runs of equal ones.
+// Gathering the pixels of a strip as streaks of equal ones.
 ghost use mathlib.Core.Path.{_≡_};
 ghost use Prim.Native.Nat.{ℕ, _+_, _*_, _≤_, _<_};
 ghost use lib.ListN.{length, take, drop};
 ghost use Rattle.number.specs.{sumOf};
 ghost use Rattle.colour.specs.{mostKey};
 ghost use Rattle.table_entries.specs.{stripKeys, keyAt, countOf};
-ghost use Rattle.table_streaks.specs.Run.{runCount, joined};
-use super::run::run_key;
+ghost use Rattle.table_streaks.specs.Streak.{streakCount, joined};
+use super::streak::streak_key;
 
-// Runs in a list, and the pixels in them.
+// Streaks in a list, and the pixels in them.
 pub struct Gathered {
     pub len: usize,
     pub pixels: usize,
@@ -22,44 +22,44 @@ pub fn key_at(s: &[u8], at: usize) -> u32
     colour::key_of(s[at], s[at + 1], s[at + 2])
 }
 
-// Whether one pixel more of colour `key` goes into the run.
-fn joins(run: u32, key: u32) -> bool
-    ensures { λ r. ⌜ r ≡ joined run key ⌝ }
+// Whether one pixel more of colour `key` goes into the streak.
+fn joins(streak: u32, key: u32) -> bool
+    ensures { λ r. ⌜ r ≡ joined streak key ⌝ }
 {
-    if run_key(run) == key {
-        return run % 256 < 255;
+    if streak_key(streak) == key {
+        return streak % 256 < 255;
     }
     false
 }
 
-// The pixels from `from` on, `most` at the most, as runs: as many as the list has places for.
+// The pixels from `from` on, `most` at the most, as streaks: as many as the list has places for.
 // Requires at least one pixel, all of them in the strip, and at least one place.
 pub fn gather(strip: &[u8], from: usize, most: usize, list: &mut [u32]) -> Gathered
     requires { ⌜ (0 < most) × (3 * (from + most) ≤ length (now strip)) × (0 < length (now list)) ⌝ }
     ensures { λ r. ⌜ (0 < r .pixels) × (r .pixels ≤ most)
         × (r .len ≤ length (now (list .entry))) ⌝ }
-    ensures { λ r. ⌜ ((c : ℕ) → sumOf (runCount c) (take (r .len) (now (list .exit)))
+    ensures { λ r. ⌜ ((c : ℕ) → sumOf (streakCount c) (take (r .len) (now (list .exit)))
         ≡ countOf c (take (r .pixels) (drop from (stripKeys (now (strip .entry)))))) ⌝ }
 {
-    let mut run = 256 * key_at(strip, 3 * from);
+    let mut streak = 256 * key_at(strip, 3 * from);
     let mut len = 0;
     let mut done = 1;
     while done < most {
         let key = key_at(strip, 3 * (from + done));
-        if joins(run, key) {
-            run += 1;
+        if joins(streak, key) {
+            streak += 1;
             done += 1;
         } else {
-            list[len] = run;
+            list[len] = streak;
             len += 1;
             if len == list.len() {
                 return Gathered { len, pixels: done };
             }
-            run = 256 * key;
+            streak = 256 * key;
             done += 1;
         }
     }
-    list[len] = run;
+    list[len] = streak;
     Gathered {
         len: len + 1,
         pixels: done,

@@ -1,13 +1,15 @@
-// Runs of equal pixels: a strip's pixels gathered as runs, and runs sorted by key.
-// A run is one number, 256 * key + (pixels - 1), so that any u32 is a run and sorting moves four
-// bytes.
+// Streaks of equal pixels: a strip's pixels gathered as streaks, and streaks sorted by key.
+// A streak is one number, 256 * key + (pixels - 1), so that any u32 is a streak and sorting moves
+// four bytes.
 //
 // Functions, for the crates above (each says what it requires)
-//   run::run_key, run::run_pixels   a run taken apart
-//   gather::gather                  pixels of a strip, as runs
-//   sort::sort_runs                 runs in the order of their keys
+//   gather::key_at         the key of a pixel of a strip
+//   gather::gather         pixels of a strip, as streaks
+//   sort::sort_streaks     streaks in the order of their keys
+//   streak::streak_key     the key of a streak
+//   streak::streak_pixels  the pixels of a streak
 //
 // Read next: specs/Lib.antt (what the words mean), proofs/Promises.antt (what is shown).
 pub mod gather;
-pub mod run;
 pub mod sort;
+pub mod streak;

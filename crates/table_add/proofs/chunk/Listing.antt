@@ -1,4 +1,4 @@
--- Laws of a chunk of pixels as a sorted list of runs: the table with the runs is the table with the pixels.
+-- Laws of a chunk of pixels as a sorted list of streaks: the table with the streaks is the table with the pixels.
 use mathlib.Core.Path.{_≡_, ap, _∙_}
 use mathlib.Core.Bool.{true, cond}
 use mathlib.Core.List.{List}
@@ -12,7 +12,7 @@ use Rattle.number.specs.{sumOf}
 use Rattle.table_entries.specs.{Entry, pixelsOf, sound, stripKeys, countOf, putAll}
 use Rattle.table_entries.proofs.Gives.{Keys, keys-take, putAll-pixels}
 use Rattle.table_entries.proofs.Strips.{byte-keys, keys-drop}
-use Rattle.table_streaks.specs.{runKey, runCount, sorted}
+use Rattle.table_streaks.specs.{streakKey, streakCount, sorted}
 use Rattle.table_streaks.proofs.sort.Order.{sorted-sum, sorted-length, sorted-rises}
 use Rattle.table_merge.specs.{giveBack}
 use Rattle.table_add.specs.Trying.{piece}
@@ -22,20 +22,20 @@ use Rattle.table_merge.proofs.merge.Backs.{back-all}
 pub piece-keys : (s : List ℕ) (from n : ℕ) → ((i : ℕ) → getD s i 0 < 256) → Keys (piece s from n)
 piece-keys s from n h = keys-take n (keys-drop from (byte-keys s h))
 
--- len runs of L hold the pixels of a piece, and lie sorted in L′
+-- len streaks of L hold the pixels of a piece, and lie sorted in L′
 pub record Listed (s : List ℕ) (from n len : ℕ) (L L′ : List ℕ) : Type 0 where
   pub bytes : (i : ℕ) → getD s i 0 < 256
-  pub sums : (c : ℕ) → sumOf (runCount c) (take len L) ≡ countOf c (piece s from n)
+  pub sums : (c : ℕ) → sumOf (streakCount c) (take len L) ≡ countOf c (piece s from n)
   pub sorts : take len L′ ≡ sorted (take len L)
   pub room : len ≤ length L
   pub room′ : len ≤ length L′
 
 module _ {s : List ℕ} {from n len : ℕ} {L L′ : List ℕ} (r : Listed s from n len L L′) where
   -- their keys rise
-  pub list-rises : (i j : ℕ) → i ≤ j → j < len → runKey (getD L′ i 0) ≤ runKey (getD L′ j 0)
+  pub list-rises : (i j : ℕ) → i ≤ j → j < len → streakKey (getD L′ i 0) ≤ streakKey (getD L′ j 0)
   list-rises i j h l =
       let e : length (sorted (take len L)) ≡ len = sorted-length (take len L) ∙ length-take-le len L (r .room) in
-      let k : runKey (getD (take len L′) i 0) ≤ runKey (getD (take len L′) j 0)
+      let k : streakKey (getD (take len L′) i 0) ≤ streakKey (getD (take len L′) j 0)
       = rw (r .sorts) (sorted-rises (take len L) i j h (rw e l)) in
       rw (getD-take len L′ i 0 (omega arith), getD-take len L′ j 0 l) at k
 
@@ -43,7 +43,7 @@ module _ {s : List ℕ} {from n len : ℕ} {L L′ : List ℕ} (r : Listed s fro
   pub list-all : (es : List Entry) → sound 0 es ≡ true → giveBack (take len L′) es ≡ putAll es (piece s from n)
   list-all es h =
       back-all (take len L′) (piece s from n) es (piece-keys s from n (r .bytes)) h
-      (λ c. ap (sumOf (runCount c)) (r .sorts) ∙ sorted-sum (runCount c) (take len L) ∙ r .sums c)
+      (λ c. ap (sumOf (streakCount c)) (r .sorts) ∙ sorted-sum (streakCount c) (take len L) ∙ r .sums c)
 
 -- a piece has no more pixels than it was cut for
 pub piece-pixels : (es : List Entry) (s : List ℕ) (from n : ℕ) → pixelsOf (putAll es (piece s from n)) ≤ pixelsOf es + n

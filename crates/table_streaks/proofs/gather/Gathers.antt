@@ -1,5 +1,5 @@
--- Laws of the loop that gathers pixels as runs: at each turn the runs laid and the one at hand hold, colour by colour,
--- the pixels passed.
+-- Laws of the loop that gathers pixels as streaks: at each turn the streaks laid and the one at hand hold, colour by
+-- colour, the pixels passed.
 use mathlib.Core.Path.{_≡_, refl, sym, _∙_}
 use mathlib.Core.Bool.{true, cond}
 use mathlib.Core.Logic.{inl, inr}
@@ -17,7 +17,7 @@ use Rattle.number.proofs.ListSums.{sumOf-append}
 use Rattle.colour.specs.{mostKey}
 use Rattle.table_entries.specs.{stripKeys, keyAt, countOf}
 use Rattle.table_entries.proofs.Strips.{strip-at, strip-at-least}
-use Rattle.table_streaks.specs.Run.{runKey, runPixels, runCount, joined}
+use Rattle.table_streaks.specs.Streak.{streakKey, streakPixels, streakCount, joined}
 
 -- ---- counts of pixels
 
@@ -39,13 +39,13 @@ chunk-more c from done s h =
     = getD-drop from (stripKeys s) done 0 ∙ strip-at (from + done) s h in
     rw (← e) (count-more c done (drop from (stripKeys s)) l)
 
--- ---- a run
+-- ---- a streak
 
 -- of one pixel
-run-new : (c k : ℕ) → k ≤ mostKey → runCount c (256 * k) ≡ cond (eqb k c) 1 0
-run-new c k h =
-    let a : runKey (256 * k) ≡ k = omega arith in
-    let b : runPixels (256 * k) ≡ 1 = omega arith in
+streak-new : (c k : ℕ) → k ≤ mostKey → streakCount c (256 * k) ≡ cond (eqb k c) 1 0
+streak-new c k h =
+    let a : streakKey (256 * k) ≡ k = omega arith in
+    let b : streakPixels (256 * k) ≡ 1 = omega arith in
     rw (a, b) (elim (bool (eqb k c)) [
       | inl t ↦ simp t
       | inr t ↦ simp t
@@ -53,21 +53,21 @@ run-new c k h =
 
 -- what `joined` says
 pub record Joins (x k : ℕ) : Type 0 where
-  pub same : runKey x ≡ k
+  pub same : streakKey x ≡ k
   pub room : x % 256 < 255
 
 -- where it holds
 pub does-join : (x k : ℕ) → joined x k ≡ true → Joins x k
-does-join x k h = elim (bool (eqb (runKey x) k)) [
-  | inl t ↦ record { same = eqb-true (runKey x) k t; room = ltb-true (x % 256) 255 (simp t at h) }
+does-join x k h = elim (bool (eqb (streakKey x) k)) [
+  | inl t ↦ record { same = eqb-true (streakKey x) k t; room = ltb-true (x % 256) 255 (simp t at h) }
   | inr t ↦ never (sym (simp t at h))
 ]
 
 -- with one pixel more
-run-more : (c x k : ℕ) → Joins x k → runCount c (x + 1) ≡ runCount c x + cond (eqb k c) 1 0
-run-more c x k j =
-    let a : runKey (x + 1) ≡ k = omega (arith, j .same, j .room) in
-    let b : runPixels (x + 1) ≡ runPixels x + 1 = omega (arith, j .room) in
+streak-more : (c x k : ℕ) → Joins x k → streakCount c (x + 1) ≡ streakCount c x + cond (eqb k c) 1 0
+streak-more c x k j =
+    let a : streakKey (x + 1) ≡ k = omega (arith, j .same, j .room) in
+    let b : streakPixels (x + 1) ≡ streakPixels x + 1 = omega (arith, j .room) in
     rw (a, b, j .same) (elim (bool (eqb k c)) [
       | inl t ↦ simp t
       | inr t ↦ simp t
@@ -75,15 +75,15 @@ run-more c x k j =
 
 -- ---- the loop
 
--- `len` runs are laid, `run` is at hand, and `done` pixels are in them
-pub record Gathering (s : List ℕ) (from most : ℕ) (R₀ R : List ℕ) (run len done : ℕ) : Type 0 where
+-- `len` streaks are laid, `streak` is at hand, and `done` pixels are in them
+pub record Gathering (s : List ℕ) (from most : ℕ) (R₀ R : List ℕ) (streak len done : ℕ) : Type 0 where
   pub some : 0 < done
   pub within : done ≤ most
   pub bytes : 3 * (from + most) ≤ length s
   pub room : len < length R
   pub keeps : length R ≡ length R₀
-  pub small : run < 4294967296
-  pub sums : (c : ℕ) → sumOf (runCount c) (take len R) + runCount c run ≡ countOf c
+  pub small : streak < 4294967296
+  pub sums : (c : ℕ) → sumOf (streakCount c) (take len R) + streakCount c streak ≡ countOf c
       (take done (drop from (stripKeys s)))
 
 -- the first pixel
@@ -98,16 +98,17 @@ gather-start s from most R k a b d e h = record {
   small = omega arith;
   sums = λ c.
       let z : from + 0 ≡ from = omega arith in
-      omega (arith, run-new c k h, rw (z, ← e) at (chunk-more c from 0 s (omega arith)));
+      omega (arith, streak-new c k h, rw (z, ← e) at (chunk-more c from 0 s (omega arith)));
 }
 
-module _ {s : List ℕ} {from most : ℕ} {R₀ R : List ℕ} {run len done : ℕ}
-    (g : Gathering s from most R₀ R run len done) where
-  -- with the run at hand laid, the list holds all pixels passed
+module _ {s : List ℕ} {from most : ℕ} {R₀ R : List ℕ} {streak len done : ℕ}
+    (g : Gathering s from most R₀ R streak len done) where
+  -- with the streak at hand laid, the list holds all pixels passed
   pub gather-done : (c : ℕ)
-      → sumOf (runCount c) (take (len + 1) (set R len run)) ≡ countOf c (take done (drop from (stripKeys s)))
+      → sumOf (streakCount c) (take (len + 1) (set R len streak)) ≡ countOf c (take done (drop from (stripKeys s)))
   gather-done c =
-      rw (add-one, take-suc-set R len run (g .room)) (sumOf-append (runCount c) (take len R) (run ∷ []) ∙ omega arith)
+      rw (add-one, take-suc-set R len streak (g .room))
+      (sumOf-append (streakCount c) (take len R) (streak ∷ []) ∙ omega arith)
       ∙ g .sums c
 
   module _ (l : done < most) (k : ℕ) (e : k ≡ keyAt s (3 * (from + done))) where
@@ -116,8 +117,8 @@ module _ {s : List ℕ} {from most : ℕ} {R₀ R : List ℕ} {run len done : �
         ≡ countOf c (take done (drop from (stripKeys s))) + cond (eqb k c) 1 0
     next c = rw e (chunk-more c from done s (omega (arith, g .bytes)))
 
-    -- a pixel that goes into the run at hand
-    pub gather-join : Joins run k → Gathering s from most R₀ R (run + 1) len (done + 1)
+    -- a pixel that goes into the streak at hand
+    pub gather-join : Joins streak k → Gathering s from most R₀ R (streak + 1) len (done + 1)
     gather-join j = record {
       some = omega arith;
       within = omega arith;
@@ -125,12 +126,12 @@ module _ {s : List ℕ} {from most : ℕ} {R₀ R : List ℕ} {run len done : �
       room = g .room;
       keeps = g .keeps;
       small = omega (arith, g .small, j .room);
-      sums = λ c. omega (arith, g .sums c, next c, run-more c run k j);
+      sums = λ c. omega (arith, g .sums c, next c, streak-more c streak k j);
     }
 
-    -- a pixel that begins a run
+    -- a pixel that begins a streak
     pub gather-begin : len + 1 < length R → k ≤ mostKey
-        → Gathering s from most R₀ (set R len run) (256 * k) (len + 1) (done + 1)
+        → Gathering s from most R₀ (set R len streak) (256 * k) (len + 1) (done + 1)
     gather-begin h b = record {
       some = omega arith;
       within = omega arith;
@@ -138,5 +139,5 @@ module _ {s : List ℕ} {from most : ℕ} {R₀ R : List ℕ} {run len done : �
       room = rw length-set h;
       keeps = rw length-set (g .keeps);
       small = omega arith;
-      sums = λ c. omega (arith, gather-done c, next c, run-new c k b);
+      sums = λ c. omega (arith, gather-done c, next c, streak-new c k b);
     }

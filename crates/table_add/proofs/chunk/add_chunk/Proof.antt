@@ -1,5 +1,5 @@
--- `add_chunk` meets its contract: the runs gathered and sorted hold the pixels of a piece; counted, they do not go in
--- or are merged.
+-- `add_chunk` meets its contract: the streaks gathered and sorted hold the pixels of a piece; counted, they do not go
+-- in or are merged.
 use mathlib.Core.Path.{_≡_, ap, _∙_}
 use mathlib.Core.List.{List}
 use Prim.Native.Nat.{ℕ, _≤_}
@@ -16,8 +16,8 @@ use Rattle.table_add.proofs.chunk.Listing.{Listed, list-rises, list-all
 use Rattle.table_add.proofs.chunk.add_chunk.Statement.{statement}
 use Rattle.table_add.proofs.chunk.add_chunk.Tie as tie
 
--- with the runs sorted: what `sort_runs` left, what `gather` left, the bytes of the strip, the entry
-abbrev sorted′ : tie.After-count-with-arg2 → tie.After-sort-runs
+-- with the streaks sorted: what `sort_streaks` left, what `gather` left, the bytes of the strip, the entry
+abbrev sorted′ : tie.After-count-with-arg2 → tie.After-sort-streaks
 sorted′ c = c .before .before .before .before .before .before
 
 abbrev got : tie.After-count-with-arg2 → tie.After-gather
@@ -34,7 +34,7 @@ abbrev len : tie.After-count-with-arg2 → ℕ
 len c = got c .gather .result .len
 
 abbrev list : tie.After-count-with-arg2 → List ℕ
-list c = sorted′ c .sort-runs .last .0
+list c = sorted′ c .sort-streaks .last .0
 
 abbrev T : tie.After-count-with-arg2 → List Entry
 T c = entries (st c .args .used) (now (st c .args .keys)) (now (st c .args .weights))
@@ -47,13 +47,13 @@ listed : (c : tie.After-count-with-arg2) → Listed (now (st c .args .strip)) (s
 listed c = record {
   bytes = λ i. omega (arith, known c .shared-slice-known .given i);
   sums = got c .gather .ensures .1;
-  sorts = sorted′ c .sort-runs .ensures;
+  sorts = sorted′ c .sort-streaks .ensures;
   room = omega (arith, got c .gather .ensures .0 .2, got c .gather .kept .1 .1 .1 .0);
   room′ = omega (
     arith,
     got c .gather .ensures .0 .2,
     got c .gather .kept .1 .1 .1 .0,
-    sorted′ c .sort-runs .kept .0,
+    sorted′ c .sort-streaks .kept .0,
   );
 }
 
@@ -80,8 +80,8 @@ used-is c = given c ∙ ap length (all (c .before))
 gather-requires : tie.Need-gather-requires
 gather-requires c κs = search needs
 
-sort-runs-requires : tie.Need-sort-runs-requires
-sort-runs-requires c κs = search needs
+sort-streaks-requires : tie.Need-sort-streaks-requires
+sort-streaks-requires c κs = search needs
 
 count-with-requires : tie.Need-count-with-requires
 count-with-requires c κs = (
@@ -171,7 +171,7 @@ add-chunk-spec =
     tie.close
     (tie.spec
     gather-requires
-    sort-runs-requires
+    sort-streaks-requires
     count-with-requires
     same-length
     same-length-2

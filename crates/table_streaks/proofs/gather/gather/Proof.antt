@@ -17,10 +17,11 @@ use Rattle.table_streaks.proofs.gather.gather.Statement.{statement}
 use Rattle.table_streaks.proofs.gather.gather.Tie as tie
 
 abbrev Inv-loop : tie.InvT-loop
-Inv-loop strip from most list₀ run₀ len₀ done₀ list run len done = Gathering strip from most list₀ list run len done
+Inv-loop strip from most list₀ streak₀ len₀ done₀ list streak len done =
+    Gathering strip from most list₀ list streak len done
 
 abbrev μ-loop : tie.MeasureT-loop
-μ-loop strip from most list₀ run₀ len₀ done₀ list run len done = most - done
+μ-loop strip from most list₀ streak₀ len₀ done₀ list streak len done = most - done
 
 mul-key-at : tie.Need-mul-key-at Inv-loop μ-loop
 mul-key-at c = omega (arith, c .before .before .pre .0)
@@ -28,8 +29,8 @@ mul-key-at c = omega (arith, c .before .before .pre .0)
 key-at-requires : tie.Need-key-at-requires Inv-loop μ-loop
 key-at-requires c κs = omega (arith, c .before .before .pre .0)
 
-mul-run : tie.Need-mul-run Inv-loop μ-loop
-mul-run c = omega (arith, c .key-at .ensures .1)
+mul-streak : tie.Need-mul-streak Inv-loop μ-loop
+mul-streak c = omega (arith, c .key-at .ensures .1)
 
 -- with the next key: the loop's head, the entry, the pixel
 abbrev Joined : Type 0
@@ -44,7 +45,7 @@ st c = lp c .before .before .before .before
 inside : (c : Joined) → lp c .loop .done < st c .args .most
 inside c = c .before .before .loop-test .taken
 
-joint : (c : tie.Then1 Inv-loop μ-loop) → Joins (lp (c .before) .loop .run) (c .before .before .key-at2 .result)
+joint : (c : tie.Then1 Inv-loop μ-loop) → Joins (lp (c .before) .loop .streak) (c .before .before .key-at2 .result)
 joint c = does-join _ _ (sym (c .before .joins .ensures) ∙ c .if1 .taken)
 
 loop-holds : tie.Need-loop-holds Inv-loop μ-loop
@@ -64,8 +65,8 @@ key-at-requires-2 c κs = omega (arith, c .before .loop .inv, c .loop-test .take
 joins-requires : tie.Need-joins-requires Inv-loop μ-loop
 joins-requires c κs = tt
 
-add-run : tie.Need-add-run Inv-loop μ-loop
-add-run c = omega (arith, joint c, lp (c .before) .loop .inv .small)
+add-streak : tie.Need-add-streak Inv-loop μ-loop
+add-streak c = omega (arith, joint c, lp (c .before) .loop .inv .small)
 
 add-done : tie.Need-add-done Inv-loop μ-loop
 add-done c = omega (arith, inside (c .before), st (c .before))
@@ -94,8 +95,8 @@ returns c =
     let i = lp (c .before .before) .loop .inv in
     ((i .some, i .within, omega (arith, i .room, i .keeps)), gather-done i)
 
-mul-run-2 : tie.Need-mul-run-2 Inv-loop μ-loop
-mul-run-2 c = omega (arith, c .before .before .before .key-at2 .ensures .1)
+mul-streak-2 : tie.Need-mul-streak-2 Inv-loop μ-loop
+mul-streak-2 c = omega (arith, c .before .before .before .key-at2 .ensures .1)
 
 add-done-2 : tie.Need-add-done-2 Inv-loop μ-loop
 add-done-2 c = omega (arith, inside (c .before .before), st (c .before .before))
@@ -131,13 +132,13 @@ gather-spec =
     μ-loop
     mul-key-at
     key-at-requires
-    mul-run
+    mul-streak
     loop-holds
     add-key-at
     mul-key-at-2
     key-at-requires-2
     joins-requires
-    add-run
+    add-streak
     add-done
     loop-less
     loop-again
@@ -146,7 +147,7 @@ gather-spec =
     add-len
     same-length
     returns
-    mul-run-2
+    mul-streak-2
     add-done-2
     loop-less-2
     loop-again-2

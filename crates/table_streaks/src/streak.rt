@@ -1,0 +1,19 @@
+// A streak taken apart.
+ghost use mathlib.Core.Path.{_≡_};
+ghost use Prim.Native.Nat.{_≤_};
+ghost use Rattle.colour.specs.{mostKey};
+ghost use Rattle.table_streaks.specs.Streak.{streakKey, streakPixels};
+
+// The key of a streak.
+pub fn streak_key(x: u32) -> u32
+    ensures { λ r. ⌜ (r ≡ streakKey x) × (r ≤ mostKey) ⌝ }
+{
+    x / 256
+}
+
+// The pixels of a streak.
+pub fn streak_pixels(x: u32) -> u32
+    ensures { λ r. ⌜ (r ≡ streakPixels x) × (r ≤ 256) ⌝ }
+{
+    x % 256 + 1
+}
