@@ -17,7 +17,7 @@ pub record Standing (used room : ℕ) (ks ws : List ℕ) : Type 0 where
   pub sounds : sound 0 (entries used ks ws) ≡ true
 
 -- the strip has `most` pixels from `from` on, at least one, and the table's total has place for them
-pub record Ready (used room : ℕ) (ks ws s : List ℕ) (from most : ℕ) : Type 0 where
+pub record Addable (used room : ℕ) (ks ws s : List ℕ) (from most : ℕ) : Type 0 where
   pub table : Standing used room ks ws
   pub total : pixelsOf (entries used ks ws) + most ≤ mostPixels
   pub some : 0 < most

@@ -3,7 +3,7 @@ ghost use mathlib.Core.Path.{_≡_};
 ghost use Prim.Native.Nat.{_≤_, _<_};
 ghost use lib.ListN.{length};
 ghost use Rattle.table_streaks.specs.{mostStreaks};
-ghost use Rattle.table_add.specs.Trying.{Ready, Tried};
+ghost use Rattle.table_add.specs.Trying.{Addable, Tried};
 use super::pixel::add_pixel;
 use table_merge::merge::count_with;
 use table_merge::merge::merge;
@@ -23,7 +23,7 @@ pub fn add_one(
     strip: &[u8],
     from: usize,
 ) -> Chunk
-    requires { ⌜ Ready used room (now keys) (now weights) (now strip) from 1 ⌝ }
+    requires { ⌜ Addable used room (now keys) (now weights) (now strip) from 1 ⌝ }
     ensures { λ r. ⌜ Tried used room (now (keys .entry)) (now (weights .entry)) (now (strip .entry))
         from 1 (r .used) (r .pixels) (now (keys .exit)) (now (weights .exit)) ⌝ }
 {
@@ -48,7 +48,7 @@ fn add_chunk(
     list: &mut [u32],
     other: &mut [u32],
 ) -> Chunk
-    requires { ⌜ Ready used room (now keys) (now weights) (now strip) from most ⌝ }
+    requires { ⌜ Addable used room (now keys) (now weights) (now strip) from most ⌝ }
     requires { ⌜ (0 < length (now list)) × (length (now list) ≤ mostStreaks)
         × (length (now list) ≤ length (now other)) ⌝ }
     ensures { λ r. ⌜ Tried used room (now (keys .entry)) (now (weights .entry)) (now (strip .entry))
@@ -76,7 +76,7 @@ pub fn add_some(
     from: usize,
     most: usize,
 ) -> Chunk
-    requires { ⌜ Ready used room (now keys) (now weights) (now strip) from most ⌝ }
+    requires { ⌜ Addable used room (now keys) (now weights) (now strip) from most ⌝ }
     ensures { λ r. ⌜ Tried used room (now (keys .entry)) (now (weights .entry)) (now (strip .entry))
         from most (r .used) (r .pixels) (now (keys .exit)) (now (weights .exit)) ⌝ }
 {

@@ -17,5 +17,5 @@ abbrev pub streakCount : ℕ → ℕ → ℕ
 streakCount c x = cond (eqb (streakKey x) c) (streakPixels x) 0
 
 -- whether one pixel more of colour k goes into the streak: it is of that colour and has fewer than 256
-abbrev pub joined : ℕ → ℕ → Bool
-joined x k = eqb (streakKey x) k && ltb (x % 256) 255
+abbrev pub joinsStreak : ℕ → ℕ → Bool
+joinsStreak x k = eqb (streakKey x) k && ltb (x % 256) 255

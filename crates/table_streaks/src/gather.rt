@@ -5,7 +5,7 @@ ghost use lib.ListN.{length, take, drop};
 ghost use Rattle.number.specs.{sumOf};
 ghost use Rattle.colour.specs.{mostKey};
 ghost use Rattle.table_entries.specs.{stripKeys, keyAt, countOf};
-ghost use Rattle.table_streaks.specs.Streak.{streakCount, joined};
+ghost use Rattle.table_streaks.specs.Streak.{streakCount, joinsStreak};
 use super::streak::streak_key;
 
 // Streaks in a list, and the pixels in them.
@@ -24,7 +24,7 @@ pub fn key_at(s: &[u8], at: usize) -> u32
 
 // Whether one pixel more of colour `key` goes into the streak.
 fn joins(streak: u32, key: u32) -> bool
-    ensures { λ r. ⌜ r ≡ joined streak key ⌝ }
+    ensures { λ r. ⌜ r ≡ joinsStreak streak key ⌝ }
 {
     if streak_key(streak) == key {
         return streak % 256 < 255;

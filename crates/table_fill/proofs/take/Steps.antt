@@ -13,7 +13,7 @@ use Rattle.colour.specs.{mostPixels}
 use Rattle.table_entries.specs.{Entry, entries, pixelsOf, stripKeys, withTaken}
 use Rattle.table_entries.proofs.Strips.{strip-at-least}
 use Rattle.table_entries.proofs.Takes.{taken-capped, withTaken-capped}
-use Rattle.table_add.specs.{Ready, Tried, piece}
+use Rattle.table_add.specs.{Addable, Tried, piece}
 use Rattle.table_add.proofs.chunk.Listing.{piece-keys}
 use Rattle.table_fill.specs.Taking.{Able, TookMeets}
 use Rattle.table_fill.proofs.take.Turn.{Taking, taking-start, taking-done, taking-in, taking-out, taking-full}
@@ -59,8 +59,8 @@ module _ {ks₀ ws₀ s : List ℕ} {used room end : ℕ} (a : Able used room ks
   steps-done l = taking-done t (omega (arith, length-first))
 
   -- what a try of `most` pixels asks
-  pub steps-ready : (most : ℕ) → 0 < most → taken + most ≤ end → Ready now room ks ws s taken most
-  steps-ready most p l = record {
+  pub steps-addable : (most : ℕ) → 0 < most → taken + most ≤ end → Addable now room ks ws s taken most
+  steps-addable most p l = record {
     table = t .table;
     total = omega (arith, t .pixels, a .total);
     some = p;

@@ -17,7 +17,7 @@ use Rattle.number.proofs.ListSums.{sumOf-append}
 use Rattle.colour.specs.{mostKey}
 use Rattle.table_entries.specs.{stripKeys, keyAt, countOf}
 use Rattle.table_entries.proofs.Strips.{strip-at, strip-at-least}
-use Rattle.table_streaks.specs.Streak.{streakKey, streakPixels, streakCount, joined}
+use Rattle.table_streaks.specs.Streak.{streakKey, streakPixels, streakCount, joinsStreak}
 
 -- ---- counts of pixels
 
@@ -51,13 +51,13 @@ streak-new c k h =
       | inr t ↦ simp t
     ])
 
--- what `joined` says
+-- what `joinsStreak` says
 pub record Joins (x k : ℕ) : Type 0 where
   pub same : streakKey x ≡ k
   pub room : x % 256 < 255
 
 -- where it holds
-pub does-join : (x k : ℕ) → joined x k ≡ true → Joins x k
+pub does-join : (x k : ℕ) → joinsStreak x k ≡ true → Joins x k
 does-join x k h = elim (bool (eqb (streakKey x) k)) [
   | inl t ↦ record { same = eqb-true (streakKey x) k t; room = ltb-true (x % 256) 255 (simp t at h) }
   | inr t ↦ never (sym (simp t at h))

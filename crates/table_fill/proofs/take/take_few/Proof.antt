@@ -6,7 +6,7 @@ use lib.ListN.{take}
 use denote.Ref.{now}
 use Rattle.table_entries.specs.{stripKeys}
 use Rattle.table_fill.proofs.take.Turn.{Taking}
-use Rattle.table_fill.proofs.take.Steps.{steps-start, steps-ready, steps-in-one, steps-full, steps-done}
+use Rattle.table_fill.proofs.take.Steps.{steps-start, steps-addable, steps-in-one, steps-full, steps-done}
 use Rattle.table_fill.proofs.take.take_few.Statement.{statement}
 use Rattle.table_fill.proofs.take.take_few.Tie as tie
 
@@ -45,7 +45,7 @@ add-one-requires : tie.Need-add-one-requires Inv-loop μ-loop
 add-one-requires c κs =
     let l = c .before .before .before in
     let s = l .before .before .before .before in
-    steps-ready (s .pre) (l .loop .inv .1) 1 (omega arith) (omega (arith, c .before .before .loop-test .taken))
+    steps-addable (s .pre) (l .loop .inv .1) 1 (omega arith) (omega (arith, c .before .before .loop-test .taken))
 
 same-length : tie.Need-same-length Inv-loop μ-loop
 same-length c =

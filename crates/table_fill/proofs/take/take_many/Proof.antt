@@ -7,7 +7,7 @@ use lib.ListN.{take}
 use denote.Ref.{now}
 use Rattle.table_entries.specs.{stripKeys}
 use Rattle.table_fill.proofs.take.Turn.{Taking}
-use Rattle.table_fill.proofs.take.Steps.{steps-start, steps-ready, steps-in, steps-out, steps-full, steps-done}
+use Rattle.table_fill.proofs.take.Steps.{steps-start, steps-addable, steps-in, steps-out, steps-full, steps-done}
 use Rattle.table_fill.proofs.take.take_many.Statement.{statement}
 use Rattle.table_fill.proofs.take.take_many.Tie as tie
 
@@ -63,7 +63,7 @@ add-some-requires c κs =
     let s = l .before .before .before .before in
     let t = c .before .before .before .loop-test .taken in
     let m = c .before .before .smaller .ensures in
-    steps-ready (s .pre) (l .loop .inv .2) (c .before .before .smaller .result) (omega (arith, m, t, l .loop .inv .1 t))
+    steps-addable (s .pre) (l .loop .inv .2) (c .before .before .smaller .result) (omega (arith, m, t, l .loop .inv .1 t))
     (omega (arith, m, t))
 
 add-taken : tie.Need-add-taken Inv-loop μ-loop

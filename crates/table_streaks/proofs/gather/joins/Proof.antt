@@ -1,4 +1,4 @@
--- `joins` meets its contract: the two tests of `joined`, in turn.
+-- `joins` meets its contract: the two tests of `joinsStreak`, in turn.
 use Rattle.table_streaks.specs.Streak.{streakKey}
 use borrow.Author.Tests.{eq-eqb, ne-eqb}
 use mathlib.Core.Path.{sym, _∙_}
