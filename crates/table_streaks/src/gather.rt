@@ -15,11 +15,11 @@ pub struct Gathered {
 }
 
 // The key of the pixel whose bytes stand from `at` on. Requires that they stand in the strip.
-pub fn key_at(s: &[u8], at: usize) -> u32
-    requires { ⌜ at + 2 < length (now s) ⌝ }
-    ensures { λ r. ⌜ (r ≡ keyAt (now (s .entry)) at) × (r ≤ mostKey) ⌝ }
+pub fn key_at(strip: &[u8], at: usize) -> u32
+    requires { ⌜ at + 2 < length (now strip) ⌝ }
+    ensures { λ r. ⌜ (r ≡ keyAt (now (strip .entry)) at) × (r ≤ mostKey) ⌝ }
 {
-    colour::key_of(s[at], s[at + 1], s[at + 2])
+    colour::key_of(strip[at], strip[at + 1], strip[at + 2])
 }
 
 // Whether one pixel more of colour `key` goes into the streak.

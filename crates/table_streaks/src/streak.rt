@@ -5,15 +5,15 @@ ghost use Rattle.colour.specs.{mostKey};
 ghost use Rattle.table_streaks.specs.Streak.{streakKey, streakPixels};
 
 // The key of a streak.
-pub fn streak_key(x: u32) -> u32
-    ensures { λ r. ⌜ (r ≡ streakKey x) × (r ≤ mostKey) ⌝ }
+pub fn streak_key(streak: u32) -> u32
+    ensures { λ r. ⌜ (r ≡ streakKey streak) × (r ≤ mostKey) ⌝ }
 {
-    x / 256
+    streak / 256
 }
 
 // The pixels of a streak.
-pub fn streak_pixels(x: u32) -> u32
-    ensures { λ r. ⌜ (r ≡ streakPixels x) × (r ≤ 256) ⌝ }
+pub fn streak_pixels(streak: u32) -> u32
+    ensures { λ r. ⌜ (r ≡ streakPixels streak) × (r ≤ 256) ⌝ }
 {
-    x % 256 + 1
+    streak % 256 + 1
 }
