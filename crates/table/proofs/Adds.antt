@@ -11,12 +11,12 @@ use Rattle.table_entries.specs.{entries, pixelsOf, stripKeys, withTaken}
 use Rattle.table_entries.proofs.Strips.{strip-length}
 use Rattle.table_entries.proofs.Takes.{taken-at-most, taken-pixels}
 use Rattle.colour.specs.{badStrip}
-use Rattle.table.specs.Refusals.{roomOf, badTable, full}
+use Rattle.table_test.specs.{Record, roomOf, badTable}
+use Rattle.table.specs.Refusals.{full}
 use Rattle.table.specs.Outcomes.{refused, asItCame, withPixels, addStrip, AddMeets}
 use Rattle.table_fill.specs.{TookMeets}
-use Rattle.table.specs.declared.Record.{Record}
 use Rattle.table.specs.declared.Added.{Added}
-use Rattle.table.proofs.Goods.{good-of-test}
+use Rattle.table_test.proofs.Goods.{good-of-test}
 
 module _ (rec : Record) (ks ws s : List ℕ) where
   -- ---- what the outcome is, by the tests

@@ -23,11 +23,9 @@ use Rattle.table_entries.proofs.Strips.{strip-append}
 use Rattle.table_entries.proofs.Takes.{taken-all, taken-append}
 use Rattle.colour.specs.{Bytes}
 use Rattle.colour.proofs.Strips.{whole-exactly, whole-append}
-use Rattle.table.specs.Refusals.{roomOf, recordOf, badTable}
+use Rattle.table_test.specs.{Record, roomOf, recordOf, badTable, GoodTable}
 use Rattle.table.specs.Outcomes.{Outcome, asItCame, addStrip}
-use Rattle.table.specs.Goods.{GoodTable}
-use Rattle.table.specs.declared.Record.{Record}
-use Rattle.table.proofs.Goods.{Good, good-of-test, good-of-table}
+use Rattle.table_test.proofs.Goods.{Good, good-of-test, good-of-table}
 use Rattle.table.proofs.Adds.{outcome-done}
 use Rattle.table.proofs.Meaning.{Accepted, accepted-of-done, all-taken, taken-within}
 
@@ -63,19 +61,6 @@ empty-strip rec ks ws b =
     let w = weights-laid (rec .used) ks ws a1 a2 ws refl in
     outcome-done rec ks ws [] refl b refl
     ∙ λ i. record { answer = record { refusal = done; taken = 0; rec = g .is i }; keys = k i; weights = w i }
-
--- ---- a table is determined by the weights of its colours
-
--- two good tables with the same weights are one
-pub determined : (rec rec′ : Record) (ks ws ks′ ws′ : List ℕ) → GoodTable rec ks ws → GoodTable rec′ ks′ ws′
-    → ((c : ℕ) → weightOf c (entries (rec .used) ks ws) ≡ weightOf c (entries (rec′ .used) ks′ ws′))
-    → (entries (rec .used) ks ws ≡ entries (rec′ .used) ks′ ws′) × (rec ≡ rec′)
-determined rec rec′ ks ws ks′ ws′ a b h =
-    let g : Good rec ks ws = good-of-table rec ks ws a in
-    let g′ : Good rec′ ks′ ws′ = good-of-table rec′ ks′ ws′ b in
-    let e : entries (rec .used) ks ws ≡ entries (rec′ .used) ks′ ws′
-    = same-table 0 (entries (rec .used) ks ws) (entries (rec′ .used) ks′ ws′) (g .sounds) (g′ .sounds) h in
-    (e, sym (g .is) ∙ ap recordOf e ∙ g′ .is)
 
 -- ---- two strips
 

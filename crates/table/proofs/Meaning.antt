@@ -30,7 +30,8 @@ use Rattle.table_entries.proofs.Gives.{keys-take, putAll-weight, putAll-sound}
 use Rattle.table_entries.proofs.Slices.{entries-length, entries-laid, laid-length, laid-kept}
 use Rattle.table_entries.proofs.Strips.{byte-keys}
 use Rattle.table_entries.proofs.Takes.{Prefix, taken-prefix, prefix-only, taken-at-most, taken-all, taken-fits}
-use Rattle.table.specs.Refusals.{roomOf, recordOf, badTable, full, addRows, addRefusal}
+use Rattle.table_test.specs.{Record, roomOf, recordOf, badTable, GoodTable}
+use Rattle.table.specs.Refusals.{full, addRows, addRefusal}
 use Rattle.table.specs.Outcomes.{
   Outcome,
   asItCame,
@@ -41,9 +42,7 @@ use Rattle.table.specs.Outcomes.{
   addStrip,
   tableAfter,
 }
-use Rattle.table.specs.Goods.{GoodTable}
-use Rattle.table.specs.declared.Record.{Record}
-use Rattle.table.proofs.Goods.{Good, test-of-good, table-of-good, good-of-table}
+use Rattle.table_test.proofs.Goods.{Good, test-of-good, table-of-good, good-of-table}
 use Rattle.table.proofs.Adds.{outcome-bad-strip, outcome-bad-table, outcome-full, outcome-done}
 
 -- ---- when each refusal is given

@@ -11,13 +11,12 @@ use Rattle.refusal.specs.{Refusal, numberOf, done, Given, NoneHolds}
 use Rattle.table_entries.specs.{entries, weightOf, stripKeys, countOf, stops, takenOf, withTaken}
 use Rattle.table_entries.proofs.Takes.{Prefix}
 use Rattle.colour.specs.{badStrip, Bytes}
-use Rattle.table.specs.Refusals.{roomOf, recordOf, badTable, full, addRows}
+use Rattle.table_test.specs.{Record, roomOf, recordOf, badTable, GoodTable}
+use Rattle.table.specs.Refusals.{full, addRows}
 use Rattle.table.specs.Outcomes.{asItCame, handsBack, addStrip, tableAfter, AddMeets}
-use Rattle.table.specs.Goods.{GoodTable}
-use Rattle.table.specs.declared.Record.{Record}
 use Rattle.table.specs.declared.Added.{Added}
 use Rattle.colour.proofs.Strips as strips
-use Rattle.table.proofs.Goods as goods
+use Rattle.table_test.proofs.Goods as goods
 use Rattle.table.proofs.Meaning as meaning
 use Rattle.table.proofs.Joins as joins
 
@@ -128,4 +127,4 @@ after-taken = meaning.taken-after
 pub determined-by-weights : (rec rec′ : Record) (ks ws ks′ ws′ : List ℕ) → GoodTable rec ks ws → GoodTable rec′ ks′ ws′
     → ((c : ℕ) → weightOf c (entries (rec .used) ks ws) ≡ weightOf c (entries (rec′ .used) ks′ ws′))
     → (entries (rec .used) ks ws ≡ entries (rec′ .used) ks′ ws′) × (rec ≡ rec′)
-determined-by-weights = joins.determined
+determined-by-weights = goods.determined

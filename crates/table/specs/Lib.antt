@@ -1,11 +1,11 @@
--- Glossary.
+-- Glossary; the record, the room and the test of a table are table_test's, and are passed on.
 --   Record        used, pixels: how many entries are used, and the pixel total
 --   Added         refusal, taken, rec: the answer of an add
 --   roomOf        the shorter of the two lent slices, capped at 1,048,576
 --   recordOf      the record of a table
 --   emptyRecord   the record of an empty table
---   sameRecord    two records say the same
---   badTable      the test of 2 BAD TABLE; badEntries its part on the used entries
+--   badTable      the test of 2 BAD TABLE
+--   GoodTable     a good table, fact by fact
 --   full          the test of 3 FULL
 --   addRows       these tests in the order of adding, with their refusals
 --   addRefusal    the number of the first that holds
@@ -15,26 +15,11 @@
 --   addStrip      the outcome of adding a strip
 --   AddMeets      the contract: answer and slices are those of the outcome
 --   tableAfter    the table in an outcome's slices
---   GoodTable     a good table, fact by fact
---   fallsAt       a key that the next one is not above; emptyAt a weight of 0; weightAt the weight at a place
 pub mod Refusals
 pub mod Outcomes
-pub mod Goods
-pub mod Testing
-pub use declared.Record.{Record}
+pub use Rattle.table_test.specs.{Record, GoodTable}
+unfoldable pub use Rattle.table_test.specs.{roomOf, recordOf, emptyRecord, badTable}
 pub use declared.Added.{Added}
-unfoldable pub use Refusals.{
-  roomOf,
-  recordOf,
-  emptyRecord,
-  sameRecord,
-  badEntries,
-  badTable,
-  full,
-  addRows,
-  addRefusal,
-}
+unfoldable pub use Refusals.{full, addRows, addRefusal}
 unfoldable pub use Outcomes.{refused, asItCame, withPixels, handsBack, takenInto, leftByAdd, addStrip, tableAfter}
 pub use Outcomes.{Outcome, AddMeets}
-pub use Goods.{GoodTable}
-unfoldable pub use Testing.{fallsAt, emptyAt, weightAt}

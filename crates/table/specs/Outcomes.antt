@@ -6,8 +6,8 @@ use mathlib.Core.List.{List}
 use lib.Dec.{eqb}
 use Rattle.refusal.specs.{numberOf, done, outcomeOf, BAD-STRIP, BAD-TABLE}
 use Rattle.table_entries.specs.{Entry, entries, keysInto, weightsInto, stripKeys, takenOf, withTaken}
-use Rattle.table.specs.Refusals.{roomOf, recordOf, addRows}
-use Rattle.table.specs.declared.Record.{Record}
+use Rattle.table_test.specs.{Record, roomOf, recordOf}
+use Rattle.table.specs.Refusals.{addRows}
 use Rattle.table.specs.declared.Added.{Added}
 
 -- the answer, and the two lent slices at exit

@@ -3,9 +3,9 @@ use Prim.Native.Nat.{_-_}
 use native.Mathlib.Omega.{arith}
 use denote.Ref.{now}
 use borrow.Author.Needs.{needs}
-use Rattle.table.proofs.test.Turn.{Weighing, weighing-start, weighing-step, weighing-done}
-use Rattle.table.proofs.test.weigh.Statement.{statement}
-use Rattle.table.proofs.test.weigh.Tie as tie
+use Rattle.table_test.proofs.test.Turn.{Weighing, weighing-start, weighing-step, weighing-done}
+use Rattle.table_test.proofs.test.weigh.Statement.{statement}
+use Rattle.table_test.proofs.test.weigh.Tie as tie
 
 abbrev Inv-loop : tie.InvT-loop
 Inv-loop weights used zeros₀ sum₀ i₀ zeros sum i = Weighing weights used zeros sum i
@@ -16,14 +16,14 @@ abbrev μ-loop : tie.MeasureT-loop
 loop-holds : tie.Need-loop-holds Inv-loop μ-loop
 loop-holds c = weighing-start (now (c .before .args .weights)) (c .before .args .used)
 
-mul-is-zero : tie.Need-mul-is-zero Inv-loop μ-loop
-mul-is-zero c = omega arith
+mul-bit : tie.Need-mul-bit Inv-loop μ-loop
+mul-bit c = omega arith
 
-shared-slice-read-is-zero : tie.Need-shared-slice-read-is-zero Inv-loop μ-loop
-shared-slice-read-is-zero c = omega arith
+shared-slice-read-bit : tie.Need-shared-slice-read-bit Inv-loop μ-loop
+shared-slice-read-bit c = omega arith
 
-is-zero-requires : tie.Need-is-zero-requires Inv-loop μ-loop
-is-zero-requires c κs = search needs
+bit-requires : tie.Need-bit-requires Inv-loop μ-loop
+bit-requires c κs = search needs
 
 add-zeros : tie.Need-add-zeros Inv-loop μ-loop
 add-zeros c = omega arith
@@ -49,8 +49,8 @@ loop-less c = omega arith
 loop-again : tie.Need-loop-again Inv-loop μ-loop
 loop-again c =
     let zero = c .before .before in
-    weighing-step (zero .before .before .before .loop .inv) (omega arith) (zero .is-zero .result) (c .wide .result)
-    (zero .is-zero .ensures .0) (c .wide .ensures .0) (c .wide .ensures .1)
+    weighing-step (zero .before .before .before .loop .inv) (omega arith) (zero .bit .result) (c .wide .result)
+    (zero .bit .ensures .0) (c .wide .ensures .0) (c .wide .ensures .1)
 
 returns : tie.Need-returns Inv-loop μ-loop
 returns c = weighing-done (c .before .loop .inv) (c .loop-test .left)
@@ -62,9 +62,9 @@ weigh-spec =
     Inv-loop
     μ-loop
     loop-holds
-    mul-is-zero
-    shared-slice-read-is-zero
-    is-zero-requires
+    mul-bit
+    shared-slice-read-bit
+    bit-requires
     add-zeros
     mul-wide
     shared-slice-read-wide

@@ -15,7 +15,7 @@ use Rattle.colour.specs.{mostKey}
 use Rattle.table_entries.specs.{entries, sound}
 use Rattle.table_entries.proofs.Slices.{keys-rise, keys-are-keys}
 use Rattle.table_entries.proofs.Rows.{sound-of-rows, weights-some}
-use Rattle.table.specs.Testing.{fallsAt, emptyAt}
+use Rattle.table_test.specs.Testing.{fallsAt, emptyAt}
 
 -- keys that rise from place to place: none is above a later one
 rising-le : (n : ℕ) (ks : List ℕ) → ((i : ℕ) → i + 1 < n → getD ks i 0 < getD ks (i + 1) 0)

@@ -13,10 +13,10 @@ use Rattle.colour.specs.{mostPixels}
 use Rattle.table_entries.specs.{entries, sound}
 use Rattle.table_entries.proofs.Slices.{entries-length}
 use Rattle.table_entries.proofs.Rows.{pixels-sum}
-use Rattle.table.specs.Refusals.{roomOf, recordOf, sameRecord, badEntries, badTable}
-use Rattle.table.specs.Testing.{weightAt}
-use Rattle.table.specs.declared.Record.{Record}
-use Rattle.table.proofs.test.Faultless.{Faultless, sound-of-faultless, unsound-of-fault}
+use Rattle.table_test.specs.Tables.{roomOf, recordOf, sameRecord, badEntries, badTable}
+use Rattle.table_test.specs.Testing.{weightAt}
+use Rattle.table_test.specs.declared.Record.{Record}
+use Rattle.table_test.proofs.test.Faultless.{Faultless, sound-of-faultless, unsound-of-fault}
 
 -- used entries above the room are bad
 pub bad-over-room : (rec : Record) (ks ws : List ℕ) → roomOf ks ws < rec .used → badTable rec ks ws ≡ true

@@ -8,13 +8,12 @@ use lib.ListN.{length}
 use denote.Ref.{now}
 use borrow.Author.Needs.{needs}
 use Rattle.table_entries.specs.{entries, stripKeys}
-use Rattle.table.specs.Refusals.{roomOf, badTable}
+use Rattle.table_test.specs.{Record, roomOf, badTable}
 use Rattle.table_fill.specs.{TookMeets}
-use Rattle.table.specs.declared.Record.{Record}
-use Rattle.table.proofs.Goods.{Good, good-of-test}
+use Rattle.table_test.proofs.Goods.{Good, good-of-test}
 use Rattle.table.proofs.Adds.{meets-bad-strip, meets-bad-table, meets-full, meets-done, taken-small}
-use Rattle.table.proofs.add_strip.Statement.{statement}
-use Rattle.table.proofs.add_strip.Tie as tie
+use Rattle.table.proofs.add.add_strip.Statement.{statement}
+use Rattle.table.proofs.add.add_strip.Tie as tie
 
 -- after the test of the table: the entry, the record, the slices, and what the strip's test said
 abbrev st : tie.After-bad-table → tie.Start

@@ -3,7 +3,7 @@ use mathlib.Core.Path.{sym, _∙_}
 use native.Mathlib.Omega.{arith}
 use denote.Ref.{now}
 use borrow.Author.Needs.{needs}
-use Rattle.table.proofs.test.Ways.{
+use Rattle.table_test.proofs.test.Ways.{
   InRoom,
   bad-over-room,
   bad-of-empty,
@@ -11,8 +11,8 @@ use Rattle.table.proofs.test.Ways.{
   bad-of-sum,
   bad-of-pixels,
 }
-use Rattle.table.proofs.test.bad_table.Statement.{statement}
-use Rattle.table.proofs.test.bad_table.Tie as tie
+use Rattle.table_test.proofs.test.bad_table.Statement.{statement}
+use Rattle.table_test.proofs.test.bad_table.Tie as tie
 
 -- with the room known
 abbrev st : tie.After-room-of → tie.Start

@@ -1,8 +1,8 @@
 -- `room_of` meets its contract: a minimum by two tests.
 use mathlib.Core.Logic.{⊎-elim}
 use native.Mathlib.Omega.{arith}
-use Rattle.table.proofs.test.room_of.Statement.{statement}
-use Rattle.table.proofs.test.room_of.Tie as tie
+use Rattle.table_test.proofs.test.room_of.Statement.{statement}
+use Rattle.table_test.proofs.test.room_of.Tie as tie
 
 returns : tie.Need-returns
 returns c = ⊎-elim (λ w. omega arith) (λ w. omega arith) (c .before .if1 .came)

@@ -1,15 +1,14 @@
 // The test behind 2 BAD TABLE. Its loops have no way out but their end, and no branch.
 ghost use mathlib.Core.Path.{_≡_};
-ghost use mathlib.Core.Bool.{cond};
 ghost use Prim.Native.Nat.{_≤_, _<_, min};
 ghost use lib.ListN.{length};
-ghost use lib.Dec.{leb, eqb};
 ghost use Rattle.number.specs.{sum, howMany};
 ghost use Rattle.table_entries.specs.{mostEntries};
-ghost use Rattle.table.specs.Refusals.{badTable};
-ghost use Rattle.table.specs.Testing.{fallsAt, emptyAt, weightAt};
+ghost use Rattle.table_test.specs.Tables.{badTable};
+ghost use Rattle.table_test.specs.Testing.{fallsAt, emptyAt, weightAt};
 use super::MOST_ENTRIES;
 use super::Record;
+use bits::bit;
 
 // What a pass over the weights finds: how many are 0, and their sum.
 struct Weighed {
@@ -29,20 +28,7 @@ pub fn room_of(keys: usize, weights: usize) -> usize
     }
 }
 
-// 1 where `b` is not above `a`, else 0.
-fn not_above(a: u32, b: u32) -> u32
-    ensures { λ r. ⌜ (r ≡ cond (leb b a) 1 0) × (r ≤ 1) ⌝ }
-{
-    if b <= a { 1 } else { 0 }
-}
-
-// 1 where the weight is 0, else 0.
-fn is_zero(weight: u32) -> u32
-    ensures { λ r. ⌜ (r ≡ cond (eqb weight 0) 1 0) × (r ≤ 1) ⌝ }
-{
-    if weight == 0 { 1 } else { 0 }
-}
-
+// A weight in 64 bits.
 fn wide(weight: u32) -> u64
     ensures { λ r. ⌜ (r ≡ weight) × (r < 4294967296) ⌝ }
 {
@@ -57,7 +43,7 @@ fn faults(keys: &[u32], last: usize) -> u32
     let mut count: u32 = 0;
     let mut i = 0;
     while i < last {
-        count += not_above(keys[i], keys[i + 1]);
+        count += bit(keys[i + 1] <= keys[i]);
         i += 1;
     }
     count
@@ -73,7 +59,7 @@ fn weigh(weights: &[u32], used: usize) -> Weighed
     let mut sum: u64 = 0;
     let mut i = 0;
     while i < used {
-        zeros += is_zero(weights[i]);
+        zeros += bit(weights[i] == 0);
         sum += wide(weights[i]);
         i += 1;
     }

@@ -5,9 +5,9 @@ use mathlib.Core.List.{List}
 use lib.ListN.{getD}
 use Rattle.number.specs.{sum}
 use Rattle.colour.specs.{mostKey, mostPixels}
-use Rattle.table.specs.Refusals.{roomOf}
-use Rattle.table.specs.Testing.{weightAt}
-use Rattle.table.specs.declared.Record.{Record}
+use Rattle.table_test.specs.Tables.{roomOf}
+use Rattle.table_test.specs.Testing.{weightAt}
+use Rattle.table_test.specs.declared.Record.{Record}
 
 -- keys strictly rising, weights at least 1, used entries within the room, and a pixel total that equals the sum of the
 -- used weights and is at most 16,777,216

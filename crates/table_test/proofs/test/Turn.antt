@@ -1,13 +1,12 @@
 -- The loop of the test that goes over the weights: what holds at each turn.
 use mathlib.Core.Path.{_≡_, refl}
-use mathlib.Core.Bool.{cond}
 use mathlib.Core.List.{List}
 use Prim.Native.Nat.{ℕ, _+_, _*_, _≤_, _<_}
 use native.Mathlib.Omega.{arith}
-use Rattle.number.specs.{sum, howMany}
+use Rattle.number.specs.{bit, sum, howMany}
 use Rattle.number.proofs.Sums.{sum-more}
 use Rattle.number.proofs.Tallies.{Counting, counting-start, counting-step, counting-done}
-use Rattle.table.specs.Testing.{emptyAt, weightAt}
+use Rattle.table_test.specs.Testing.{emptyAt, weightAt}
 
 -- the weights before place i are counted and added up
 pub record Weighing (ws : List ℕ) (used zeros total i : ℕ) : Type 0 where
@@ -22,7 +21,7 @@ weighing-start ws used = record { counting = counting-start used (emptyAt ws); s
 
 -- the weight of place i is counted and added
 pub weighing-step : {ws : List ℕ} {used zeros total i : ℕ} → Weighing ws used zeros total i → i < used
-    → (one w : ℕ) → one ≡ cond (emptyAt ws i) 1 0 → w ≡ weightAt ws i → w < 4294967296
+    → (one w : ℕ) → one ≡ bit (emptyAt ws i) → w ≡ weightAt ws i → w < 4294967296
     → Weighing ws used (zeros + one) (total + w) (i + 1)
 weighing-step {ws} {used} {zeros} {total} {i} t l one w e d b =
     let s : sum (i + 1) (weightAt ws) ≡ sum i (weightAt ws) + weightAt ws i = sum-more i (weightAt ws) in

@@ -10,12 +10,13 @@ use lib.Dec.{ltb, eqb}
 use borrow.Author.Tests.{le-ltb, ltb-false, eq-eqb, eqb-true}
 use Rattle.number.proofs.Cases.{bool, never, neither, not-not}
 use Rattle.colour.specs.{mostPixels}
-use Rattle.table_entries.specs.{entries, sound}
+use Rattle.table_entries.specs.{weightOf, entries, sound}
+use Rattle.table_entries.proofs.Same.{same-table}
 use Rattle.table_entries.proofs.Slices.{entries-length, keys-rise, keys-are-keys}
 use Rattle.table_entries.proofs.Rows.{sound-of-rows, weights-some, pixels-sum}
-use Rattle.table.specs.Goods.{GoodTable}
-use Rattle.table.specs.Refusals.{roomOf, recordOf, sameRecord, badTable}
-use Rattle.table.specs.declared.Record.{Record}
+use Rattle.table_test.specs.Goods.{GoodTable}
+use Rattle.table_test.specs.Tables.{roomOf, recordOf, sameRecord, badTable}
+use Rattle.table_test.specs.declared.Record.{Record}
 
 -- the used entries are within the room and sound, the record is theirs, and the pixels are not too many
 pub record Good (rec : Record) (ks ws : List ℕ) : Type 0 where
@@ -25,7 +26,7 @@ pub record Good (rec : Record) (ks ws : List ℕ) : Type 0 where
   pub most : rec .pixels ≤ mostPixels
 
 -- records that say the same are one
-pub same-record : (a b : Record) → sameRecord a b ≡ true → a ≡ b
+same-record : (a b : Record) → sameRecord a b ≡ true → a ≡ b
 same-record a b h = elim (bool (eqb (a .used) (b .used))) [
   | inl t ↦
       let u : eqb (a .pixels) (b .pixels) ≡ true = simp t at h in
@@ -34,7 +35,7 @@ same-record a b h = elim (bool (eqb (a .used) (b .used))) [
 ]
 
 -- a record says the same as itself
-pub record-same : (a : Record) → sameRecord a a ≡ true
+record-same : (a : Record) → sameRecord a a ≡ true
 record-same a = simp (eq-eqb (a .used) (a .used) refl, eq-eqb (a .pixels) (a .pixels) refl)
 
 -- a table that passes the test is good
@@ -103,3 +104,16 @@ bad-table-exactly rec ks ws = (
   (λ h. table-of-good rec ks ws (good-of-test rec ks ws h)),
   (λ t. test-of-good rec ks ws (good-of-table rec ks ws t)),
 )
+
+-- ---- a table is determined by the weights of its colours
+
+-- two good tables with the same weights are one
+pub determined : (rec rec′ : Record) (ks ws ks′ ws′ : List ℕ) → GoodTable rec ks ws → GoodTable rec′ ks′ ws′
+    → ((c : ℕ) → weightOf c (entries (rec .used) ks ws) ≡ weightOf c (entries (rec′ .used) ks′ ws′))
+    → (entries (rec .used) ks ws ≡ entries (rec′ .used) ks′ ws′) × (rec ≡ rec′)
+determined rec rec′ ks ws ks′ ws′ a b h =
+    let g : Good rec ks ws = good-of-table rec ks ws a in
+    let g′ : Good rec′ ks′ ws′ = good-of-table rec′ ks′ ws′ b in
+    let e : entries (rec .used) ks ws ≡ entries (rec′ .used) ks′ ws′
+    = same-table 0 (entries (rec .used) ks ws) (entries (rec′ .used) ks′ ws′) (g .sounds) (g′ .sounds) h in
+    (e, sym (g .is) ∙ ap recordOf e ∙ g′ .is)
