@@ -66,7 +66,7 @@ module _ (rec : Record) (ks ws s : List ℕ) where
         let o = outcome-bad-table whole b in record { answer = rw o e; keys = rw o; weights = rw o }
 
     -- as many pixels as a third of the bytes
-    pub count-is : length (stripKeys s) ≡ length s / 3
+    count-is : length (stripKeys s) ≡ length s / 3
     count-is = strip-length (length s / 3) s (omega arith)
 
     -- the pixels taken

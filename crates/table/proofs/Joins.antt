@@ -1,6 +1,5 @@
--- Adding two strips one after the other is adding them joined; an empty strip changes nothing; a table is determined
--- by the weights of its colours.
-use mathlib.Core.Path.{_≡_, refl, sym, ap, _∙_}
+-- Adding two strips one after the other is adding them joined; an empty strip changes nothing.
+use mathlib.Core.Path.{_≡_, refl, ap, _∙_}
 use mathlib.Core.Bool.{false}
 use mathlib.Core.List.{List, [], _++_, map}
 use Prim.Native.Nat.{ℕ, _+_, _/_, _≤_}
@@ -8,9 +7,8 @@ use native.Mathlib.Omega.{arith}
 use lib.ListN.{length, drop, length-append}
 use borrow.Author.Tests.{le-ltb}
 use Rattle.refusal.specs.{done}
-use Rattle.table_entries.specs.{Entry, entries, keysInto, weightsInto, weightOf, stripKeys, putAll, takenOf}
+use Rattle.table_entries.specs.{Entry, entries, keysInto, weightsInto, stripKeys, putAll, takenOf}
 use Rattle.table_entries.proofs.Gives.{putAll-length, putAll-append}
-use Rattle.table_entries.proofs.Same.{same-table}
 use Rattle.table_entries.proofs.Slices.{
   entries-laid,
   keys-laid,
@@ -23,9 +21,9 @@ use Rattle.table_entries.proofs.Strips.{strip-append}
 use Rattle.table_entries.proofs.Takes.{taken-all, taken-append}
 use Rattle.colour.specs.{Bytes}
 use Rattle.colour.proofs.Strips.{whole-exactly, whole-append}
-use Rattle.table_test.specs.{Record, roomOf, recordOf, badTable, GoodTable}
+use Rattle.table_test.specs.{Record, roomOf, recordOf, badTable}
 use Rattle.table.specs.Outcomes.{Outcome, asItCame, addStrip}
-use Rattle.table_test.proofs.Goods.{Good, good-of-test, good-of-table}
+use Rattle.table_test.proofs.Goods.{Good, good-of-test}
 use Rattle.table.proofs.Adds.{outcome-done}
 use Rattle.table.proofs.Meaning.{Accepted, accepted-of-done, all-taken, taken-within}
 

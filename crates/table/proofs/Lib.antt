@@ -2,7 +2,7 @@
 pub mod Adds
 -- What adding means: refusals, weights, good tables, prefixes, strips joined.
 pub mod Meaning
--- Strips joined, an empty strip, and tables with the same weights.
+-- Strips joined, and an empty strip.
 pub mod Joins
 -- What a reader may ask for: each theorem in full, with the proof it cites.
 pub mod Promises

@@ -87,7 +87,7 @@ module _ (rec : Record) (ks ws s : List ℕ) where
   ps = stripKeys s
 
   -- with a whole strip and a good table the outcome is that of the pixels taken, whether or not one is left
-  pub outcome-taken : badStrip s ≡ false → badTable rec ks ws ≡ false
+  outcome-taken : badStrip s ≡ false → badTable rec ks ws ≡ false
       → addStrip rec ks ws s ≡ withPixels (addRefusal rec ks ws s) (roomOf ks ws) es ps ks ws
   outcome-taken a b = elim (bool (full rec ks ws s)) [
     | inl c ↦ outcome-full rec ks ws s a b c ∙ simp (a, b, c)
@@ -95,7 +95,7 @@ module _ (rec : Record) (ks ws s : List ℕ) where
   ]
 
   -- its slices hold the table with the pixels taken
-  pub after-taken : badStrip s ≡ false → badTable rec ks ws ≡ false
+  after-taken : badStrip s ≡ false → badTable rec ks ws ≡ false
       → tableAfter (addStrip rec ks ws s) ≡ withTaken (roomOf ks ws) es ps
   after-taken a b = ap tableAfter (outcome-taken a b) ∙ entries-laid (withTaken (roomOf ks ws) es ps) _ _
 
@@ -120,7 +120,7 @@ module _ (rec : Record) (ks ws s : List ℕ) where
       )
 
   -- the table is that of all pixels
-  pub after-accepted : Accepted rec ks ws s → tableAfter (addStrip rec ks ws s) ≡ putAll es ps
+  after-accepted : Accepted rec ks ws s → tableAfter (addStrip rec ks ws s) ≡ putAll es ps
   after-accepted a = after-taken (a .whole) (a .good) ∙ taken-all (roomOf ks ws) es ps (omega (arith, all-taken a))
 
   -- each colour's weight is its former weight and the number of its pixels in the strip

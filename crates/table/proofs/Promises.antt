@@ -16,7 +16,7 @@ use Rattle.table.specs.Refusals.{full, addRows}
 use Rattle.table.specs.Outcomes.{asItCame, handsBack, addStrip, tableAfter, AddMeets}
 use Rattle.table.specs.declared.Added.{Added}
 use Rattle.colour.proofs.Strips as strips
-use Rattle.table_test.proofs.Goods as goods
+use Rattle.table_test.proofs.Promises as tests
 use Rattle.table.proofs.Meaning as meaning
 use Rattle.table.proofs.Joins as joins
 
@@ -46,7 +46,7 @@ bad-strip-exactly = strips.bad-strip-exactly
 
 -- The test of BAD TABLE fails exactly for a good table.
 pub bad-table-exactly : (rec : Record) (ks ws : List ℕ) → (badTable rec ks ws ≡ false) ↔ GoodTable rec ks ws
-bad-table-exactly = goods.bad-table-exactly
+bad-table-exactly = tests.bad-table-exactly
 
 -- The test of FULL holds exactly when there is a next pixel and it does not go in: it meets a total of 16,777,216, or
 -- is a new colour with no room.
@@ -127,4 +127,4 @@ after-taken = meaning.taken-after
 pub determined-by-weights : (rec rec′ : Record) (ks ws ks′ ws′ : List ℕ) → GoodTable rec ks ws → GoodTable rec′ ks′ ws′
     → ((c : ℕ) → weightOf c (entries (rec .used) ks ws) ≡ weightOf c (entries (rec′ .used) ks′ ws′))
     → (entries (rec .used) ks ws ≡ entries (rec′ .used) ks′ ws′) × (rec ≡ rec′)
-determined-by-weights = goods.determined
+determined-by-weights = tests.determined-by-weights

@@ -13,7 +13,7 @@ use Rattle.table_entries.specs.{Entry, pixelsOf, sound, stripKeys, countOf, put
 use Rattle.table_entries.proofs.Gives.{Keys, keys-take, putAll-pixels}
 use Rattle.table_entries.proofs.Strips.{byte-keys, keys-drop}
 use Rattle.table_streaks.specs.{streakKey, streakCount, sorted}
-use Rattle.table_streaks.proofs.sort.Order.{sorted-sum, sorted-length, sorted-rises}
+use Rattle.table_streaks.proofs.Promises.{sorted-rises, sorted-keeps-pixels, sorted-keeps-length}
 use Rattle.table_merge.specs.{giveBack}
 use Rattle.table_add.specs.Trying.{piece}
 use Rattle.table_merge.proofs.merge.Backs.{back-all}
@@ -34,7 +34,7 @@ module _ {s : List ℕ} {from n len : ℕ} {L L′ : List ℕ} (r : Listed s fro
   -- their keys rise
   pub list-rises : (i j : ℕ) → i ≤ j → j < len → streakKey (getD L′ i 0) ≤ streakKey (getD L′ j 0)
   list-rises i j h l =
-      let e : length (sorted (take len L)) ≡ len = sorted-length (take len L) ∙ length-take-le len L (r .room) in
+      let e : length (sorted (take len L)) ≡ len = sorted-keeps-length (take len L) ∙ length-take-le len L (r .room) in
       let k : streakKey (getD (take len L′) i 0) ≤ streakKey (getD (take len L′) j 0)
       = rw (r .sorts) (sorted-rises (take len L) i j h (rw e l)) in
       rw (getD-take len L′ i 0 (omega arith), getD-take len L′ j 0 l) at k
@@ -43,7 +43,7 @@ module _ {s : List ℕ} {from n len : ℕ} {L L′ : List ℕ} (r : Listed s fro
   pub list-all : (es : List Entry) → sound 0 es ≡ true → giveBack (take len L′) es ≡ putAll es (piece s from n)
   list-all es h =
       back-all (take len L′) (piece s from n) es (piece-keys s from n (r .bytes)) h
-      (λ c. ap (sumOf (streakCount c)) (r .sorts) ∙ sorted-sum (streakCount c) (take len L) ∙ r .sums c)
+      (λ c. ap (sumOf (streakCount c)) (r .sorts) ∙ sorted-keeps-pixels c (take len L) ∙ r .sums c)
 
 -- a piece has no more pixels than it was cut for
 pub piece-pixels : (es : List Entry) (s : List ℕ) (from n : ℕ) → pixelsOf (putAll es (piece s from n)) ≤ pixelsOf es + n

@@ -61,7 +61,7 @@ module _ (n : ℕ) (ks ws : List ℕ) (a : n ≤ length ks) (b : n ≤ length ws
   }
 
   -- sound entries have nothing at fault
-  pub faultless-of-sound : sound 0 (entries n ks ws) ≡ true → Faultless n ks ws
+  faultless-of-sound : sound 0 (entries n ks ws) ≡ true → Faultless n ks ws
   faultless-of-sound h = record {
     rising = none-howMany (n - 1) (fallsAt ks)
         (λ i l. lt-leb _ _ (keys-rise n ks ws a b h i (i + 1) (omega arith) (omega arith)));

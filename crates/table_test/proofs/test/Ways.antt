@@ -28,11 +28,11 @@ pub record InRoom (rec : Record) (ks ws : List ℕ) : Type 0 where
 
 module _ {rec : Record} {ks ws : List ℕ} (r : InRoom rec ks ws) where
   -- within the room it is the entries that make a table bad
-  pub bad-in-room : badTable rec ks ws ≡ badEntries rec (entries (rec .used) ks ws)
+  bad-in-room : badTable rec ks ws ≡ badEntries rec (entries (rec .used) ks ws)
   bad-in-room = simp (le-ltb (roomOf ks ws) (rec .used) (r .within))
 
   -- the record is that of the entries where the weights come to its pixels
-  pub same-by-sum : sameRecord (recordOf (entries (rec .used) ks ws)) rec
+  same-by-sum : sameRecord (recordOf (entries (rec .used) ks ws)) rec
       ≡ eqb (sum (rec .used) (weightAt ws)) (rec .pixels)
   same-by-sum =
       rw (

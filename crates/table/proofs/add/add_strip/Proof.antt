@@ -15,9 +15,13 @@ use Rattle.table.proofs.Adds.{meets-bad-strip, meets-bad-table, meets-f
 use Rattle.table.proofs.add.add_strip.Statement.{statement}
 use Rattle.table.proofs.add.add_strip.Tie as tie
 
+-- past the test of the strip, once the table is tested
+abbrev past : tie.After-bad-table → tie.Else1
+past c = c .before .before .before
+
 -- after the test of the table: the entry, the record, the slices, and what the strip's test said
 abbrev st : tie.After-bad-table → tie.Start
-st c = c .before .before .before .before .before .before .before
+st c = past c .before .before .before .before
 
 abbrev rec′ : tie.After-bad-table → Record
 rec′ c = st c .args .rec
@@ -32,7 +36,7 @@ abbrev s : tie.After-bad-table → List ℕ
 s c = now (st c .args .strip)
 
 whole : (c : tie.After-bad-table) → length (s c) % 3 ≡ 0
-whole c = c .before .before .before .if1 .left
+whole c = past c .if1 .left
 
 -- the table is good
 is-good : (c : tie.Else2) → badTable (rec′ (c .before)) (ks (c .before)) (ws (c .before)) ≡ false
@@ -50,6 +54,10 @@ roomed c = c .before .before .before
 
 abbrev tested : tie.After-take-strip → tie.After-bad-table
 tested c = roomed c .before .before
+
+-- what `take_strip` left, once its slices are known
+abbrev taken : tie.After-slice-known4 → tie.After-take-strip
+taken c = c .before .before .before .before
 
 took : (c : tie.After-take-strip)
     → TookMeets (roomOf (ks (tested c)) (ws (tested c)))
@@ -111,7 +119,7 @@ take-strip-requires c κs =
 
 add-t25 : tie.Need-add-t25
 add-t25 c =
-    let a = c .before .before .before .before in
+    let a = taken c in
     omega (arith, small a, table (roomed a .before) .most, st (tested a))
 
 same-length-3 : tie.Need-same-length-3
@@ -122,7 +130,7 @@ same-length-4 c = search needs
 
 returns-3 : tie.Need-returns-3
 returns-3 c =
-    let a = c .before .before .before .before .before in
+    let a = taken (c .before) in
     let g = tested a in
     meets-full (rec′ g) (ks g) (ws g) (s g) (whole g) (is-good (roomed a .before)) (took a) (c .if3 .taken)
 
@@ -134,7 +142,7 @@ same-length-6 c = search needs
 
 returns-4 : tie.Need-returns-4
 returns-4 c =
-    let a = c .before .before .before .before .before in
+    let a = taken (c .before) in
     let g = tested a in
     meets-done (rec′ g) (ks g) (ws g) (s g) (whole g) (is-good (roomed a .before)) (took a) (c .if3 .left)
 

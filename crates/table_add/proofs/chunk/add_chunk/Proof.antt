@@ -16,9 +16,13 @@ use Rattle.table_add.proofs.chunk.Listing.{Listed, list-rises, list-all
 use Rattle.table_add.proofs.chunk.add_chunk.Statement.{statement}
 use Rattle.table_add.proofs.chunk.add_chunk.Tie as tie
 
--- with the streaks sorted: what `sort_streaks` left, what `gather` left, the bytes of the strip, the entry
+-- with the streaks sorted: the other list, what `sort_streaks` left, what `gather` left, the bytes of the strip, the
+-- entry
+abbrev other : tie.After-count-with-arg2 → tie.After-other
+other c = c .before .before .before
+
 abbrev sorted′ : tie.After-count-with-arg2 → tie.After-sort-streaks
-sorted′ c = c .before .before .before .before .before .before
+sorted′ c = other c .before .before .before
 
 abbrev got : tie.After-count-with-arg2 → tie.After-gather
 got c = sorted′ c .before .before .before .before .before

@@ -11,14 +11,11 @@ use Rattle.table_add.specs.Trying.{piece}
 use Rattle.table_add.proofs.chunk.add_one.Statement.{statement}
 use Rattle.table_add.proofs.chunk.add_one.Tie as tie
 
--- with the pixel tried: the entry, the key, the piece
-abbrev st : tie.After-add-pixel → tie.Start
-st c = c .before .before .before .before .before .before .before
+-- with the key known: the entry, the piece
+abbrev st : tie.After-key-at → tie.Start
+st c = c .before .before .before .before
 
-abbrev keyed : tie.After-add-pixel → tie.After-key-at
-keyed c = c .before .before .before
-
-one : (c : tie.After-add-pixel)
+one : (c : tie.After-key-at)
     → piece (now (st c .args .strip)) (st c .args .from) 1 ≡ keyAt (now (st c .args .strip)) (3 * st c .args .from) ∷ []
 one c = strip-one (st c .args .from) (now (st c .args .strip)) (st c .pre .bytes)
 
@@ -30,7 +27,7 @@ key-at-requires c κs = omega (arith, c .before .before .before .pre .bytes)
 
 add-pixel-requires : tie.Need-add-pixel-requires
 add-pixel-requires c κs =
-    let s = c .before .before .before .before .before .before in (s .pre .table, omega (arith, s .pre .total))
+    let s = st (c .before .before) in (s .pre .table, omega (arith, s .pre .total))
 
 same-length : tie.Need-same-length
 same-length c = search needs
@@ -41,12 +38,13 @@ same-length-2 c = search needs
 returns : tie.Need-returns
 returns c =
     let a = c .before .before .before .before in
-    let k = keyed a .key-at .ensures .0 in record {
+    let t = a .before .before .before in
+    let k = t .key-at .ensures .0 in record {
       some = omega arith;
       within = omega arith;
-      used-is = rw (one a) (rw k at (a .add-pixel .ensures .0));
-      keys-are = rw (one a) (rw k at (a .add-pixel .ensures .1 .0));
-      weights-are = rw (one a) (rw k at (a .add-pixel .ensures .1 .1));
+      used-is = rw (one t) (rw k at (a .add-pixel .ensures .0));
+      keys-are = rw (one t) (rw k at (a .add-pixel .ensures .1 .0));
+      weights-are = rw (one t) (rw k at (a .add-pixel .ensures .1 .1));
     }
 
 pub add-one-spec : {M : Type 1} → statement M

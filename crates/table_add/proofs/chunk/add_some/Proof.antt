@@ -4,9 +4,20 @@ use borrow.Author.Needs.{needs}
 use Rattle.table_add.proofs.chunk.add_some.Statement.{statement}
 use Rattle.table_add.proofs.chunk.add_some.Tie as tie
 
+-- with what is known of the slices: the entry
+abbrev st : tie.After-shared-slice-known → tie.Start
+st c = c .before .before .before
+
+-- past the test of few pixels, with two short lists, and with two long ones
+abbrev short : tie.After-other → tie.Else1
+short c = c .before .before .before .before .before
+
+abbrev long : tie.After-other3 → tie.Else1
+long c = c .before .before .before .before .before
+
 add-one-requires : tie.Need-add-one-requires
 add-one-requires c κs =
-    let p = c .before .before .before .before .before .before .pre in record {
+    let p = st (c .before .before .before) .pre in record {
       table = p .table;
       total = omega (arith, p .total, p .some);
       some = omega arith;
@@ -24,7 +35,7 @@ returns c =
     let a = c .before .before .before .before in
     let e = a .add-one .ensures in record {
       some = e .some;
-      within = omega (arith, e .within, a .before .before .before .before .before .before .before .pre .some);
+      within = omega (arith, e .within, st (a .before .before .before .before) .pre .some);
       used-is = e .used-is;
       keys-are = e .keys-are;
       weights-are = e .weights-are;
@@ -37,10 +48,7 @@ slice-aggregate-add-chunk-2 : tie.Need-slice-aggregate-add-chunk-2
 slice-aggregate-add-chunk-2 c = search needs
 
 add-chunk-requires : tie.Need-add-chunk-requires
-add-chunk-requires c κs = (
-  c .before .before .before .before .before .before .before .before .before .pre,
-  (omega arith, omega arith, omega arith),
-)
+add-chunk-requires c κs = (st (short c .before) .pre, (omega arith, omega arith, omega arith))
 
 same-length-3 : tie.Need-same-length-3
 same-length-3 c = search needs
@@ -58,10 +66,7 @@ slice-aggregate-add-chunk-4 : tie.Need-slice-aggregate-add-chunk-4
 slice-aggregate-add-chunk-4 c = search needs
 
 add-chunk-requires-2 : tie.Need-add-chunk-requires-2
-add-chunk-requires-2 c κs = (
-  c .before .before .before .before .before .before .before .before .before .pre,
-  (omega arith, omega arith, omega arith),
-)
+add-chunk-requires-2 c κs = (st (long c .before) .pre, (omega arith, omega arith, omega arith))
 
 same-length-5 : tie.Need-same-length-5
 same-length-5 c = search needs

@@ -17,12 +17,15 @@ Inv-loop keys₀ weights₀ used room strip end now-used₀ taken₀ keys weight
 abbrev μ-loop : tie.MeasureT-loop
 μ-loop keys₀ weights₀ used room strip end now-used₀ taken₀ keys weights now-used taken = end - taken
 
--- with a pixel tried: the loop's head, the entry
+-- with a pixel tried: the loop's head, what is known once the slices are, the entry
 abbrev Tested : Type 0
 Tested = tie.After-add-one Inv-loop μ-loop
 
 abbrev lp : Tested → tie.At-loop Inv-loop μ-loop
 lp c = c .before .before .before .before
+
+abbrev tried : tie.After-slice-known4 Inv-loop μ-loop → Tested
+tried c = c .before .before .before .before
 
 abbrev st : Tested → tie.Start Inv-loop μ-loop
 st c = lp c .before .before .before .before
@@ -49,27 +52,27 @@ add-one-requires c κs =
 
 same-length : tie.Need-same-length Inv-loop μ-loop
 same-length c =
-    let a = c .before .before .before .before .before in a .add-one .kept .0 ∙ lp a .loop .inv .1 .keys-length
+    let a = tried (c .before) in a .add-one .kept .0 ∙ lp a .loop .inv .1 .keys-length
 
 same-length-2 : tie.Need-same-length-2 Inv-loop μ-loop
 same-length-2 c =
-    let a = c .before .before .before .before .before in a .add-one .kept .1 .0 ∙ lp a .loop .inv .1 .weights-length
+    let a = tried (c .before) in a .add-one .kept .1 .0 ∙ lp a .loop .inv .1 .weights-length
 
 returns : tie.Need-returns Inv-loop μ-loop
 returns c =
-    let a = c .before .before .before .before .before in
+    let a = tried (c .before) in
     steps-full (st a .pre) (lp a .loop .inv .1) (a .add-one .ensures) (inside a) (one a) (c .if1 .taken)
 
 add-taken : tie.Need-add-taken Inv-loop μ-loop
-add-taken c = let a = c .before .before .before .before .before in omega (arith, inside a, one a, st a)
+add-taken c = let a = tried (c .before) in omega (arith, inside a, one a, st a)
 
 loop-less : tie.Need-loop-less Inv-loop μ-loop
 loop-less c =
-    let a = c .before .before .before .before .before in omega (arith, a .before .before .before .loop-test .taken)
+    let a = tried (c .before) in omega (arith, a .before .before .before .loop-test .taken)
 
 loop-again : tie.Need-loop-again Inv-loop μ-loop
 loop-again c =
-    let a = c .before .before .before .before .before in (
+    let a = tried (c .before) in (
       omega (arith, inside a, one a),
       steps-in-one (st a .pre) (lp a .loop .inv .1) (a .add-one .ensures) (inside a) (one a)
           (λ i. omega (arith, lp a .before .shared-slice-known .given i)) (c .if1 .left),

@@ -20,12 +20,15 @@ abbrev μ-loop : tie.MeasureT-loop
 μ-loop keys₀ weights₀ used room strip end now-used₀ taken₀ limit₀ keys weights now-used taken limit =
     (end - taken) + limit
 
--- with a chunk tried: the loop's head, the entry, the pixels tried
+-- with a chunk tried: the loop's head, what is known once the slices are, the entry, the pixels tried
 abbrev Tested : Type 0
 Tested = tie.After-add-some Inv-loop μ-loop
 
 abbrev lp : Tested → tie.At-loop Inv-loop μ-loop
 lp c = c .before .before .before .before .before
+
+abbrev tried : tie.After-slice-known4 Inv-loop μ-loop → Tested
+tried c = c .before .before .before .before
 
 abbrev st : Tested → tie.Start Inv-loop μ-loop
 st c = lp c .before .before .before .before
@@ -67,15 +70,15 @@ add-some-requires c κs =
     (omega (arith, m, t))
 
 add-taken : tie.Need-add-taken Inv-loop μ-loop
-add-taken c = let a = c .before .before .before .before .before in omega (arith, inside a, st a)
+add-taken c = let a = tried (c .before) in omega (arith, inside a, st a)
 
 loop-less : tie.Need-loop-less Inv-loop μ-loop
 loop-less c =
-    let a = c .before .before .before .before .before in omega (arith, inside a, a .add-some .ensures .some)
+    let a = tried (c .before) in omega (arith, inside a, a .add-some .ensures .some)
 
 loop-again : tie.Need-loop-again Inv-loop μ-loop
 loop-again c =
-    let a = c .before .before .before .before .before in
+    let a = tried (c .before) in
     let i = lp a .loop .inv in (
       inside a,
       (λ h. i .1 (turn a)),
@@ -85,26 +88,26 @@ loop-again c =
 
 same-length : tie.Need-same-length Inv-loop μ-loop
 same-length c =
-    let a = c .before .before .before .before .before .before in a .add-some .kept .0 ∙ lp a .loop .inv .2 .keys-length
+    let a = tried (c .before .before) in a .add-some .kept .0 ∙ lp a .loop .inv .2 .keys-length
 
 same-length-2 : tie.Need-same-length-2 Inv-loop μ-loop
 same-length-2 c =
-    let a = c .before .before .before .before .before .before in
+    let a = tried (c .before .before) in
     a .add-some .kept .1 .0 ∙ lp a .loop .inv .2 .weights-length
 
 returns : tie.Need-returns Inv-loop μ-loop
 returns c =
-    let a = c .before .before .before .before .before .before in
+    let a = tried (c .before .before) in
     let one : p a ≡ 1 = omega (arith, c .if2 .taken, a .add-some .ensures .some) in
     steps-full (st a .pre) (lp a .loop .inv .2) (a .add-some .ensures) (inside a) one (c .before .if1 .left)
 
 loop-less-2 : tie.Need-loop-less-2 Inv-loop μ-loop
 loop-less-2 c =
-    let a = c .before .before .before .before .before .before in omega (arith, at-most a, a .add-some .ensures .some)
+    let a = tried (c .before .before) in omega (arith, at-most a, a .add-some .ensures .some)
 
 loop-again-2 : tie.Need-loop-again-2 Inv-loop μ-loop
 loop-again-2 c =
-    let a = c .before .before .before .before .before .before in
+    let a = tried (c .before .before) in
     let i = lp a .loop .inv in (
       i .0,
       (λ h. omega (arith, c .if2 .left)),

@@ -17,6 +17,10 @@ use Rattle.table_fill.proofs.take.take_strip.Tie as tie
 abbrev st : tie.After-smaller → tie.Start
 st n = n .before .before .before .before
 
+-- the same past the test of few pixels
+abbrev many : tie.Else1 → tie.Start
+many c = st (c .before .before)
+
 -- what the total allows, and how many pixels the strip has
 abbrev space : tie.Start → ℕ
 space s = mostPixels - s .args .before
@@ -65,7 +69,7 @@ returns c =
 take-many-requires : tie.Need-take-many-requires
 take-many-requires c κs =
     let t = c .before .before in
-    let s = st (t .before .before .before) in
+    let s = many (t .before) in
     able s (s .args .count) (omega arith) (omega (arith, t .if2 .taken))
 
 same-length-3 : tie.Need-same-length-3
@@ -77,13 +81,13 @@ same-length-4 c = search needs
 returns-2 : tie.Need-returns-2
 returns-2 c =
     let a = c .before .before .before .before in
-    let s = st (a .before .before .before .before .before .before) in
+    let s = many (a .before .before .before .before) in
     steps-whole (s .args .count) (λ h. omega (arith, h, pixels-are s)) (a .take-many .ensures)
 
 take-many-requires-2 : tie.Need-take-many-requires-2
 take-many-requires-2 c κs =
     let t = c .before .before in
-    let s = st (t .before .before .before) in
+    let s = many (t .before) in
     able s (space s) (omega (arith, t .if2 .left)) (omega arith)
 
 same-length-5 : tie.Need-same-length-5
@@ -95,7 +99,7 @@ same-length-6 c = search needs
 returns-3 : tie.Need-returns-3
 returns-3 c =
     let a = c .before .before .before .before in
-    let s = st (a .before .before .before .before .before .before) in
+    let s = many (a .before .before .before .before) in
     steps-whole (space s) (λ h. omega (arith, s .pre .1 .0)) (a .take-many2 .ensures)
 
 pub take-strip-spec : {M : Type 1} → statement M

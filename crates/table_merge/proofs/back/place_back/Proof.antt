@@ -38,12 +38,17 @@ loop-holds c =
 clear-requires-2 : tie.Need-clear-requires-2 Inv-loop μ-loop
 clear-requires-2 c κs = omega arith
 
+-- where the call begins
+abbrev st : tie.At-loop Inv-loop μ-loop → tie.Start Inv-loop μ-loop
+st l = l .before .before .before .before .before
+
 -- the last key is there, and not below the key
-passed : (c : tie.Then2 Inv-loop μ-loop) → (0 < c .before .before .loop .left)
-    × (c .before .before .before .before .before .before .before .args .key ≤ getD
-    (now (c .before .before .before .before .before .before .before .args .keys)) (c .before .before .loop .left - 1) 0)
-passed c = let s = c .before .before .before .before .before .before .before .args in
-    not-below (now (s .keys)) (c .before .before .loop .left) (s .key)
+passed : (c : tie.Then2 Inv-loop μ-loop)
+    → (let l = c .before .before in
+    (0 < l .loop .left) × (st l .args .key ≤ getD (now (st l .args .keys)) (l .loop .left - 1) 0))
+passed c =
+    let l = c .before .before in
+    not-below (now (st l .args .keys)) (l .loop .left) (st l .args .key)
     (sym (c .before .clear2 .ensures) ∙ not-true _ (c .if2 .taken))
 
 sub-left : tie.Need-sub-left Inv-loop μ-loop
@@ -58,7 +63,7 @@ loop-again c = (omega arith, λ l. passed c .1)
 returns-2 : tie.Need-returns-2 Inv-loop μ-loop
 returns-2 c =
     let l = c .before .before in
-    let s = l .before .before .before .before .before in
+    let s = st l in
     below-at (s .args .key) (s .args .i) (l .loop .left) (now (s .args .keys)) (s .pre .0) (l .loop .inv .0)
     (all-below (now (s .args .keys)) (l .loop .left) (s .args .key)
     (λ p q h k. s .pre .1 p q h (omega (arith, l .loop .inv .0)))

@@ -23,6 +23,14 @@ in-room : (c : tie.Else1)
     → InRoom (st (c .before) .args .rec) (now (st (c .before) .args .keys)) (now (st (c .before) .args .weights))
 in-room c = record { within = omega (arith, c .before .room-of .ensures) }
 
+-- past the tests of the room and of an empty table, once the keys are looked at
+abbrev within : tie.After-faults → tie.Else1
+within c = c .before .before
+
+-- the keys looked at, once the weights are
+abbrev keyed : tie.After-weigh → tie.After-faults
+keyed c = c .before .before .before .before
+
 room-of-requires : tie.Need-room-of-requires
 room-of-requires c κs = search needs
 
@@ -44,7 +52,7 @@ faults-requires c κs = search needs
 
 returns-3 : tie.Need-returns-3
 returns-3 c =
-    let room = in-room (c .before .before .before) in
+    let room = in-room (within (c .before)) in
     sym (bad-of-fault room (λ f. c .if3 .taken (c .before .faults .ensures ∙ f .rising)))
 
 mul-if4 : tie.Need-mul-if4
@@ -55,7 +63,7 @@ shared-slice-read-if4 c = search needs
 
 returns-4 : tie.Need-returns-4
 returns-4 c =
-    let room = in-room (c .before .before .before .before .before) in
+    let room = in-room (within (c .before .before .before)) in
     sym (bad-of-fault room (λ f. omega (arith, f .greatest (omega arith))))
 
 weigh-requires : tie.Need-weigh-requires
@@ -63,20 +71,20 @@ weigh-requires c κs = search needs
 
 returns-5 : tie.Need-returns-5
 returns-5 c =
-    let room = in-room (c .before .before .before .before .before .before .before) in
+    let room = in-room (within (keyed (c .before))) in
     sym (bad-of-fault room (λ f. c .if5 .taken (c .before .weigh .ensures .0 ∙ f .weighted)))
 
 returns-6 : tie.Need-returns-6
 returns-6 c =
     let w = c .before .before in
-    let room = in-room (w .before .before .before .before .before .before) in
+    let room = in-room (within (keyed w)) in
     sym (bad-of-sum room (λ q. c .if6 .taken (w .weigh .ensures .1 ∙ q)))
 
 returns-7 : tie.Need-returns-7
 returns-7 c =
     let w = c .before .before in
-    let f = w .before .before .before .before in
-    let room = in-room (f .before .before) in
+    let f = keyed w in
+    let room = in-room (within f) in
     sym (bad-of-pixels room record {
       rising = sym (f .faults .ensures) ∙ w .before .before .before .if3 .left;
       weighted = sym (w .weigh .ensures .0) ∙ c .before .if5 .left;
