@@ -5,8 +5,8 @@ use mathlib.Core.List.{List}
 use mathlib.Core.Path.{_≡_, sym, ap, _∙_}
 use native.Mathlib.Omega.{arith}
 use Rattle.refusal.specs.{done}
-use Rattle.table.specs.{Record}
-use Rattle.table.proofs.Promises.{bad-table-exactly}
+use Rattle.table_test.specs.{Record}
+use Rattle.table_test.proofs.Promises.{bad-table-exactly}
 use Rattle.shades.specs.{shadeAt}
 use Rattle.method.specs.{coloursOf, meanOf, onMean, starts, toMean, begin}
 use Rattle.method.proofs.Begins.{mean-low}

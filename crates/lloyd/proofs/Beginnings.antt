@@ -7,7 +7,7 @@ use native.Mathlib.Omega.{arith}
 use lib.ListN.{getD}
 use Rattle.number.specs.{most}
 use Rattle.number.proofs.Promises.{most-is-best}
-use Rattle.table.specs.{Record, GoodTable}
+use Rattle.table_test.specs.{Record, GoodTable}
 use Rattle.shades.specs.{mostShades, shadeAt, colourAt}
 use Rattle.method.specs.{Base, coloursOf, remote, startsFrom, beginFrom}
 use Rattle.method.proofs.Begins.{start-stored}

@@ -8,7 +8,7 @@ use lib.ListN.{length}
 use borrow.Author.Tests.{ltb-false}
 use Rattle.number.proofs.Cases.{neither}
 use Rattle.refusal.specs.{Refusal, numberOf, done, firstOf, NoneHolds, Refuses}
-use Rattle.table.specs.{Record, badTable}
+use Rattle.table_test.specs.{Record, badTable}
 use Rattle.method.specs.{Colours, State, coloursOf, toMean, onMean, finalOf, begin}
 use Rattle.method.specs.{mostRounds}
 use Rattle.rounds.specs.{Runnable, SeriesMeets}

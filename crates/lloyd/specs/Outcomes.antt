@@ -7,7 +7,7 @@ use lib.Dec.{ltb}
 use lib.ListN.{replicate}
 use Rattle.number.specs.{sum, fill, firstThat}
 use Rattle.refusal.specs.{Row, done, outcomeOf}
-use Rattle.table.specs.{Record}
+use Rattle.table_test.specs.{Record}
 use Rattle.shades.specs.{mostCoordinates}
 use Rattle.method.specs.{
   Rule,

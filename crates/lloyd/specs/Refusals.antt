@@ -3,7 +3,7 @@ use Prim.Native.Nat.{ℕ}
 use mathlib.Core.Bool.{_||_}
 use mathlib.Core.List.{List, [], _∷_}
 use Rattle.refusal.specs.{Row, row, BAD-TABLE, BAD-COUNT, FEW-COLOURS, BAD-LIMIT, SHORT-ROOM}
-use Rattle.table.specs.{Record, badTable}
+use Rattle.table_test.specs.{Record, badTable}
 use Rattle.lloyd_tests.specs.{badCount, fewColours, badLimit, shortMembers, shortTotals}
 
 -- the order of a run: 2, 4, 5, 6, 7

@@ -12,7 +12,7 @@ use refusal::DONE;
 use refusal::FEW_COLOURS;
 use refusal::SHORT_ROOM;
 use rounds::Whole;
-use table::Record;
+use table_test::Record;
 
 // 1 where a run is settled, else 0.
 pub fn flag_of(settled: bool) -> u64
@@ -58,7 +58,7 @@ pub fn run(
         (now (members .entry)) (now (totals .entry)))
         r (now (members .exit)) (now (totals .exit)) ⌝ }
 {
-    if table::bad_table(rec, keys, weights) {
+    if table_test::bad_table(rec, keys, weights) {
         return refused(BAD_TABLE);
     }
     if bad_count(count) {

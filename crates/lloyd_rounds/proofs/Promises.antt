@@ -6,7 +6,7 @@ use mathlib.Core.Logic.{_↔_}
 use mathlib.Core.Path.{_≡_, sym, _∙_}
 use lib.ListN.{getD, length}
 use Rattle.refusal.specs.{Refusal, numberOf, done, Given, NoneHolds}
-use Rattle.table.specs.{Record}
+use Rattle.table_test.specs.{Record}
 use Rattle.shades.specs.{colourAt, nearestShade}
 use Rattle.method.specs.{State, coloursOf, toMean, plainDistances, shortDistances}
 use Rattle.lloyd_rounds.specs.Refusals.{plainRows, shortRows}

@@ -9,7 +9,7 @@ use Rattle.number.proofs.Fills.{fill-kept}
 use Rattle.refusal.specs.{Row, done, firstOf, NoneHolds, Refuses}
 use Rattle.refusal.proofs.Order.{none-front}
 use Rattle.refusal.proofs.Outcomes.{refuses, refuses-all}
-use Rattle.table.specs.{Record, badTable}
+use Rattle.table_test.specs.{Record, badTable}
 use Rattle.shades.specs.{colourAt, nearestShade, badCoordinates, badCentre}
 use Rattle.shades.proofs.Checks.{bad-coordinates-exactly, shades-of-tests}
 use Rattle.method.specs.{Colours, State, coloursOf, toMean, joins, plainDistances, shortDistances}

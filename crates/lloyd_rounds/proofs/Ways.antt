@@ -5,7 +5,7 @@ use mathlib.Core.List.{List}
 use mathlib.Core.Path.{_≡_, refl, ap, _∙_}
 use lib.ListN.{length}
 use Rattle.refusal.specs.{Row, Refusal, numberOf, done, firstOf, Refuses}
-use Rattle.table.specs.{Record}
+use Rattle.table_test.specs.{Record}
 use Rattle.method.specs.{Colours, State, coloursOf, toMean, plainDistances, shortDistances}
 use Rattle.rounds.specs.{StepMeets}
 use Rattle.lloyd_tests.specs.{badMember}

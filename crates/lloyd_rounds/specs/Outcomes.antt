@@ -4,7 +4,7 @@ use mathlib.Core.List.{List}
 use mathlib.Core.Path.{_≡_}
 use lib.ListN.{length}
 use Rattle.refusal.specs.{done, outcomeOf}
-use Rattle.table.specs.{Record}
+use Rattle.table_test.specs.{Record}
 use Rattle.method.specs.{
   Rule,
   Colours,

@@ -3,7 +3,7 @@ use Prim.Native.Nat.{ℕ, _/_}
 use mathlib.Core.List.{List, [], _∷_, _++_}
 use lib.ListN.{length}
 use Rattle.refusal.specs.{Row, row, BAD-TABLE, BAD-COUNT, SHORT-ROOM, BAD-CENTRE, BAD-MEMBER}
-use Rattle.table.specs.{Record, badTable}
+use Rattle.table_test.specs.{Record, badTable}
 use Rattle.shades.specs.{badCoordinates, badCentre}
 use Rattle.method.specs.{State}
 use Rattle.lloyd_tests.specs.{shortMembers, badMember}

@@ -16,7 +16,7 @@ use refusal::BAD_TABLE;
 use refusal::DONE;
 use refusal::SHORT_ROOM;
 use rounds::Stepped;
-use table::Record;
+use table_test::Record;
 
 // The answer of a refusal: its number and zeros.
 fn refused(number: u8) -> Rounded
@@ -67,7 +67,7 @@ pub fn plain_round(
         (stateOf (now (coordinates .entry)) (now (members .entry))))
         r (now (coordinates .exit)) (now (members .exit)) ⌝ }
 {
-    if table::bad_table(rec, keys, weights) {
+    if table_test::bad_table(rec, keys, weights) {
         return refused(BAD_TABLE);
     }
     if shades::bad_coordinates(coordinates.len()) {
@@ -102,7 +102,7 @@ pub fn short_round(
         (stateOf (now (coordinates .entry)) (now (members .entry))))
         r (now (coordinates .exit)) (now (members .exit)) ⌝ }
 {
-    if table::bad_table(rec, keys, weights) {
+    if table_test::bad_table(rec, keys, weights) {
         return refused(BAD_TABLE);
     }
     if shades::bad_coordinates(coordinates.len()) {

@@ -5,7 +5,7 @@ use mathlib.Core.List.{List}
 use mathlib.Core.Logic.{_↔_}
 use mathlib.Core.Path.{_≡_}
 use lib.ListN.{getD, length}
-use Rattle.table.specs.{Record}
+use Rattle.table_test.specs.{Record}
 use Rattle.shades.specs.{mostShades}
 use Rattle.method.specs.{mostRounds}
 use Rattle.lloyd_tests.specs.Tests.{

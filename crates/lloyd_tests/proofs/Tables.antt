@@ -7,8 +7,8 @@ use native.Mathlib.Omega.{arith}
 use lib.ListN.{getD}
 use Rattle.number.specs.{sum}
 use Rattle.number.proofs.Sums.{sum-term}
-use Rattle.table.specs.{Record, badTable, GoodTable}
-use Rattle.table.proofs.Promises.{bad-table-exactly}
+use Rattle.table_test.specs.{Record, badTable, GoodTable}
+use Rattle.table_test.proofs.Promises.{bad-table-exactly}
 use Rattle.table_entries.specs.{Tabled}
 
 -- its used entries lie in the two slices

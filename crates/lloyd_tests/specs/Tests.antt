@@ -6,7 +6,7 @@ use mathlib.Core.List.{List}
 use lib.ListN.{getD, length}
 use lib.Dec.{ltb, leb, eqb}
 use Rattle.number.specs.{howMany}
-use Rattle.table.specs.{Record}
+use Rattle.table_test.specs.{Record}
 use Rattle.shades.specs.{mostShades}
 use Rattle.method.specs.{mostRounds}
 

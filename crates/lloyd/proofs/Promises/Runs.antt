@@ -10,7 +10,7 @@ use lib.ListN.{getD, length}
 use lib.Dec.{eqb}
 use Rattle.number.specs.{sum, sumOf}
 use Rattle.refusal.specs.{done}
-use Rattle.table.specs.{Record}
+use Rattle.table_test.specs.{Record}
 use Rattle.colour.specs.{Point, distance}
 use Rattle.shades.specs.{shadeAt, colourAt, nearestShade, OnGrid}
 use Rattle.method.specs.{

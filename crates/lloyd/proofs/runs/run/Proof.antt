@@ -9,7 +9,7 @@ use borrow.Author.Tests.{lt-ltb, le-ltb}
 use denote.Ref.{now}
 use borrow.Author.Needs.{needs}
 use Rattle.refusal.specs.{BAD-TABLE, BAD-COUNT, FEW-COLOURS, BAD-LIMIT, SHORT-ROOM}
-use Rattle.table.specs.{Record, badTable}
+use Rattle.table_test.specs.{Record, badTable}
 use Rattle.lloyd_tests.specs.{limitOf, badCount, fewColours, badLimit, shortTotals}
 use Rattle.lloyd.proofs.Wholes.{RunGood, runnable, run-none, run-meets-refused, run-meets-made}
 use Rattle.lloyd.proofs.runs.run.Statement.{statement}

@@ -8,7 +8,7 @@ use borrow.Author.Tests.{lt-ltb, le-ltb}
 use denote.Ref.{now}
 use borrow.Author.Needs.{needs}
 use Rattle.refusal.specs.{BAD-TABLE, BAD-COUNT, BAD-CENTRE, SHORT-ROOM, BAD-MEMBER}
-use Rattle.table.specs.{Record, badTable}
+use Rattle.table_test.specs.{Record, badTable}
 use Rattle.shades.specs.{badCoordinates, badCentre}
 use Rattle.shades.proofs.Checks.{coordinates-at-most}
 use Rattle.method.specs.{State, stateOf}
