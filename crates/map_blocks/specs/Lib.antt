@@ -1,5 +1,5 @@
 -- Glossary. Bytes come three by three: pixel i of a strip and entry i of a palette have the places 3i, 3i + 1, 3i + 2.
--- A pixel, and how far pixels are from their shades, are `misses`'s.
+-- A pixel, and how far pixels are from their shades, are `map_errors`'s.
 --   pixelCount strip          a third of the strip's bytes
 --   entryCount palette        a third of the palette's bytes
 --   entryAt palette q         entry q, in whole levels

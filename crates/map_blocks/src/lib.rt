@@ -2,8 +2,8 @@
 // levels, and the squared differences are added up for each channel.
 //
 // Calls; none refuses, and what one requires stands above it
-//   map_pixels   maps a strip against a palette of bytes     whole.rt
-// Crate `places` gathers the pixels of a block in places, and searches these as the plain round does,
+//   map_pixels   maps a strip against a palette of bytes     strip.rt
+// Crate `map_slots` gathers the pixels of a block in places, and searches these as the plain round does,
 // on levels in place of sixteenths. Where the places are few (few.rt) those with one colour are
 // joined, and crate `map_errors` tells numbers and errors place by place; where they are many (block.rt)
 // it tells them pixel by pixel.
@@ -12,6 +12,6 @@
 
 mod block;
 mod few;
-mod whole;
+mod strip;
 
-pub use whole::map_pixels;
+pub use strip::map_pixels;

@@ -7,7 +7,27 @@ ghost use Rattle.number.specs.{fill};
 ghost use Rattle.shades.specs.{Shades, packedNearest};
 ghost use Rattle.search_all.specs.{RoomFor};
 ghost use Rattle.map_slots.specs.Gathering.{levelsAt};
-use super::runs::lay_out;
+
+// Lays out the colours of the first `n` keys: their levels go to the fronts of three lists, the
+// rest of which stays. Requires that many keys, and room for their colours.
+fn lay_out(keys: &[u32], n: usize, reds: &mut [u16], greens: &mut [u16], blues: &mut [u16])
+    requires { ⌜ (n ≤ length (now keys)) × RoomFor n (now reds) (now greens) (now blues) ⌝ }
+    ensures reds { λ _. ⌜ now (reds .exit)
+        ≡ fill n (λ q. levelsAt (now (keys .entry)) q .r) (now (reds .entry)) ⌝ }
+    ensures greens { λ _. ⌜ now (greens .exit)
+        ≡ fill n (λ q. levelsAt (now (keys .entry)) q .g) (now (greens .entry)) ⌝ }
+    ensures blues { λ _. ⌜ now (blues .exit)
+        ≡ fill n (λ q. levelsAt (now (keys .entry)) q .b) (now (blues .entry)) ⌝ }
+{
+    let mut i = 0;
+    while i < n {
+        let key = keys[i];
+        reds[i] = colour::short_of(colour::red_of(key));
+        greens[i] = colour::short_of(colour::green_of(key));
+        blues[i] = colour::short_of(colour::blue_of(key));
+        i += 1;
+    }
+}
 
 // The nearest of `k` shades of `s` to the colour of each of the first `n` keys, distance and number
 // in one, into the front of `best`, the rest of which stays; the three lists before it are where

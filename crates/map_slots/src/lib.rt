@@ -1,7 +1,7 @@
 // The places of a block of pixels: pixels with one colour share one, so that it is searched once.
 //
 // Calls; none refuses, and what one requires stands above it
-//   gather          equal pixels that follow one another get one place   runs.rt
+//   gather          equal pixels that follow one another get one place   streaks.rt
 //   join            places with one key become one                       keys.rt
 //   search_places   the nearest shade of the colour at each place        find.rt
 //
@@ -9,8 +9,8 @@
 
 mod find;
 mod keys;
-mod runs;
+mod streaks;
 
 pub use find::search_places;
 pub use keys::join;
-pub use runs::gather;
+pub use streaks::gather;

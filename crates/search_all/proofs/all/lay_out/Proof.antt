@@ -8,8 +8,8 @@ use borrow.Author.Needs.{needs}
 use Rattle.shades.specs.{colourAt}
 use Rattle.search_all.specs.Asking.{RoomFor}
 use Rattle.search_all.proofs.Layouts.{Fronts, fronts-start, fronts-room, fronts-step, fronts-long}
-use Rattle.search_all.proofs.full.lay_out.Statement.{statement}
-use Rattle.search_all.proofs.full.lay_out.Tie as tie
+use Rattle.search_all.proofs.all.lay_out.Statement.{statement}
+use Rattle.search_all.proofs.all.lay_out.Tie as tie
 
 abbrev Inv-loop : tie.InvT-loop
 Inv-loop keys reds₀ greens₀ blues₀ n i₀ reds greens blues i =

@@ -1,8 +1,8 @@
 -- `plus` meets its contract: it is the definition.
 use mathlib.Core.Path.{refl}
 use borrow.Author.Needs.{needs}
-use Rattle.map_blocks.proofs.whole.plus.Statement.{statement}
-use Rattle.map_blocks.proofs.whole.plus.Tie as tie
+use Rattle.map_blocks.proofs.strip.plus.Statement.{statement}
+use Rattle.map_blocks.proofs.strip.plus.Tie as tie
 
 add-t3 : tie.Need-add-t3
 add-t3 c = search needs

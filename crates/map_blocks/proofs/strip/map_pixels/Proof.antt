@@ -3,8 +3,8 @@ use native.Mathlib.Omega.{arith}
 use denote.Ref.{now}
 use borrow.Author.Needs.{needs}
 use Rattle.map_blocks.proofs.Widened.{widened-shades, widened-index, widened-errors}
-use Rattle.map_blocks.proofs.whole.map_pixels.Statement.{statement}
-use Rattle.map_blocks.proofs.whole.map_pixels.Tie as tie
+use Rattle.map_blocks.proofs.strip.map_pixels.Statement.{statement}
+use Rattle.map_blocks.proofs.strip.map_pixels.Tie as tie
 
 -- where the function begins
 abbrev st : tie.After-widen → tie.Start

@@ -8,9 +8,9 @@ use borrow.Author.Needs.{needs}
 use Rattle.number.specs.{fill}
 use Rattle.number.proofs.Fills.{fill-length}
 use Rattle.search_all.specs.Asking.{pointAt, lookedAt}
-use Rattle.search_all.proofs.full.Leasts.{look-more}
-use Rattle.search_all.proofs.full.look.Statement.{statement}
-use Rattle.search_all.proofs.full.look.Tie as tie
+use Rattle.search_all.proofs.all.Leasts.{look-more}
+use Rattle.search_all.proofs.all.look.Statement.{statement}
+use Rattle.search_all.proofs.all.look.Tie as tie
 
 abbrev Inv-loop : tie.InvT-loop
 Inv-loop reds greens blues p q best₀ n number i₀ best i =

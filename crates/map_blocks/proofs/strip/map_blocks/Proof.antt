@@ -6,7 +6,7 @@ use lib.ListN.{length}
 use denote.Ref.{now}
 use borrow.Author.Needs.{needs}
 use Rattle.colour.specs.{Bytes}
-use Rattle.map_blocks.proofs.whole.Blocks.{
+use Rattle.map_blocks.proofs.strip.Blocks.{
   Mapped,
   Lists,
   mapped-start,
@@ -15,8 +15,8 @@ use Rattle.map_blocks.proofs.whole.Blocks.{
   block-asked,
   errors-small,
 }
-use Rattle.map_blocks.proofs.whole.map_blocks.Statement.{statement}
-use Rattle.map_blocks.proofs.whole.map_blocks.Tie as tie
+use Rattle.map_blocks.proofs.strip.map_blocks.Statement.{statement}
+use Rattle.map_blocks.proofs.strip.map_blocks.Tie as tie
 
 abbrev Inv-loop : tie.InvT-loop
 Inv-loop

@@ -1,7 +1,7 @@
 -- `differs` meets its contract.
 use borrow.Author.Tests.{eq-eqb, ne-eqb}
-use Rattle.map_slots.proofs.runs.differs.Statement.{statement}
-use Rattle.map_slots.proofs.runs.differs.Tie as tie
+use Rattle.map_slots.proofs.streaks.differs.Statement.{statement}
+use Rattle.map_slots.proofs.streaks.differs.Tie as tie
 
 returns : tie.Need-returns
 returns c = rw (eq-eqb _ _ (c .if1 .taken))

@@ -1,11 +1,9 @@
 // The pixels of a block, gathered: one that equals the pixel before it shares its place, so that a
-// colour is searched once for each run of it.
+// colour is searched once for each streak of it.
 ghost use mathlib.Core.Path.{_≡_};
 ghost use Prim.Native.Nat.{_/_, _≤_};
 ghost use lib.ListN.{length};
-ghost use Rattle.number.specs.{fill};
-ghost use Rattle.search_all.specs.{RoomFor};
-ghost use Rattle.map_slots.specs.Gathering.{mostPlaces, differ, pixelKey, levelsAt, Gathered};
+ghost use Rattle.map_slots.specs.Gathering.{mostPlaces, differ, pixelKey, Gathered};
 
 // 1 where two keys differ, 0 where they are equal.
 fn differs(a: u32, b: u32) -> usize
@@ -14,7 +12,7 @@ fn differs(a: u32, b: u32) -> usize
     if a == b { 0 } else { 1 }
 }
 
-// Gathers the pixels of `strip`: `keys` gets the key of each run of equal ones at the run's place,
+// Gathers the pixels of `strip`: `keys` gets the key of each streak of equal ones at its place,
 // and `which` the place of each pixel. Answers how many places there are. No branch is made on a
 // pixel: the key of one that shares its place is stored there again. Requires at most 1024 pixels,
 // and room for them.
@@ -39,25 +37,4 @@ pub fn gather(strip: &[u8], keys: &mut [u32], which: &mut [u16]) -> usize
         i += 1;
     }
     places
-}
-
-// Lays out the colours of the first `n` keys: their levels go to the fronts of three lists, the
-// rest of which stays. Requires that many keys, and room for their colours.
-pub fn lay_out(keys: &[u32], n: usize, reds: &mut [u16], greens: &mut [u16], blues: &mut [u16])
-    requires { ⌜ (n ≤ length (now keys)) × RoomFor n (now reds) (now greens) (now blues) ⌝ }
-    ensures reds { λ _. ⌜ now (reds .exit)
-        ≡ fill n (λ q. levelsAt (now (keys .entry)) q .r) (now (reds .entry)) ⌝ }
-    ensures greens { λ _. ⌜ now (greens .exit)
-        ≡ fill n (λ q. levelsAt (now (keys .entry)) q .g) (now (greens .entry)) ⌝ }
-    ensures blues { λ _. ⌜ now (blues .exit)
-        ≡ fill n (λ q. levelsAt (now (keys .entry)) q .b) (now (blues .entry)) ⌝ }
-{
-    let mut i = 0;
-    while i < n {
-        let key = keys[i];
-        reds[i] = colour::short_of(colour::red_of(key));
-        greens[i] = colour::short_of(colour::green_of(key));
-        blues[i] = colour::short_of(colour::blue_of(key));
-        i += 1;
-    }
 }

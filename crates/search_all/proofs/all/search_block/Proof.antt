@@ -6,8 +6,8 @@ use borrow.Author.Needs.{needs}
 use Rattle.colour.proofs.Distances.{colour-within}
 use Rattle.shades.specs.{colourAt, packedNearest}
 use Rattle.search_all.proofs.Layouts.{LaidOut, fronts-done, laid-out-ready, laid-out-filled}
-use Rattle.search_all.proofs.full.search_block.Statement.{statement}
-use Rattle.search_all.proofs.full.search_block.Tie as tie
+use Rattle.search_all.proofs.all.search_block.Statement.{statement}
+use Rattle.search_all.proofs.all.search_block.Tie as tie
 
 -- where the function begins
 abbrev st : tie.After-lay-out → tie.Start

@@ -4,9 +4,9 @@ use mathlib.Core.Path.{refl, _∙_}
 use native.Mathlib.Omega.{arith}
 use denote.Ref.{now}
 use Rattle.search_all.proofs.Layouts.{BlockLists, block-room}
-use Rattle.search_all.proofs.full.Blocks.{Searched, searched-start, searched-step, block-keys}
-use Rattle.search_all.proofs.full.search_all.Statement.{statement}
-use Rattle.search_all.proofs.full.search_all.Tie as tie
+use Rattle.search_all.proofs.all.Blocks.{Searched, searched-start, searched-step, block-keys}
+use Rattle.search_all.proofs.all.search_all.Statement.{statement}
+use Rattle.search_all.proofs.all.search_all.Tie as tie
 
 abbrev Inv-loop : tie.InvT-loop
 Inv-loop keys used s k members₀ reds₀ greens₀ blues₀ i₀ members reds greens blues i =

@@ -7,8 +7,8 @@ use denote.Ref.{now}
 use borrow.Author.Needs.{needs}
 use Rattle.number.specs.{fill}
 use Rattle.number.proofs.Fills.{fill-length, fill-more}
-use Rattle.map_blocks.proofs.whole.widen.Statement.{statement}
-use Rattle.map_blocks.proofs.whole.widen.Tie as tie
+use Rattle.map_blocks.proofs.strip.widen.Statement.{statement}
+use Rattle.map_blocks.proofs.strip.widen.Tie as tie
 
 abbrev Inv-loop : tie.InvT-loop
 Inv-loop palette wide₀ n i₀ wide i = (i ≤ length palette) × (wide ≡ fill i (λ j. getD palette j 0) wide₀)

@@ -7,9 +7,9 @@ use denote.Ref.{now}
 use borrow.Author.Needs.{needs}
 use Rattle.shades.proofs.Laying.{shade-within}
 use Rattle.search_all.specs.Asking.{pointAt}
-use Rattle.search_all.proofs.full.Leasts.{Looked, looked-long, looked-start, looked-step, looked-done}
-use Rattle.search_all.proofs.full.search_points.Statement.{statement}
-use Rattle.search_all.proofs.full.search_points.Tie as tie
+use Rattle.search_all.proofs.all.Leasts.{Looked, looked-long, looked-start, looked-step, looked-done}
+use Rattle.search_all.proofs.all.search_points.Statement.{statement}
+use Rattle.search_all.proofs.all.search_points.Tie as tie
 
 abbrev Inv-loop : tie.InvT-loop
 Inv-loop reds greens blues s k best₀ n q₀ best q = Looked s (pointAt reds greens blues) k best₀ best q
