@@ -1,2 +1,2 @@
--- Places searched: the numbers found are those of the nearest shades.
+-- Slots searched: the numbers found are those of the nearest shades.
 pub mod Searches

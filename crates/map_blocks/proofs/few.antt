@@ -1,2 +1,2 @@
--- Few places: what is told of them is what is asked of their pixels.
+-- Few slots: what is told of them is what is asked of their pixels.
 pub mod Fews

@@ -10,7 +10,7 @@
 --   errorOf palette strip n   their error: the sum of squared level differences
 --   BlockEnd i n e            the block that begins at pixel i of n ends at e
 --   nearestAt s k c i         the nearest of k shades to point c i
---   FewTaken n which m        n pixels take m places, which are few
+--   FewTaken n which m        n pixels take m slots, which are few
 --   Room, SmallErrors, Mappable   what mapping a block, adding errors up and mapping a strip ask
 pub mod Meaning
 pub mod Asking

@@ -1,4 +1,4 @@
-// A block of pixels: gathered, and then mapped by its places, be they few or many.
+// A block of pixels: gathered, and then mapped by its slots, be they few or many.
 ghost use mathlib.Core.Path.{_≡_};
 ghost use Prim.Native.Nat.{_*_, _<_, _≤_};
 ghost use lib.ListN.{length};
@@ -6,15 +6,15 @@ ghost use Rattle.number.specs.{fill};
 ghost use Rattle.shades.specs.{Shades};
 ghost use Rattle.map_errors.specs.{pixelAt, missesOf};
 ghost use Rattle.map_blocks.specs.Meaning.{nearestTo};
-ghost use Rattle.map_slots.specs.{mostPlaces, pixelKey, Gathered};
+ghost use Rattle.map_slots.specs.{mostSlots, pixelKey, Gathered};
 ghost use Rattle.map_blocks.specs.Asking.{Room};
 use super::few::map_few;
 use map_errors::Errors;
 use map_errors::settle::settle;
 use map_slots::gather;
-use map_slots::search_places;
+use map_slots::search_slots;
 
-// Maps a block of pixels that are gathered in the first `n` places of `keys` to the `k` shades of
+// Maps a block of pixels that are gathered in the first `n` slots of `keys` to the `k` shades of
 // `s`; the four lists before `index` are where it works. Requires that they are, some shades on the
 // grid, three bytes for each place of `index`, at most 1024 pixels, and room to work.
 fn map_many(
@@ -31,7 +31,7 @@ fn map_many(
     index: &mut [u8],
 ) -> Errors
     requires { ⌜ (length (now strip) ≡ 3 * length (now index)) × Shades k (now s) × (0 < k)
-        × (length (now index) ≤ mostPlaces)
+        × (length (now index) ≤ mostSlots)
         × Room (length (now index)) (now keys) (now which) (now reds) (now greens) (now blues)
         (now best)
         × Gathered (pixelKey (now strip)) (length (now index)) (now keys) (now which) n ⌝ }
@@ -42,7 +42,7 @@ fn map_many(
         ≡ missesOf (pixelAt (now (strip .entry))) (now (s .entry))
         (nearestTo (now (s .entry)) k (now (strip .entry))) (length (now (index .entry))) ⌝ }
 {
-    search_places(keys, n, s, k, reds, greens, blues, best);
+    search_slots(keys, n, s, k, reds, greens, blues, best);
     settle(strip, which, s, best, index)
 }
 
@@ -62,7 +62,7 @@ pub fn map_block(
     index: &mut [u8],
 ) -> Errors
     requires { ⌜ (length (now strip) ≡ 3 * length (now index)) × Shades k (now s) × (0 < k)
-        × (length (now index) ≤ mostPlaces)
+        × (length (now index) ≤ mostSlots)
         × Room (length (now index)) (now keys) (now which) (now reds) (now greens) (now blues)
         (now best) ⌝ }
     ensures index { λ _. ⌜ now (index .exit)
@@ -72,15 +72,15 @@ pub fn map_block(
         ≡ missesOf (pixelAt (now (strip .entry))) (now (s .entry))
         (nearestTo (now (s .entry)) k (now (strip .entry))) (length (now (index .entry))) ⌝ }
 {
-    let places = gather(strip, keys, which);
-    if places <= 256 {
-        map_few(which, places, s, k, keys, reds, greens, blues, best, index)
+    let slots = gather(strip, keys, which);
+    if slots <= 256 {
+        map_few(which, slots, s, k, keys, reds, greens, blues, best, index)
     } else {
         map_many(
             strip,
             keys,
             which,
-            places,
+            slots,
             s,
             k,
             reds,

@@ -1,21 +1,21 @@
-// A block with few places: these are joined, searched, and told of.
+// A block with few slots: these are joined, searched, and told of.
 ghost use mathlib.Core.Path.{_≡_};
 ghost use Prim.Native.Nat.{_<_, _≤_};
 ghost use lib.ListN.{length};
 ghost use Rattle.number.specs.{fill};
 ghost use Rattle.shades.specs.{Shades};
 ghost use Rattle.map_errors.specs.{missesOf};
-ghost use Rattle.map_slots.specs.{mostPlaces, levelsOf};
+ghost use Rattle.map_slots.specs.{mostSlots, levelsOf};
 ghost use Rattle.map_blocks.specs.Asking.{Room, FewTaken, nearestAt};
 use map_errors::Errors;
 use map_errors::tell::add_told;
 use map_errors::tell::tell;
 use map_slots::join;
-use map_slots::search_places;
+use map_slots::search_slots;
 
-// Maps pixels to the `k` shades of `s`: the colour of each is that with the key at its place in
+// Maps pixels to the `k` shades of `s`: the colour of each is that with the key at its slot in
 // `which`, one of the first `n`. The five lists before `index` are where it works. Requires some
-// shades on the grid, at most 256 places and 1024 pixels, and room to work.
+// shades on the grid, at most 256 slots and 1024 pixels, and room to work.
 pub fn map_few(
     which: &[u16],
     n: usize,
@@ -28,7 +28,7 @@ pub fn map_few(
     best: &mut [u32],
     index: &mut [u8],
 ) -> Errors
-    requires { ⌜ Shades k (now s) × (0 < k) × (length (now index) ≤ mostPlaces)
+    requires { ⌜ Shades k (now s) × (0 < k) × (length (now index) ≤ mostSlots)
         × FewTaken (length (now index)) (now which) n
         × Room (length (now index)) (now keys) (now which) (now reds) (now greens) (now blues)
         (now best) ⌝ }
@@ -44,7 +44,7 @@ pub fn map_few(
     let mut link = [0u8; 256];
     let mut told = [0u32; 1024];
     let joined = join(keys, n, &mut link);
-    search_places(keys, joined, s, k, reds, greens, blues, best);
+    search_slots(keys, joined, s, k, reds, greens, blues, best);
     tell(keys, &link, best, n, s, &mut told);
     add_told(which, &told, index)
 }

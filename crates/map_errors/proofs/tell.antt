@@ -1,2 +1,2 @@
--- Place after place is told of, and its cells are read back.
+-- Slot after slot is told of, and its cells are read back.
 pub mod Tells

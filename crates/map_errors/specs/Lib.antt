@@ -7,11 +7,11 @@
 --   numberOf which best i     the number found for pixel i
 --   cellOf c s q e            what is told of a point and shade q: three squared differences, and the number
 --   cellsOf c s f x           cell x of what is told of many, four cells each
---   toldAt told q e           cell e of place q
---   toldOf which told e i     cell e at the place of pixel i
+--   toldAt told q e           cell e of slot q
+--   toldOf which told e i     cell e at the slot of pixel i
 --   toldErrors which told n   the squared differences told of n pixels, added up
 --   Found                     what settling a block asks
---   Tellable, Told            what telling of places, and adding up what is told, ask
+--   Tellable, Told            what telling of slots, and adding up what is told, ask
 pub mod Missing
 pub mod Finding
 pub mod Telling

@@ -1,11 +1,11 @@
--- What is told of a place: the squared differences of its colour from its shade, and the shade's number, in four cells.
+-- What is told of a slot: the squared differences of its colour from its shade, and the shade's number, in four cells.
 use Prim.Native.Nat.{ℕ, zero, suc, _+_, _*_, _/_, _%_, _≤_, _<_}
 use mathlib.Core.List.{List}
 use lib.ListN.{getD, length}
 use Rattle.number.specs.{sum, sq}
 use Rattle.colour.specs.{Point, mostLevel, mostPixels}
 use Rattle.shades.specs.{shadeAt, OnGrid}
-use Rattle.map_slots.specs.{placeOf}
+use Rattle.map_slots.specs.{slotOf}
 use Rattle.map_errors.specs.Finding.{numberOf}
 use Rattle.map_errors.specs.declared.Errors.{Errors}
 
@@ -21,13 +21,13 @@ cellOf c s q (suc (suc (suc e))) = q
 abbrev pub cellsOf : (ℕ → Point) → List ℕ → (ℕ → ℕ) → ℕ → ℕ
 cellsOf c s f x = cellOf (c (x / 4)) s (f (x / 4)) (x % 4)
 
--- cell e of place q
+-- cell e of slot q
 abbrev pub toldAt : List ℕ → ℕ → ℕ → ℕ
 toldAt told q e = getD told (4 * q + e) 0
 
--- cell e at the place of pixel i
+-- cell e at the slot of pixel i
 abbrev pub toldOf : List ℕ → List ℕ → ℕ → ℕ → ℕ
-toldOf which told e i = toldAt told (placeOf which i) e
+toldOf which told e i = toldAt told (slotOf which i) e
 
 -- the squared differences told of n pixels, added up on each channel
 abbrev pub toldErrors : List ℕ → List ℕ → ℕ → Errors
@@ -37,18 +37,18 @@ toldErrors which told n = record {
   blue = sum n (toldOf which told 2);
 }
 
--- n places are linked to keys and numbers found, the numbers' shades are in s, and there is room to tell of them
+-- n slots are linked to keys and numbers found, the numbers' shades are in s, and there is room to tell of them
 pub record Tellable (keys link best s told : List ℕ) (n : ℕ) : Type 0 where
   pub links : n ≤ length link
-  pub keyed : (i : ℕ) → i < n → placeOf link i < length keys
-  pub placed : (i : ℕ) → i < n → placeOf link i < length best
+  pub keyed : (i : ℕ) → i < n → slotOf link i < length keys
+  pub slotted : (i : ℕ) → i < n → slotOf link i < length best
   pub inside : (i : ℕ) → i < n → 3 * numberOf link best i + 2 < length s
   pub shades : OnGrid s
   pub room : 4 * n ≤ length told
 
--- of the place of each of n pixels is told, with the number of a byte
+-- of the slot of each of n pixels is told, with the number of a byte
 pub record Told (which told : List ℕ) (n : ℕ) : Type 0 where
-  pub places : n ≤ length which
-  pub cells : (i : ℕ) → i < n → 4 * placeOf which i + 3 < length told
+  pub slots : n ≤ length which
+  pub cells : (i : ℕ) → i < n → 4 * slotOf which i + 3 < length told
   pub byte : (i : ℕ) → i < n → toldOf which told 3 i ≤ mostLevel
   pub few : n ≤ mostPixels

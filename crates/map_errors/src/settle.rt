@@ -17,7 +17,7 @@ fn miss(level: u8, b: u32) -> u64
     colour::square(level as u32, b) as u64
 }
 
-// Stores the number found for each pixel of `strip`, at its place in `which`, and adds up how far
+// Stores the number found for each pixel of `strip`, at its slot in `which`, and adds up how far
 // the pixels are from their shades of `s`, channel by channel. Requires three bytes and a number
 // found for each place of `index`.
 pub fn settle(strip: &[u8], which: &[u16], s: &[u32], best: &[u32], index: &mut [u8]) -> Errors

@@ -1,5 +1,5 @@
-// Where the places of a block are few, a pixel's squared differences and number are told once for
-// each place, in four cells, and read from there for each pixel.
+// Where the slots of a block are few, a pixel's squared differences and number are told once for
+// each slot, in four cells, and read from there for each pixel.
 ghost use mathlib.Core.Path.{_≡_};
 ghost use Prim.Native.Nat.{_*_};
 ghost use lib.ListN.{length};
@@ -9,9 +9,9 @@ ghost use Rattle.map_errors.specs.Finding.{numberOf};
 ghost use Rattle.map_errors.specs.Telling.{cellsOf, toldOf, toldErrors, Tellable, Told};
 use super::Errors;
 
-// Tells of `n` places, in the front of `told`, the rest of which stays: how far the colour that a
-// place is linked to is from the shade found for it, channel by channel, and the shade's number.
-// Requires that the links are places, that the shades are in `s`, and room.
+// Tells of `n` slots, in the front of `told`, the rest of which stays: how far the colour that a
+// slot is linked to is from the shade found for it, channel by channel, and the shade's number.
+// Requires that the links are slots, that the shades are in `s`, and room.
 pub fn tell(keys: &[u32], link: &[u8], best: &[u32], n: usize, s: &[u32], told: &mut [u32])
     requires { ⌜ Tellable (now keys) (now link) (now best) (now s) (now told) n ⌝ }
     ensures { λ _. ⌜ now (told .exit)
@@ -21,9 +21,9 @@ pub fn tell(keys: &[u32], link: &[u8], best: &[u32], n: usize, s: &[u32], told: 
 {
     let mut i = 0;
     while i < n {
-        let place = link[i] as usize;
-        let key = keys[place];
-        let number = best[place] % 64;
+        let slot = link[i] as usize;
+        let key = keys[slot];
+        let number = best[slot] % 64;
         let from = 3 * (number as usize);
         let at = 4 * i;
         told[at] = colour::square(colour::red_of(key), s[from]);
@@ -34,8 +34,8 @@ pub fn tell(keys: &[u32], link: &[u8], best: &[u32], n: usize, s: &[u32], told: 
     }
 }
 
-// Stores the number told of each pixel, at its place in `which`, and adds up the squared
-// differences told of them. Requires four cells, with a byte for the number, for each place of
+// Stores the number told of each pixel, at its slot in `which`, and adds up the squared
+// differences told of them. Requires four cells, with a byte for the number, for each slot of
 // `index`.
 pub fn add_told(which: &[u16], told: &[u32], index: &mut [u8]) -> Errors
     requires { ⌜ Told (now which) (now told) (length (now index)) ⌝ }

@@ -1,4 +1,4 @@
--- Key after key takes its place: one where it stands, else the next; and pixel after pixel that of the pixel before it
+-- Key after key takes its slot: one where it stands, else the next; and pixel after pixel that of the pixel before it
 -- where the two have one key, else the next.
 use Prim.Native.Nat.{ℕ, _+_, _-_, _/_, _≤_, _<_}
 use mathlib.Core.List.{List}
@@ -12,12 +12,12 @@ use borrow.Author.Tests.{eqb-true}
 use Rattle.number.proofs.Cases.{bool, cmp, lt, eq, gt}
 use Rattle.number.proofs.Searches.{below-or-last}
 use Rattle.colour.specs.{mostKey}
-use Rattle.map_slots.specs.Gathering.{differ, pixelKey, keyAt, placeOf, Gathered, Takes, there, next}
+use Rattle.map_slots.specs.Gathering.{differ, pixelKey, keyAt, slotOf, Gathered, Takes, there, next}
 
 -- ---- one key more
 
 module _ {keys : List ℕ} {m key h : ℕ} (takes : Takes keys m key h) (room : h < length keys) where
-  -- a key stored at the place it takes changes none of the m keys
+  -- a key stored at the slot it takes changes none of the m keys
   stored-kept : (q : ℕ) → q < m → keyAt (set keys h key) q ≡ keyAt keys q
   stored-kept q l = elim (cmp q h) [
     | lt x _ ↦ getD-set-other keys h q key 0 (λ e. omega arith)
@@ -28,20 +28,20 @@ module _ {keys : List ℕ} {m key h : ℕ} (takes : Takes keys m key h) (room : 
     ]
   ]
 
-  -- so it is gathered too, in p places: those there were, and the one it takes
+  -- so it is gathered too, in p slots: those there were, and the one it takes
   pub gathered-step : {f : ℕ → ℕ} {i p : ℕ} {which : List ℕ} → Gathered f i keys which m → key ≡ f i → m ≤ p
       → p ≤ m + 1 → h < p → i < length which → Gathered f (i + 1) (set keys h key) (set which i h) p
   gathered-step {i = i} {which = which} g is least most within free =
       let here = getD-set-same which i h 0 free in
-      let there : (j : ℕ) → j < i → placeOf (set which i h) j ≡ placeOf which j =
+      let there : (j : ℕ) → j < i → slotOf (set which i h) j ≡ slotOf which j =
       λ j b. getD-set-other which i j h 0 (λ e. omega arith) in
       record {
         few = omega (arith, g .few);
-        placed = λ j b.
-            ⊎-elim (λ o. rw (there j o) (omega (arith, g .placed j o))) (λ o. rw o (rw here within))
+        slotted = λ j b.
+            ⊎-elim (λ o. rw (there j o) (omega (arith, g .slotted j o))) (λ o. rw o (rw here within))
             (below-or-last i j b);
         is = λ j b.
-            ⊎-elim (λ o. rw (there j o) (stored-kept (placeOf which j) (g .placed j o) ∙ g .is j o))
+            ⊎-elim (λ o. rw (there j o) (stored-kept (slotOf which j) (g .slotted j o) ∙ g .is j o))
             (λ o. rw o (rw here (getD-set-same keys h key 0 room ∙ is))) (below-or-last i j b);
       }
 
@@ -49,14 +49,14 @@ module _ {keys : List ℕ} {m key h : ℕ} (takes : Takes keys m key h) (room : 
 pub gathered-none : (f : ℕ → ℕ) (keys which : List ℕ) → Gathered f 0 keys which 0
 gathered-none f keys which = record {
   few = omega arith;
-  placed = λ j b. absurd (omega arith);
+  slotted = λ j b. absurd (omega arith);
   is = λ j b. absurd (omega arith);
 }
 
 -- ---- the loop
 
--- the lists have as many places as d and w, and the first i pixels are gathered in m of them; `last` is the key at the
--- last place, and the key of no colour where there is none
+-- the lists have as many places as d and w, and the first i pixels are gathered in m slots; `last` is the key at the
+-- last slot, and the key of no colour where there is none
 pub record Gathering (strip d w keys which : List ℕ) (m last i : ℕ) : Type 0 where
   pub within : i ≤ length strip / 3
   pub keys-long : length keys ≡ length d
@@ -77,7 +77,7 @@ gathering-start strip d w = record {
 }
 
 module _ {strip d w keys which : List ℕ} {m last i : ℕ} (g : Gathering strip d w keys which m last i) where
-  -- the next pixel takes the last of m + x places, where x tells whether its key differs from the last
+  -- the next pixel takes the last of m + x slots, where x tells whether its key differs from the last
   pub gathering-takes : {key x : ℕ} → key ≤ mostKey → x ≡ differ key last
       → (0 < m + x) × (m + x ≤ m + 1) × Takes keys m key (m + x - 1)
   gathering-takes {key} {x} most diff = elim (bool (eqb key last)) [

@@ -1,2 +1,2 @@
--- Place after place is joined.
+-- Slot after slot is joined.
 pub mod Joins

@@ -1,4 +1,4 @@
-// The places of a block searched: their colours are laid out, an array a channel, and look at one
+// The slots of a block searched: their colours are laid out, an array a channel, and look at one
 // shade after the other.
 ghost use mathlib.Core.Path.{_≡_};
 ghost use Prim.Native.Nat.{_<_, _≤_};
@@ -32,7 +32,7 @@ fn lay_out(keys: &[u32], n: usize, reds: &mut [u16], greens: &mut [u16], blues: 
 // The nearest of `k` shades of `s` to the colour of each of the first `n` keys, distance and number
 // in one, into the front of `best`, the rest of which stays; the three lists before it are where
 // the colours are laid out. Requires some shades on the grid, that many keys, and room.
-pub fn search_places(
+pub fn search_slots(
     keys: &[u32],
     n: usize,
     s: &[u32],

@@ -1,4 +1,4 @@
--- Places searched: the numbers found are those of the nearest shades.
+-- Slots searched: the numbers found are those of the nearest shades.
 use Prim.Native.Nat.{ℕ, _+_, _*_, _%_, _≤_, _<_}
 use mathlib.Core.List.{List}
 use mathlib.Core.Path.{_≡_, refl, ap, _∙_}
@@ -14,10 +14,10 @@ use Rattle.search_all.specs.{RoomFor}
 use Rattle.map_errors.specs.{Errors, pixelAt, missesOf, Found, numberIn, numberOf}
 use Rattle.map_blocks.specs.Meaning.{nearestTo}
 use Rattle.map_slots.specs.{
-  fewPlaces,
+  fewSlots,
   pixelKey,
   keyAt,
-  placeOf,
+  slotOf,
   levelsAt,
   levelsOf,
   Gathered,
@@ -26,9 +26,9 @@ use Rattle.map_blocks.specs.Asking.{FewTaken, nearestAt}
 use Rattle.map_errors.proofs.Misses.{misses-same}
 use Rattle.map_errors.proofs.Pixels.{pixel-within}
 
--- the number of the nearest of k shades is found for each of the points c 0 to c (n - 1), at its place
+-- the number of the nearest of k shades is found for each of the points c 0 to c (n - 1), at its slot
 pub record Searched (c : ℕ → Point) (s : List ℕ) (k n : ℕ) (which best : List ℕ) : Type 0 where
-  pub placed : (i : ℕ) → i < n → placeOf which i < length best
+  pub slotted : (i : ℕ) → i < n → slotOf which i < length best
   pub number : (i : ℕ) → i < n → numberOf which best i ≡ nearestShade s k (c i)
 
 -- those read from the key of a pixel are the pixel's
@@ -49,17 +49,17 @@ room-for few room = record {
   blue = omega (arith, room .blue);
 }
 
--- so the nearest is found for n points whose keys are gathered in m places
+-- so the nearest is found for n points whose keys are gathered in m slots
 pub searched-all : {c : ℕ → Point} {f : ℕ → ℕ} {s : List ℕ} {k n : ℕ} {keys which : List ℕ} {m : ℕ}
     → Shades k s → 0 < k → Gathered f n keys which m
     → ((i q : ℕ) → i < n → keyAt keys q ≡ f i → levelsAt keys q ≡ c i) → (d : List ℕ) → m ≤ length d → {x : List ℕ}
     → x ≡ fill m (λ q. packedNearest s k (levelsAt keys q)) d → Searched c s k n which x
 searched-all {c} {s = s} {k = k} {which = which} {m = m} shades some g same d room e = record {
-  placed = λ i l. rw (e, fill-length) (omega (arith, g .placed i l));
+  slotted = λ i l. rw (e, fill-length) (omega (arith, g .slotted i l));
   number = λ i l.
-      let p = placeOf which i in
+      let p = slotOf which i in
       ap (λ t. numberIn t p) e
-      ∙ ap (λ v. v % mostShades) (fill-at m p _ d (g .placed i l) (omega (arith, g .placed i l)))
+      ∙ ap (λ v. v % mostShades) (fill-at m p _ d (g .slotted i l) (omega (arith, g .slotted i l)))
       ∙ ap (λ t. packedNearest s k t % mostShades) (same i p l (g .is i l))
       ∙ packed-number s k (c i) some (shades .few);
 }
@@ -87,24 +87,24 @@ pub searched-found : (strip : List ℕ) {s : List ℕ} {k n : ℕ} {which best :
 searched-found strip w shades some pixels room few = record {
   pixels = pixels;
   room = room;
-  placed = w .placed;
+  slotted = w .slotted;
   inside = searched-inside w shades some;
   shades = shades .low;
   few = few;
 }
 
--- ---- few places
+-- ---- few slots
 
--- pixels gathered in few places take those alone
-pub gathered-taken : {f : ℕ → ℕ} {n : ℕ} {keys which : List ℕ} {m : ℕ} → Gathered f n keys which m → m ≤ fewPlaces
+-- pixels gathered in few slots take those alone
+pub gathered-taken : {f : ℕ → ℕ} {n : ℕ} {keys which : List ℕ} {m : ℕ} → Gathered f n keys which m → m ≤ fewSlots
     → FewTaken n which m
-gathered-taken g most = record { at-most = most; few = g .few; placed = g .placed }
+gathered-taken g most = record { at-most = most; few = g .few; slotted = g .slotted }
 
 module _ (strip : List ℕ) {n : ℕ} {keys which : List ℕ} {m : ℕ} (bytes : Bytes strip)
     (g : Gathered (pixelKey strip) n keys which m) where
-  -- the colours at their places are their own
+  -- the colours at their slots are their own
   gathered-colour : (i : ℕ) → i < n → levelsOf keys which i ≡ pixelAt strip i
-  gathered-colour i l = levels-of-pixel strip keys i (placeOf which i) bytes (g .is i l)
+  gathered-colour i l = levels-of-pixel strip keys i (slotOf which i) bytes (g .is i l)
 
   -- so the nearest shades of these are those of the pixels
   pub gathered-index : (s : List ℕ) (k : ℕ) (d : List ℕ) {x : List ℕ}

@@ -1,4 +1,4 @@
--- Few places, joined, searched and told of: what is told is what is asked of their pixels.
+-- Few slots, joined, searched and told of: what is told is what is asked of their pixels.
 use Prim.Native.Nat.{ℕ, _*_, _≤_, _<_}
 use mathlib.Core.List.{List}
 use mathlib.Core.Path.{_≡_, ap, _∙_}
@@ -11,7 +11,7 @@ use Rattle.colour.specs.{Point, mostPixels}
 use Rattle.shades.specs.{nearestShade, Shades}
 use Rattle.shades.proofs.Nearest.{nearest-below}
 use Rattle.map_errors.specs.{Errors, missesOf, numberOf, cellOf, cellsOf, toldAt, toldOf, toldErrors, Tellable, Told}
-use Rattle.map_slots.specs.{keyAt, placeOf, levelsAt, levelsOf, Gathered}
+use Rattle.map_slots.specs.{keyAt, slotOf, levelsAt, levelsOf, Gathered}
 use Rattle.map_blocks.specs.Asking.{nearestAt, FewTaken}
 use Rattle.map_blocks.proofs.block.Searches.{Searched, searched-inside}
 use Rattle.map_errors.proofs.tell.Tells.{told-at}
@@ -25,7 +25,7 @@ pub record NearestTold (c : ℕ → Point) (s : List ℕ) (k n : ℕ) (told : Li
   pub cells : 4 * n ≤ length told
   pub is : (q e : ℕ) → q < n → e < 4 → toldAt told q e ≡ cellOf (c q) s (nearestShade s k (c q)) e
 
--- ---- the colours of n places of d, joined and searched
+-- ---- the colours of n slots of d, joined and searched
 
 module _ (d : List ℕ) {s : List ℕ} {k n : ℕ} {keys link best : List ℕ} {m : ℕ}
     (g : Gathered (keyAt d) n keys link m) (w : Searched (levelsAt d) s k n link best) where
@@ -34,8 +34,8 @@ module _ (d : List ℕ) {s : List ℕ} {k n : ℕ} {keys link best : List ℕ} {
       → Tellable keys link best s t n
   joined-tellable shades some links room t cells = record {
     links = links;
-    keyed = λ i l. omega (arith, g .placed i l);
-    placed = w .placed;
+    keyed = λ i l. omega (arith, g .slotted i l);
+    slotted = w .slotted;
     inside = searched-inside w shades some;
     shades = shades .low;
     room = cells;
@@ -49,7 +49,7 @@ module _ (d : List ℕ) {s : List ℕ} {k n : ℕ} {keys link best : List ℕ} {
     cells = rw is (rw (fill-length (4 * n) (cellsOf (levelsOf keys link) s (numberOf link best)) t) cells);
     is = λ q e l h.
         told-at (levelsOf keys link) s (numberOf link best) n t is cells q e l h
-        ∙ ap (λ p. cellOf p s (numberOf link best q) e) (levels-same keys d q (placeOf link q) (g .is q l))
+        ∙ ap (λ p. cellOf p s (numberOf link best q) e) (levels-same keys d q (slotOf link q) (g .is q l))
         ∙ ap (λ v. cellOf (levelsAt d q) s v e) (w .number q l);
   }
 
@@ -59,17 +59,17 @@ module _ {c : ℕ → Point} {s : List ℕ} {k n : ℕ} {told : List ℕ} (w : N
     (taken : FewTaken p which n) where
   -- the colour of pixel i
   abbrev colour : ℕ → Point
-  colour i = c (placeOf which i)
+  colour i = c (slotOf which i)
 
   -- of it the same is told
   told-is : (e i : ℕ) → e < 4 → i < p → toldOf which told e i ≡ cellOf (colour i) s (nearestAt s k colour i) e
-  told-is e i h l = w .is (placeOf which i) e (taken .placed i l) h
+  told-is e i h l = w .is (slotOf which i) e (taken .slotted i l) h
 
   -- so it may be added up
   pub told-asked : Shades k s → 0 < k → p ≤ length which → p ≤ mostPixels → Told which told p
   told-asked shades some room few = record {
-    places = room;
-    cells = λ i l. omega (arith, taken .placed i l, w .cells);
+    slots = room;
+    cells = λ i l. omega (arith, taken .slotted i l, w .cells);
     byte = λ i l.
         rw (told-is 3 i (omega arith) l) (omega (arith, nearest-below s k (colour i) some, shades .few));
     few = few;

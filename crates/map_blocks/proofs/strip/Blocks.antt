@@ -14,7 +14,7 @@ use Rattle.shades.proofs.Laying.{shade-within}
 use Rattle.search_all.specs.{PointsOnGrid}
 use Rattle.map_errors.specs.{Errors, pixelAt, missOn, missesOf, plusErrors}
 use Rattle.map_blocks.specs.Meaning.{nearestTo}
-use Rattle.map_slots.specs.{mostPlaces}
+use Rattle.map_slots.specs.{mostSlots}
 use Rattle.map_blocks.specs.Asking.{Room, SmallErrors}
 use Rattle.map_errors.proofs.Misses.{miss-most, misses-same, misses-parts}
 use Rattle.map_errors.proofs.Pixels.{pixels-on-grid, pixel-part}
@@ -46,19 +46,19 @@ Asked strip s k before =
 
 -- the lists to work in, with a place for each pixel of a block
 pub record Lists (keys which reds greens blues best : List ℕ) : Type 0 where
-  pub keys-long : length keys ≡ mostPlaces
-  pub which-long : length which ≡ mostPlaces
-  pub red-long : length reds ≡ mostPlaces
-  pub green-long : length greens ≡ mostPlaces
-  pub blue-long : length blues ≡ mostPlaces
-  pub best-long : length best ≡ mostPlaces
+  pub keys-long : length keys ≡ mostSlots
+  pub which-long : length which ≡ mostSlots
+  pub red-long : length reds ≡ mostSlots
+  pub green-long : length greens ≡ mostSlots
+  pub blue-long : length blues ≡ mostSlots
+  pub best-long : length best ≡ mostSlots
 
 -- they have room for as many
 lists-room : {keys which reds greens blues best : List ℕ} → Lists keys which reds greens blues best → (n : ℕ)
-    → n ≤ mostPlaces → Room n keys which reds greens blues best
+    → n ≤ mostSlots → Room n keys which reds greens blues best
 lists-room w n few = record {
   key = omega (arith, w .keys-long);
-  place = omega (arith, w .which-long);
+  slot = omega (arith, w .which-long);
   point = record {
     red = omega (arith, w .red-long);
     green = omega (arith, w .green-long);
@@ -102,8 +102,8 @@ module _ {strip s : List ℕ} {k : ℕ} {before index : List ℕ} {errors : Erro
 
     -- what mapping it asks is there
     pub block-asked : Asked strip s k before → {keys which reds greens blues best : List ℕ}
-        → Lists keys which reds greens blues best → e - a ≤ mostPlaces
-        → (length block ≡ 3 * length part) × Shades k s × (0 < k) × (length part ≤ mostPlaces)
+        → Lists keys which reds greens blues best → e - a ≤ mostSlots
+        → (length block ≡ 3 * length part) × Shades k s × (0 < k) × (length part ≤ mostSlots)
         × Room (length part) keys which reds greens blues best
     block-asked ask lists few = (
       omega (arith, part-long, ask .0, mid-len (3 * a) (3 * e) strip (omega (arith, ask .0))),

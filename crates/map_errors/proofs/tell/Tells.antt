@@ -1,4 +1,4 @@
--- Place after place is told of, in four cells each, and the cells are read back.
+-- Slot after slot is told of, in four cells each, and the cells are read back.
 use Prim.Native.Nat.{ℕ, _+_, _*_, _/_, _%_, _≤_, _<_}
 use mathlib.Core.List.{List}
 use mathlib.Core.Path.{_≡_, refl, sym, ap, _∙_}
@@ -12,7 +12,7 @@ use Rattle.map_errors.specs.Telling.{cellOf, cellsOf, toldAt}
 
 -- ---- cells
 
--- cell e of what is told of place q stands at 4q + e
+-- cell e of what is told of slot q stands at 4q + e
 cell-at : (c : ℕ → Point) (s : List ℕ) (f : ℕ → ℕ) (q e : ℕ) → e < 4
     → cellsOf c s f (4 * q + e) ≡ cellOf (c q) s (f q) e
 cell-at c s f q e h =

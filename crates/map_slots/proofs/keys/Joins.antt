@@ -1,4 +1,4 @@
--- Place after place is joined: its key takes a place where it stands, else the next.
+-- Slot after slot is joined: its key takes a slot where it stands, else the next.
 use Prim.Native.Nat.{ℕ, _+_, _≤_, _<_}
 use mathlib.Core.List.{List}
 use mathlib.Core.Path.{_≡_, refl, _∙_}
@@ -8,14 +8,14 @@ use lib.Seq.{getD-set-other}
 use Rattle.map_slots.specs.Gathering.{keyAt, Gathered, Takes, there, next}
 use Rattle.map_slots.proofs.Gathers.{gathered-none, gathered-step}
 
--- a key takes no place behind the next
+-- a key takes no slot behind the next
 pub takes-most : {keys : List ℕ} {m key h : ℕ} → Takes keys m key h → h ≤ m
 takes-most t = elim t [
   | there l _ ↦ omega arith
   | next e ↦ omega arith
 ]
 
--- the first i of n places of d are joined in m, the others stand as they did, and the lists have as many places as d
+-- the first i of n slots of d are joined in m, the others stand as they did, and the lists have as many places as d
 -- and l
 pub record Joining (d l : List ℕ) (n : ℕ) (keys link : List ℕ) (m i : ℕ) : Type 0 where
   pub within : i ≤ n
@@ -24,7 +24,7 @@ pub record Joining (d l : List ℕ) (n : ℕ) (keys link : List ℕ) (m i : ℕ)
   pub joined : Gathered (keyAt d) i keys link m
   pub rest : (j : ℕ) → i ≤ j → keyAt keys j ≡ keyAt d j
 
--- before the first place
+-- before the first slot
 pub joining-start : (d l : List ℕ) (n : ℕ) → Joining d l n d l 0 0
 joining-start d l n = record {
   within = omega arith;
@@ -34,7 +34,7 @@ joining-start d l n = record {
   rest = λ j h. refl;
 }
 
--- one place more
+-- one slot more
 pub joining-step : {d l : List ℕ} {n : ℕ} {keys link : List ℕ} {m i h p : ℕ} → Joining d l n keys link m i → i < n
     → Takes keys m (keyAt keys i) h → h < length keys → i < length link → m ≤ p → p ≤ m + 1 → h < p
     → Joining d l n (set keys h (keyAt keys i)) (set link i h) p (i + 1)

@@ -1,4 +1,4 @@
--- `map_block` meets its contract: the pixels are gathered, and mapped by their places.
+-- `map_block` meets its contract: the pixels are gathered, and mapped by their slots.
 use mathlib.Core.Path.{_≡_}
 use native.Mathlib.Omega.{arith}
 use lib.ListN.{length}
@@ -16,11 +16,11 @@ use Rattle.map_blocks.proofs.block.map_block.Tie as tie
 abbrev st : tie.After-gather → tie.Start
 st c = c .before .before .before .before .before .before .before .before .before .before .before .before
 
--- where the pixels are gathered, before their places are counted
+-- where the pixels are gathered, before their slots are counted
 abbrev here : tie.After-slice-known9 → tie.After-gather
 here c = c .before .before .before .before
 
--- where few places are mapped
+-- where few slots are mapped
 abbrev few : tie.After-slice-known15 → tie.After-map-few
 few c = c .before .before .before .before .before .before .before .before .before .before .before .before
 
@@ -47,7 +47,7 @@ room c =
     let p = st c .pre .4 in
     record {
       key = omega (arith, p .key, c .gather .kept .1 .0);
-      place = omega (arith, p .place, c .gather .kept .1 .1 .0);
+      slot = omega (arith, p .slot, c .gather .kept .1 .1 .0);
       point = p .point;
       number = p .number;
     }

@@ -1,4 +1,4 @@
--- `map_many` meets its contract: the places are searched, and the pixels settled.
+-- `map_many` meets its contract: the slots are searched, and the pixels settled.
 use native.Mathlib.Omega.{arith}
 use lib.ListN.{length}
 use denote.Ref.{now}
@@ -18,33 +18,33 @@ use Rattle.map_blocks.proofs.block.map_many.Statement.{statement}
 use Rattle.map_blocks.proofs.block.map_many.Tie as tie
 
 -- where the function begins
-abbrev st : tie.After-search-places-arg4 → tie.Start
+abbrev st : tie.After-search-slots-arg4 → tie.Start
 st c = c .before .before .before .before .before .before .before .before .before .before .before .before .before
 
--- where the places are searched
-abbrev found : tie.After-settle-arg2 → tie.After-search-places
+-- where the slots are searched
+abbrev found : tie.After-settle-arg2 → tie.After-search-slots
 found c = c .before .before .before .before .before .before .before .before .before .before
 
 -- the strip is of bytes
-bytes : (c : tie.After-search-places-arg4) → Bytes (now (st c .args .strip))
+bytes : (c : tie.After-search-slots-arg4) → Bytes (now (st c .args .strip))
 bytes c i =
     let known = c .before .before .before .before .before .before .before .before .before .before .before .before in
     omega (arith, known .shared-slice-known .given i)
 
--- the places are searched
-all : (c : tie.After-search-places)
+-- the slots are searched
+all : (c : tie.After-search-slots)
     → let a = st (c .before) .args in
     Searched (pixelAt (now (a .strip))) (now (a .s)) (a .k) (length (now (a .index))) (now (a .which))
-    (c .search-places .last .1 .1 .1 .1 .1 .1 .1 .0)
+    (c .search-slots .last .1 .1 .1 .1 .1 .1 .1 .0)
 all c =
     let a = st (c .before) .args in
     let p = st (c .before) .pre in
     searched-all (p .1) (p .2) (p .5)
     (λ i q l. levels-of-pixel (now (a .strip)) (now (a .keys)) i q (bytes (c .before))) (now (a .best))
-    (omega (arith, p .4 .number, p .5 .few)) (c .search-places .ensures)
+    (omega (arith, p .4 .number, p .5 .few)) (c .search-slots .ensures)
 
-search-places-requires : tie.Need-search-places-requires
-search-places-requires c κs =
+search-slots-requires : tie.Need-search-slots-requires
+search-slots-requires c κs =
     let p = st c .pre in
     let few = p .5 .few in
     (p .1, p .2, omega (arith, few, p .4 .key), omega (arith, few, p .4 .number), room-for few (p .4 .point))
@@ -53,7 +53,7 @@ settle-requires : tie.Need-settle-requires
 settle-requires c κs =
     let start = st (found c .before) in
     let p = start .pre in
-    searched-found (now (start .args .strip)) (all (found c)) (p .1) (p .2) (p .0) (p .4 .place) (omega (arith, p .3))
+    searched-found (now (start .args .strip)) (all (found c)) (p .1) (p .2) (p .0) (p .4 .slot) (omega (arith, p .3))
 
 same-length : tie.Need-same-length
 same-length c = search needs
@@ -80,7 +80,7 @@ pub map-many-spec : {M : Type 1} → statement M
 map-many-spec =
     tie.close
     (tie.spec
-    search-places-requires
+    search-slots-requires
     settle-requires
     same-length
     same-length-2

@@ -1,4 +1,4 @@
--- `map_few` meets its contract: the places are joined, searched and told of.
+-- `map_few` meets its contract: the slots are joined, searched and told of.
 use Prim.Native.Nat.{_≤_}
 use native.Mathlib.Omega.{arith}
 use lib.ListN.{length}
@@ -22,15 +22,15 @@ use Rattle.map_blocks.proofs.few.map_few.Tie as tie
 abbrev st : tie.After-join → tie.Start
 st c = c .before .before .before .before .before .before .before .before .before .before .before
 
--- where the places are joined
-abbrev here : tie.After-search-places → tie.After-join
+-- where the slots are joined
+abbrev here : tie.After-search-slots → tie.After-join
 here c = c .before .before .before .before .before .before .before .before .before
 
 -- where these are searched
-abbrev found : tie.After-told → tie.After-search-places
+abbrev found : tie.After-told → tie.After-search-slots
 found c = c .before .before .before .before .before .before .before .before .before .before .before .before
 
--- the places are joined
+-- the slots are joined
 joined : (c : tie.After-join)
     → Gathered (keyAt (now (st c .args .keys))) (st c .args .n) (c .join .last .0) (c .join .last .1 .1 .0)
     (c .join .result)
@@ -41,17 +41,17 @@ fewer : (c : tie.After-join) → c .join .result ≤ length (now (st c .args .in
 fewer c = omega (arith, joined c .few, st c .pre .3 .few)
 
 -- they are searched
-all : (c : tie.After-search-places)
+all : (c : tie.After-search-slots)
     → let g = here c in
     let a = st g .args in
     Searched (levelsAt (now (a .keys))) (now (a .s)) (a .k) (a .n) (g .join .last .1 .1 .0)
-    (c .search-places .last .1 .1 .1 .1 .1 .1 .1 .0)
+    (c .search-slots .last .1 .1 .1 .1 .1 .1 .1 .0)
 all c =
     let g = here c in
     let p = st g .pre in
     searched-all (p .0) (p .1) (joined g)
     (λ i q l. levels-same (g .join .last .0) (now (st g .args .keys)) i q) (now (st g .args .best))
-    (omega (arith, fewer g, p .4 .number)) (c .search-places .ensures)
+    (omega (arith, fewer g, p .4 .number)) (c .search-slots .ensures)
 
 -- and told of
 told : (c : tie.After-tell)
@@ -68,8 +68,8 @@ slice-aggregate-join c = search needs
 join-requires : tie.Need-join-requires
 join-requires c κs = search needs
 
-search-places-requires : tie.Need-search-places-requires
-search-places-requires c κs =
+search-slots-requires : tie.Need-search-slots-requires
+search-slots-requires c κs =
     let g = c .before .before .before .before .before .before .before .before in
     let p = st g .pre in (
       p .0,
@@ -102,7 +102,7 @@ add-told-requires : tie.Need-add-told-requires
 add-told-requires c κs =
     let t = c .before .before .before in
     let p = st (here (found (t .before))) .pre in
-    told-asked (told t) _ _ (p .3) (p .0) (p .1) (p .4 .place) (omega (arith, p .2))
+    told-asked (told t) _ _ (p .3) (p .0) (p .1) (p .4 .slot) (omega (arith, p .2))
 
 same-length : tie.Need-same-length
 same-length c =
@@ -139,7 +139,7 @@ map-few-spec =
     (tie.spec
     slice-aggregate-join
     join-requires
-    search-places-requires
+    search-slots-requires
     slice-aggregate-tell
     slice-aggregate-tell-2
     tell-requires

@@ -83,7 +83,7 @@ mul-number-2 c = omega (arith, c .shared-slice-known5 .given (c .before .before 
 shared-slice-read-number-2 : tie.Need-shared-slice-read-number-2 Inv-loop μ-loop
 shared-slice-read-number-2 c =
     let l = c .before .before .before in
-    st l .pre .placed (l .loop .i) (omega arith)
+    st l .pre .slotted (l .loop .i) (omega arith)
 
 cast-index : tie.Need-cast-index Inv-loop μ-loop
 cast-index c = omega arith

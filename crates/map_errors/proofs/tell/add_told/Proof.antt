@@ -4,7 +4,7 @@ use mathlib.Core.Path.{refl}
 use native.Mathlib.Omega.{arith}
 use lib.ListN.{length}
 use denote.Ref.{now}
-use Rattle.map_slots.specs.{placeOf}
+use Rattle.map_slots.specs.{slotOf}
 use Rattle.map_errors.specs.Telling.{toldOf}
 use Rattle.map_errors.proofs.settle.Settling.{
   Settled,
@@ -30,10 +30,10 @@ abbrev μ-loop : tie.MeasureT-loop
 abbrev turn : tie.After-shared-slice-known2 Inv-loop μ-loop → tie.In-loop Inv-loop μ-loop
 turn c = c .before .before
 
--- the cells at the place of the turn's pixel
+-- the cells at the slot of the turn's pixel
 cells : (c : tie.In-loop Inv-loop μ-loop)
     → let a = c .before .before .args in
-    4 * placeOf (now (a .which)) (c .before .loop .i) + 3 < length (now (a .told))
+    4 * slotOf (now (a .which)) (c .before .loop .i) + 3 < length (now (a .told))
 cells c = c .before .before .pre .cells (c .before .loop .i) (omega arith)
 
 -- the errors so far are small
@@ -45,7 +45,7 @@ small c =
     let a = l .before .args in
     let known = c .shared-slice-known2 .given in
     settled-small (l .loop .inv) 4294967295 (λ j b.
-    let at = 4 * placeOf (now (a .which)) j in
+    let at = 4 * slotOf (now (a .which)) j in
     (omega (arith, known (at + 0)), omega (arith, known (at + 1)), omega (arith, known (at + 2))))
 
 loop-holds : tie.Need-loop-holds Inv-loop μ-loop
@@ -55,10 +55,10 @@ loop-holds c =
     settled-start (x 3) (x 0) (x 1) (x 2) (now (a .index))
 
 mul-at : tie.Need-mul-at Inv-loop μ-loop
-mul-at c = omega (arith, c .before .before .pre .places)
+mul-at c = omega (arith, c .before .before .pre .slots)
 
 shared-slice-read-at : tie.Need-shared-slice-read-at Inv-loop μ-loop
-shared-slice-read-at c = omega (arith, c .before .before .before .pre .places)
+shared-slice-read-at c = omega (arith, c .before .before .before .pre .slots)
 
 cast-at : tie.Need-cast-at Inv-loop μ-loop
 cast-at c = omega (arith, c .shared-slice-known .given (c .before .before .loop .i))
@@ -92,7 +92,7 @@ shared-slice-read-red c = omega (arith, cells (turn (c .before)))
 cast-red : tie.Need-cast-red Inv-loop μ-loop
 cast-red c =
     let l = turn (c .before) .before in
-    omega (arith, c .shared-slice-known3 .given (4 * placeOf (now (l .before .args .which)) (l .loop .i)))
+    omega (arith, c .shared-slice-known3 .given (4 * slotOf (now (l .before .args .which)) (l .loop .i)))
 
 add-red : tie.Need-add-red Inv-loop μ-loop
 add-red c =
@@ -101,7 +101,7 @@ add-red c =
       arith,
       small (c .before),
       l .before .pre .few,
-      c .shared-slice-known3 .given (4 * placeOf (now (l .before .args .which)) (l .loop .i)),
+      c .shared-slice-known3 .given (4 * slotOf (now (l .before .args .which)) (l .loop .i)),
     )
 
 add-green : tie.Need-add-green Inv-loop μ-loop
@@ -116,7 +116,7 @@ shared-slice-read-green c = omega (arith, cells (turn (c .before .before)))
 cast-green : tie.Need-cast-green Inv-loop μ-loop
 cast-green c =
     let l = turn (c .before .before) .before in
-    omega (arith, c .shared-slice-known4 .given (4 * placeOf (now (l .before .args .which)) (l .loop .i) + 1))
+    omega (arith, c .shared-slice-known4 .given (4 * slotOf (now (l .before .args .which)) (l .loop .i) + 1))
 
 add-green-2 : tie.Need-add-green-2 Inv-loop μ-loop
 add-green-2 c =
@@ -125,7 +125,7 @@ add-green-2 c =
       arith,
       small (c .before .before),
       l .before .pre .few,
-      c .shared-slice-known4 .given (4 * placeOf (now (l .before .args .which)) (l .loop .i) + 1),
+      c .shared-slice-known4 .given (4 * slotOf (now (l .before .args .which)) (l .loop .i) + 1),
     )
 
 add-blue : tie.Need-add-blue Inv-loop μ-loop
@@ -141,7 +141,7 @@ shared-slice-read-blue c = omega (arith, cells (turn (c .before .before .before)
 cast-blue : tie.Need-cast-blue Inv-loop μ-loop
 cast-blue c =
     let l = turn (c .before .before .before) .before in
-    omega (arith, c .shared-slice-known5 .given (4 * placeOf (now (l .before .args .which)) (l .loop .i) + 2))
+    omega (arith, c .shared-slice-known5 .given (4 * slotOf (now (l .before .args .which)) (l .loop .i) + 2))
 
 add-blue-2 : tie.Need-add-blue-2 Inv-loop μ-loop
 add-blue-2 c =
@@ -150,7 +150,7 @@ add-blue-2 c =
       arith,
       small (c .before .before .before),
       l .before .pre .few,
-      c .shared-slice-known5 .given (4 * placeOf (now (l .before .args .which)) (l .loop .i) + 2),
+      c .shared-slice-known5 .given (4 * slotOf (now (l .before .args .which)) (l .loop .i) + 2),
     )
 
 add-i : tie.Need-add-i Inv-loop μ-loop
@@ -163,7 +163,7 @@ loop-again : tie.Need-loop-again Inv-loop μ-loop
 loop-again c =
     let l = turn (c .before .before .before) .before in
     let a = l .before .args in
-    settled-step (l .loop .inv) (omega arith) (told-first (now (a .told)) (placeOf (now (a .which)) (l .loop .i)))
+    settled-step (l .loop .inv) (omega arith) (told-first (now (a .told)) (slotOf (now (a .which)) (l .loop .i)))
     refl refl
 
 same-length : tie.Need-same-length Inv-loop μ-loop

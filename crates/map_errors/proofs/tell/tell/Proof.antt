@@ -49,11 +49,11 @@ loop-holds c =
     telling-start (levelsOf (now (a .keys)) (now (a .link))) (now (a .s)) (numberOf (now (a .link)) (now (a .best)))
     (a .n) (now (a .told))
 
-shared-slice-read-place : tie.Need-shared-slice-read-place Inv-loop μ-loop
-shared-slice-read-place c = omega (arith, st (c .before .before) .pre .links)
+shared-slice-read-slot : tie.Need-shared-slice-read-slot Inv-loop μ-loop
+shared-slice-read-slot c = omega (arith, st (c .before .before) .pre .links)
 
-cast-place : tie.Need-cast-place Inv-loop μ-loop
-cast-place c = omega (arith, c .shared-slice-known5 .given (c .before .before .loop .i))
+cast-slot : tie.Need-cast-slot Inv-loop μ-loop
+cast-slot c = omega (arith, c .shared-slice-known5 .given (c .before .before .loop .i))
 
 mul-key : tie.Need-mul-key Inv-loop μ-loop
 mul-key c = omega (arith, c .shared-slice-known5 .given (c .before .before .loop .i))
@@ -69,7 +69,7 @@ mul-number c = omega (arith, c .before .shared-slice-known5 .given (c .before .b
 shared-slice-read-number : tie.Need-shared-slice-read-number Inv-loop μ-loop
 shared-slice-read-number c =
     let l = c .before .before .before .before in
-    st l .pre .placed (l .loop .i) (omega arith)
+    st l .pre .slotted (l .loop .i) (omega arith)
 
 cast-from : tie.Need-cast-from Inv-loop μ-loop
 cast-from c = omega arith
@@ -193,8 +193,8 @@ tell-spec =
     Inv-loop
     μ-loop
     loop-holds
-    shared-slice-read-place
-    cast-place
+    shared-slice-read-slot
+    cast-slot
     mul-key
     shared-slice-read-key
     mul-number

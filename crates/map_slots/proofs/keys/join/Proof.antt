@@ -4,7 +4,7 @@ use mathlib.Core.Path.{_≡_, refl, _∙_}
 use native.Mathlib.Omega.{arith}
 use lib.ListN.{length, length-set}
 use denote.Ref.{now}
-use Rattle.map_slots.specs.Gathering.{fewPlaces, keyAt}
+use Rattle.map_slots.specs.Gathering.{fewSlots, keyAt}
 use Rattle.map_slots.proofs.keys.Joins.{Joining, takes-most, joining-start, joining-step}
 use Rattle.map_slots.proofs.keys.join.Statement.{statement}
 use Rattle.map_slots.proofs.keys.join.Tie as tie
@@ -20,22 +20,22 @@ abbrev μ-loop : tie.MeasureT-loop
 abbrev st : tie.At-loop Inv-loop μ-loop → tie.Start Inv-loop μ-loop
 st c = c .before .before .before
 
--- the loop, from the place that the key takes
-abbrev turn : tie.After-place-for Inv-loop μ-loop → tie.At-loop Inv-loop μ-loop
+-- the loop, from the slot that the key takes
+abbrev turn : tie.After-slot-for Inv-loop μ-loop → tie.At-loop Inv-loop μ-loop
 turn c = c .before .before .before .before
 
--- the places taken are fewer than the keys, and fewer than may be joined
+-- the slots taken are fewer than the keys, and fewer than may be joined
 fewer : (c : tie.In-loop Inv-loop μ-loop)
-    → let l = c .before .loop in (l .taken < length (l .keys)) × (l .taken < fewPlaces)
+    → let l = c .before .loop in (l .taken < length (l .keys)) × (l .taken < fewSlots)
 fewer c =
     let l = c .before in
     let w = l .loop .inv .0 in
     let less : l .loop .taken < st l .args .n = omega (arith, w .joined .few, c .loop-test .taken) in
     (omega (arith, less, w .keys-long, st l .pre .0), omega (arith, less, st l .pre .2))
 
--- the place that the key takes is one of them, or the next
-most : (c : tie.After-place-for Inv-loop μ-loop) → c .place-for .result ≤ turn c .loop .taken
-most c = takes-most (c .place-for .ensures)
+-- the slot that the key takes is one of them, or the next
+most : (c : tie.After-slot-for Inv-loop μ-loop) → c .slot-for .result ≤ turn c .loop .taken
+most c = takes-most (c .slot-for .ensures)
 
 loop-holds : tie.Need-loop-holds Inv-loop μ-loop
 loop-holds c =
@@ -53,14 +53,14 @@ slice-read-key c =
 cast-site : tie.Need-cast-site Inv-loop μ-loop
 cast-site c = omega arith
 
-mul-place-for : tie.Need-mul-place-for Inv-loop μ-loop
-mul-place-for c = omega arith
+mul-slot-for : tie.Need-mul-slot-for Inv-loop μ-loop
+mul-slot-for c = omega arith
 
-array-read-place-for : tie.Need-array-read-place-for Inv-loop μ-loop
-array-read-place-for c = omega (arith, c .before .before .before .loop .inv .1)
+array-read-slot-for : tie.Need-array-read-slot-for Inv-loop μ-loop
+array-read-slot-for c = omega (arith, c .before .before .before .loop .inv .1)
 
-place-for-requires : tie.Need-place-for-requires Inv-loop μ-loop
-place-for-requires c κs = omega (arith, fewer (c .before .before) .0)
+slot-for-requires : tie.Need-slot-for-requires Inv-loop μ-loop
+slot-for-requires c κs = omega (arith, fewer (c .before .before) .0)
 
 mul-keys : tie.Need-mul-keys Inv-loop μ-loop
 mul-keys c = omega (arith, most c, fewer (c .before .before .before) .1)
@@ -80,8 +80,8 @@ cast-link c = omega (arith, most c, fewer (c .before .before .before) .1)
 slice-write-link : tie.Need-slice-write-link Inv-loop μ-loop
 slice-write-link c = omega (arith, turn c .loop .inv .0 .link-long, st (turn c) .pre .1)
 
-with-place-requires : tie.Need-with-place-requires Inv-loop μ-loop
-with-place-requires c κs = (most c, omega (arith, fewer (c .before .before .before) .1))
+with-slot-requires : tie.Need-with-slot-requires Inv-loop μ-loop
+with-slot-requires c κs = (most c, omega (arith, fewer (c .before .before .before) .1))
 
 add-i : tie.Need-add-i Inv-loop μ-loop
 add-i c = omega arith
@@ -93,11 +93,11 @@ loop-again : tie.Need-loop-again Inv-loop μ-loop
 loop-again c =
     let at = c .before in
     let l = turn at in
-    let e = c .with-place .ensures in (
-      joining-step (l .loop .inv .0) (omega arith) (at .place-for .ensures)
+    let e = c .with-slot .ensures in (
+      joining-step (l .loop .inv .0) (omega arith) (at .slot-for .ensures)
           (omega (arith, most at, fewer (at .before .before .before) .0))
           (omega (arith, l .loop .inv .0 .link-long, st l .pre .1)) (e .0) (e .1) (e .2),
-      length-set (l .loop .sites) (keyAt (l .loop .keys) (l .loop .i) % 251) (at .place-for .result) ∙ l .loop .inv .1,
+      length-set (l .loop .sites) (keyAt (l .loop .keys) (l .loop .i) % 251) (at .slot-for .result) ∙ l .loop .inv .1,
     )
 
 same-length : tie.Need-same-length Inv-loop μ-loop
@@ -122,16 +122,16 @@ join-spec =
     mul-key
     slice-read-key
     cast-site
-    mul-place-for
-    array-read-place-for
-    place-for-requires
+    mul-slot-for
+    array-read-slot-for
+    slot-for-requires
     mul-keys
     slice-write-keys
     mul-sites
     array-write-sites
     cast-link
     slice-write-link
-    with-place-requires
+    with-slot-requires
     add-i
     loop-less
     loop-again

@@ -11,11 +11,11 @@ use Rattle.map_slots.proofs.streaks.gather.Statement.{statement}
 use Rattle.map_slots.proofs.streaks.gather.Tie as tie
 
 abbrev Inv-loop : tie.InvT-loop
-Inv-loop strip keys₀ which₀ n places₀ last₀ i₀ keys which places last i =
-    Gathering strip keys₀ which₀ keys which places last i
+Inv-loop strip keys₀ which₀ n slots₀ last₀ i₀ keys which slots last i =
+    Gathering strip keys₀ which₀ keys which slots last i
 
 abbrev μ-loop : tie.MeasureT-loop
-μ-loop strip keys₀ which₀ n places₀ last₀ i₀ keys which places last i = length strip / 3 - i
+μ-loop strip keys₀ which₀ n slots₀ last₀ i₀ keys which slots last i = length strip / 3 - i
 
 -- where the function begins
 abbrev st : tie.At-loop Inv-loop μ-loop → tie.Start Inv-loop μ-loop
@@ -25,19 +25,19 @@ st c = c .before .before .before .before
 abbrev turn : tie.After-differs Inv-loop μ-loop → tie.At-loop Inv-loop μ-loop
 turn c = c .before .before .before .before .before .before
 
--- the place of the turn's pixel
-abbrev place : tie.After-differs Inv-loop μ-loop → ℕ
-place c = turn c .loop .places + c .differs .result - 1
+-- the slot of the turn's pixel
+abbrev slot : tie.After-differs Inv-loop μ-loop → ℕ
+slot c = turn c .loop .slots + c .differs .result - 1
 
--- it takes that place
+-- it takes that slot
 takes : (c : tie.After-differs Inv-loop μ-loop)
-    → let l = turn c .loop in (0 < l .places + c .differs .result)
-    × (l .places + c .differs .result ≤ l .places + 1)
-    × Takes (l .keys) (l .places) (c .before .key-of .result) (place c)
+    → let l = turn c .loop in (0 < l .slots + c .differs .result)
+    × (l .slots + c .differs .result ≤ l .slots + 1)
+    × Takes (l .keys) (l .slots) (c .before .key-of .result) (slot c)
 takes c = gathering-takes (turn c .loop .inv) (c .before .key-of .ensures .1) (c .differs .ensures)
 
 -- and has room there
-room : (c : tie.After-differs Inv-loop μ-loop) → place c < length (turn c .loop .keys)
+room : (c : tie.After-differs Inv-loop μ-loop) → slot c < length (turn c .loop .keys)
 room c =
     let w = turn c .loop .inv in
     omega (arith, takes c, w .gathered .few, w .keys-long, st (turn c) .pre .0)
@@ -71,11 +71,11 @@ key-of-requires c κs = search needs
 differs-requires : tie.Need-differs-requires Inv-loop μ-loop
 differs-requires c κs = search needs
 
-add-places : tie.Need-add-places Inv-loop μ-loop
-add-places c = omega (arith, takes c, turn c .loop .inv .gathered .few)
+add-slots : tie.Need-add-slots Inv-loop μ-loop
+add-slots c = omega (arith, takes c, turn c .loop .inv .gathered .few)
 
-sub-place : tie.Need-sub-place Inv-loop μ-loop
-sub-place c = omega (arith, takes c)
+sub-slot : tie.Need-sub-slot Inv-loop μ-loop
+sub-slot c = omega (arith, takes c)
 
 mul-keys : tie.Need-mul-keys Inv-loop μ-loop
 mul-keys c = omega (arith, takes c, turn c .loop .inv .gathered .few, st (turn c) .pre .2)
@@ -131,8 +131,8 @@ gather-spec =
     shared-slice-read-key-of-3
     key-of-requires
     differs-requires
-    add-places
-    sub-place
+    add-slots
+    sub-slot
     mul-keys
     slice-write-keys
     cast-which

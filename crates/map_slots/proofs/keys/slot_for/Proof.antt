@@ -1,10 +1,10 @@
--- `place_for` meets its contract: the place is one where the key stands, or the next.
+-- `slot_for` meets its contract: the slot is one where the key stands, or the next.
 use mathlib.Core.Path.{refl}
 use borrow.Author.Needs.{needs}
 use borrow.Author.Tests.{eqb-true}
 use Rattle.map_slots.specs.Gathering.{there, next}
-use Rattle.map_slots.proofs.keys.place_for.Statement.{statement}
-use Rattle.map_slots.proofs.keys.place_for.Tie as tie
+use Rattle.map_slots.proofs.keys.slot_for.Statement.{statement}
+use Rattle.map_slots.proofs.keys.slot_for.Tie as tie
 
 mul-if2 : tie.Need-mul-if2
 mul-if2 c = search needs
@@ -18,5 +18,5 @@ returns c = there (c .before .before .if1 .taken) (eqb-true _ _ (c .if2 .taken))
 returns-2 : tie.Need-returns-2
 returns-2 c = next refl
 
-pub place-for-spec : {M : Type 1} → statement M
-place-for-spec = tie.close (tie.spec mul-if2 shared-slice-read-if2 returns returns-2)
+pub slot-for-spec : {M : Type 1} → statement M
+slot-for-spec = tie.close (tie.spec mul-if2 shared-slice-read-if2 returns returns-2)

@@ -1,4 +1,4 @@
--- `search_places` meets its contract: the colours are laid out, and searched.
+-- `search_slots` meets its contract: the colours are laid out, and searched.
 use native.Mathlib.Nat.{le-refl}
 use native.Mathlib.Omega.{arith}
 use denote.Ref.{now}
@@ -6,8 +6,8 @@ use borrow.Author.Needs.{needs}
 use Rattle.search_all.proofs.Layouts.{LaidOut, fronts-done}
 use Rattle.map_slots.specs.Gathering.{levelsAt}
 use Rattle.map_slots.proofs.Finds.{keys-ready, keys-searched}
-use Rattle.map_slots.proofs.find.search_places.Statement.{statement}
-use Rattle.map_slots.proofs.find.search_places.Tie as tie
+use Rattle.map_slots.proofs.find.search_slots.Statement.{statement}
+use Rattle.map_slots.proofs.find.search_slots.Tie as tie
 
 -- where the function begins
 abbrev st : tie.After-lay-out → tie.Start
@@ -65,8 +65,8 @@ returns c =
     keys-searched (now (a .s)) (a .k) (now (a .keys)) (done at) (now (a .best)) (st at .pre .3)
     (c .before .before .search-points .ensures)
 
-pub search-places-spec : {M : Type 1} → statement M
-search-places-spec =
+pub search-slots-spec : {M : Type 1} → statement M
+search-slots-spec =
     tie.close
     (tie.spec
     lay-out-requires
