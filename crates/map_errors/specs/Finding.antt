@@ -12,14 +12,14 @@ abbrev pub numberIn : List ℕ → ℕ → ℕ
 numberIn best i = getD best i 0 % mostShades
 
 -- the number found for pixel i: that at its slot
-abbrev pub numberOf : List ℕ → List ℕ → ℕ → ℕ
-numberOf which best i = numberIn best (slotOf which i)
+abbrev pub foundNumber : List ℕ → List ℕ → ℕ → ℕ
+foundNumber which best i = numberIn best (slotOf which i)
 
 -- a strip of n pixels, and for each of them a number is found whose shade is in s
 pub record Found (strip which s best : List ℕ) (n : ℕ) : Type 0 where
   pub pixels : length strip ≡ 3 * n
   pub room : n ≤ length which
   pub slotted : (i : ℕ) → i < n → slotOf which i < length best
-  pub inside : (i : ℕ) → i < n → 3 * numberOf which best i + 2 < length s
+  pub inside : (i : ℕ) → i < n → 3 * foundNumber which best i + 2 < length s
   pub shades : OnGrid s
   pub few : n ≤ mostPixels

@@ -4,7 +4,7 @@
 --   missOn, missesOf          squared differences added up, on one channel, on all three
 --   plusErrors a b            the errors of two stretches together
 --   numberIn best i           the number in a packed number
---   numberOf which best i     the number found for pixel i
+--   foundNumber which best i     the number found for pixel i
 --   cellOf c s q e            what is told of a point and shade q: three squared differences, and the number
 --   cellsOf c s f x           cell x of what is told of many, four cells each
 --   toldAt told q e           cell e of slot q
@@ -17,7 +17,7 @@ pub mod Finding
 pub mod Telling
 pub use declared.Errors.{Errors}
 unfoldable pub use Missing.{pixelAt, missOn, missesOf, plusErrors}
-unfoldable pub use Finding.{numberIn, numberOf}
+unfoldable pub use Finding.{numberIn, foundNumber}
 pub use Finding.{Found}
 unfoldable pub use Telling.{cellOf, cellsOf, toldAt, toldOf, toldErrors}
 pub use Telling.{Tellable, Told}

@@ -6,7 +6,7 @@ use Rattle.number.specs.{sum, sq}
 use Rattle.colour.specs.{Point, mostLevel, mostPixels}
 use Rattle.shades.specs.{shadeAt, OnGrid}
 use Rattle.map_slots.specs.{slotOf}
-use Rattle.map_errors.specs.Finding.{numberOf}
+use Rattle.map_errors.specs.Finding.{foundNumber}
 use Rattle.map_errors.specs.declared.Errors.{Errors}
 
 -- what is told of a point and shade q of s: in cells 0 to 2 the squared differences on the channels, in cell 3 the
@@ -42,7 +42,7 @@ pub record Tellable (keys link best s told : List ℕ) (n : ℕ) : Type 0 where
   pub links : n ≤ length link
   pub keyed : (i : ℕ) → i < n → slotOf link i < length keys
   pub slotted : (i : ℕ) → i < n → slotOf link i < length best
-  pub inside : (i : ℕ) → i < n → 3 * numberOf link best i + 2 < length s
+  pub inside : (i : ℕ) → i < n → 3 * foundNumber link best i + 2 < length s
   pub shades : OnGrid s
   pub room : 4 * n ≤ length told
 

@@ -6,7 +6,7 @@ ghost use lib.ListN.{length};
 ghost use Rattle.number.specs.{fill, sq};
 ghost use Rattle.colour.specs.{mostCoordinate};
 ghost use Rattle.map_errors.specs.Missing.{pixelAt, missesOf};
-ghost use Rattle.map_errors.specs.Finding.{Found, numberOf};
+ghost use Rattle.map_errors.specs.Finding.{Found, foundNumber};
 use super::Errors;
 
 // The squared difference of a level and a coordinate, which is required to be that of a shade.
@@ -23,10 +23,10 @@ fn miss(level: u8, b: u32) -> u64
 pub fn settle(strip: &[u8], which: &[u16], s: &[u32], best: &[u32], index: &mut [u8]) -> Errors
     requires { ⌜ Found (now strip) (now which) (now s) (now best) (length (now index)) ⌝ }
     ensures index { λ _. ⌜ now (index .exit)
-        ≡ fill (length (now (index .entry))) (numberOf (now (which .entry)) (now (best .entry)))
+        ≡ fill (length (now (index .entry))) (foundNumber (now (which .entry)) (now (best .entry)))
         (now (index .entry)) ⌝ }
     ensures errors { λ r. ⌜ r ≡ missesOf (pixelAt (now (strip .entry))) (now (s .entry))
-        (numberOf (now (which .entry)) (now (best .entry))) (length (now (index .entry))) ⌝ }
+        (foundNumber (now (which .entry)) (now (best .entry))) (length (now (index .entry))) ⌝ }
 {
     let n = index.len();
     let mut red: u64 = 0;

@@ -5,7 +5,7 @@ ghost use Prim.Native.Nat.{_*_};
 ghost use lib.ListN.{length};
 ghost use Rattle.number.specs.{fill};
 ghost use Rattle.map_slots.specs.{levelsOf};
-ghost use Rattle.map_errors.specs.Finding.{numberOf};
+ghost use Rattle.map_errors.specs.Finding.{foundNumber};
 ghost use Rattle.map_errors.specs.Telling.{cellsOf, toldOf, toldErrors, Tellable, Told};
 use super::Errors;
 
@@ -16,7 +16,7 @@ pub fn tell(keys: &[u32], link: &[u8], best: &[u32], n: usize, s: &[u32], told: 
     requires { ⌜ Tellable (now keys) (now link) (now best) (now s) (now told) n ⌝ }
     ensures { λ _. ⌜ now (told .exit)
         ≡ fill (4 * n) (cellsOf (levelsOf (now (keys .entry)) (now (link .entry)))
-        (now (s .entry)) (numberOf (now (link .entry)) (now (best .entry))))
+        (now (s .entry)) (foundNumber (now (link .entry)) (now (best .entry))))
         (now (told .entry)) ⌝ }
 {
     let mut i = 0;

@@ -11,7 +11,7 @@ use Rattle.colour.proofs.Promises.{levels-of-key}
 use Rattle.shades.specs.{mostShades, shadeAt, nearestShade, packedNearest, Shades}
 use Rattle.shades.proofs.Nearest.{nearest-below, packed-number}
 use Rattle.search_all.specs.{RoomFor}
-use Rattle.map_errors.specs.{Errors, pixelAt, missesOf, Found, numberIn, numberOf}
+use Rattle.map_errors.specs.{Errors, pixelAt, missesOf, Found, numberIn, foundNumber}
 use Rattle.map_blocks.specs.Meaning.{nearestTo}
 use Rattle.map_slots.specs.{
   fewSlots,
@@ -29,7 +29,7 @@ use Rattle.map_errors.proofs.Pixels.{pixel-within}
 -- the number of the nearest of k shades is found for each of the points c 0 to c (n - 1), at its slot
 pub record Searched (c : ℕ → Point) (s : List ℕ) (k n : ℕ) (which best : List ℕ) : Type 0 where
   pub slotted : (i : ℕ) → i < n → slotOf which i < length best
-  pub number : (i : ℕ) → i < n → numberOf which best i ≡ nearestShade s k (c i)
+  pub number : (i : ℕ) → i < n → foundNumber which best i ≡ nearestShade s k (c i)
 
 -- those read from the key of a pixel are the pixel's
 pub levels-of-pixel : (strip keys : List ℕ) (i q : ℕ) → Bytes strip → keyAt keys q ≡ pixelKey strip i
@@ -66,19 +66,19 @@ searched-all {c} {s = s} {k = k} {which = which} {m = m} shades some g same d ro
 
 module _ {c : ℕ → Point} {s : List ℕ} {k n : ℕ} {which best : List ℕ} (w : Searched c s k n which best) where
   -- the numbers found are those of shades in s
-  pub searched-inside : Shades k s → 0 < k → (i : ℕ) → i < n → 3 * numberOf which best i + 2 < length s
+  pub searched-inside : Shades k s → 0 < k → (i : ℕ) → i < n → 3 * foundNumber which best i + 2 < length s
   searched-inside shades some i l = rw (w .number i l) (omega (arith, nearest-below s k (c i) some, shades .room))
 
   -- the numbers settled are those of the nearest shades
-  pub searched-index : (d : List ℕ) {x : List ℕ} → x ≡ fill n (numberOf which best) d
+  pub searched-index : (d : List ℕ) {x : List ℕ} → x ≡ fill n (foundNumber which best) d
       → x ≡ fill n (λ i. nearestShade s k (c i)) d
   searched-index d e = e ∙ fill-same n _ _ d (w .number)
 
   -- and the errors are those of the points
-  pub searched-errors : {r : Errors} → r ≡ missesOf c s (numberOf which best) n
+  pub searched-errors : {r : Errors} → r ≡ missesOf c s (foundNumber which best) n
       → r ≡ missesOf c s (λ i. nearestShade s k (c i)) n
   searched-errors e =
-      e ∙ misses-same n c c s s (numberOf which best) _ (λ i l. refl) (λ i l. ap (shadeAt s) (w .number i l))
+      e ∙ misses-same n c c s s (foundNumber which best) _ (λ i l. refl) (λ i l. ap (shadeAt s) (w .number i l))
 
 -- which is what settling a block asks, where the points are the pixels
 pub searched-found : (strip : List ℕ) {s : List ℕ} {k n : ℕ} {which best : List ℕ}

@@ -10,7 +10,7 @@ use Rattle.number.proofs.Sums.{sum-eq}
 use Rattle.colour.specs.{Point, mostPixels}
 use Rattle.shades.specs.{nearestShade, Shades}
 use Rattle.shades.proofs.Nearest.{nearest-below}
-use Rattle.map_errors.specs.{Errors, missesOf, numberOf, cellOf, cellsOf, toldAt, toldOf, toldErrors, Tellable, Told}
+use Rattle.map_errors.specs.{Errors, missesOf, foundNumber, cellOf, cellsOf, toldAt, toldOf, toldErrors, Tellable, Told}
 use Rattle.map_slots.specs.{keyAt, slotOf, levelsAt, levelsOf, Gathered}
 use Rattle.map_blocks.specs.Asking.{nearestAt, FewTaken}
 use Rattle.map_blocks.proofs.block.Searches.{Searched, searched-inside}
@@ -43,13 +43,13 @@ module _ (d : List ℕ) {s : List ℕ} {k n : ℕ} {keys link best : List ℕ} {
 
   -- and what is told is of their nearest shades
   pub joined-told : (t : List ℕ) {told : List ℕ} → 4 * n ≤ length t
-      → told ≡ fill (4 * n) (cellsOf (levelsOf keys link) s (numberOf link best)) t
+      → told ≡ fill (4 * n) (cellsOf (levelsOf keys link) s (foundNumber link best)) t
       → NearestTold (levelsAt d) s k n told
   joined-told t cells is = record {
-    cells = rw is (rw (fill-length (4 * n) (cellsOf (levelsOf keys link) s (numberOf link best)) t) cells);
+    cells = rw is (rw (fill-length (4 * n) (cellsOf (levelsOf keys link) s (foundNumber link best)) t) cells);
     is = λ q e l h.
-        told-at (levelsOf keys link) s (numberOf link best) n t is cells q e l h
-        ∙ ap (λ p. cellOf p s (numberOf link best q) e) (levels-same keys d q (slotOf link q) (g .is q l))
+        told-at (levelsOf keys link) s (foundNumber link best) n t is cells q e l h
+        ∙ ap (λ p. cellOf p s (foundNumber link best q) e) (levels-same keys d q (slotOf link q) (g .is q l))
         ∙ ap (λ v. cellOf (levelsAt d q) s v e) (w .number q l);
   }
 

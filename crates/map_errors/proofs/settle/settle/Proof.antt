@@ -6,7 +6,7 @@ use denote.Ref.{now}
 use Rattle.colour.specs.{mostCoordinate}
 use Rattle.shades.proofs.Laying.{shade-within}
 use Rattle.map_errors.specs.Missing.{pixelAt}
-use Rattle.map_errors.specs.Finding.{numberOf}
+use Rattle.map_errors.specs.Finding.{foundNumber}
 use Rattle.map_errors.proofs.Misses.{missAt, misses-low}
 use Rattle.map_errors.proofs.Pixels.{pixels-on-grid}
 use Rattle.map_errors.proofs.settle.Settling.{
@@ -22,7 +22,7 @@ use Rattle.map_errors.proofs.settle.settle.Tie as tie
 
 abbrev Inv-loop : tie.InvT-loop
 Inv-loop strip which s best index₀ n red₀ green₀ blue₀ i₀ index red green blue i =
-    let f = numberOf which best in
+    let f = foundNumber which best in
     let c = pixelAt strip in
     Settled f (missAt 0 c s f) (missAt 1 c s f) (missAt 2 c s f) index₀ index red green blue i
 
@@ -44,7 +44,7 @@ first c = c .before .before .before
 -- the shade with the number found is in s
 inside : (c : tie.In-loop Inv-loop μ-loop)
     → let a = st (c .before) .args in
-    3 * numberOf (now (a .which)) (now (a .best)) (c .before .loop .i) + 2 < length (now (a .s))
+    3 * foundNumber (now (a .which)) (now (a .best)) (c .before .loop .i) + 2 < length (now (a .s))
 inside c = st (c .before) .pre .inside (c .before .loop .i) (omega arith)
 
 -- the errors so far are small
@@ -56,14 +56,14 @@ small c =
     let a = st c .args in
     let known = c .before .before .before .before .before .shared-slice-known .given in
     let low = misses-low mostCoordinate (pixelAt (now (a .strip))) (now (a .s))
-    (numberOf (now (a .which)) (now (a .best))) (λ q. shade-within (now (a .s)) q (st c .pre .shades)) in
+    (foundNumber (now (a .which)) (now (a .best))) (λ q. shade-within (now (a .s)) q (st c .pre .shades)) in
     let on = pixels-on-grid (now (a .strip)) (length (now (a .index))) (λ p. omega (arith, known p)) in
     settled-small (c .loop .inv) (mostCoordinate * mostCoordinate) (λ j l. low j (on j l))
 
 loop-holds : tie.Need-loop-holds Inv-loop μ-loop
 loop-holds c =
     let a = c .before .before .before .before .before .args in
-    let f = numberOf (now (a .which)) (now (a .best)) in
+    let f = foundNumber (now (a .which)) (now (a .best)) in
     let p = pixelAt (now (a .strip)) in
     let s = now (a .s) in
     settled-start f (missAt 0 p s f) (missAt 1 p s f) (missAt 2 p s f) (now (a .index))

@@ -6,13 +6,13 @@ use lib.ListN.{length, length-set}
 use denote.Ref.{now}
 use borrow.Author.Needs.{needs}
 use Rattle.map_slots.specs.{levelsOf}
-use Rattle.map_errors.specs.Finding.{numberOf}
+use Rattle.map_errors.specs.Finding.{foundNumber}
 use Rattle.map_errors.proofs.tell.Tells.{Telling, telling-start, telling-long, telling-step}
 use Rattle.map_errors.proofs.tell.tell.Statement.{statement}
 use Rattle.map_errors.proofs.tell.tell.Tie as tie
 
 abbrev Inv-loop : tie.InvT-loop
-Inv-loop keys link best n s told₀ i₀ told i = Telling (levelsOf keys link) s (numberOf link best) n told₀ told i
+Inv-loop keys link best n s told₀ i₀ told i = Telling (levelsOf keys link) s (foundNumber link best) n told₀ told i
 
 abbrev μ-loop : tie.MeasureT-loop
 μ-loop keys link best n s told₀ i₀ told i = n - i
@@ -40,13 +40,13 @@ room c = omega (arith, telling-long (c .before .loop .inv), st (c .before) .pre 
 -- the shade with the number found is in s
 inside : (c : tie.In-loop Inv-loop μ-loop)
     → let a = st (c .before) .args in
-    3 * numberOf (now (a .link)) (now (a .best)) (c .before .loop .i) + 2 < length (now (a .s))
+    3 * foundNumber (now (a .link)) (now (a .best)) (c .before .loop .i) + 2 < length (now (a .s))
 inside c = st (c .before) .pre .inside (c .before .loop .i) (omega arith)
 
 loop-holds : tie.Need-loop-holds Inv-loop μ-loop
 loop-holds c =
     let a = c .before .before .before .before .before .args in
-    telling-start (levelsOf (now (a .keys)) (now (a .link))) (now (a .s)) (numberOf (now (a .link)) (now (a .best)))
+    telling-start (levelsOf (now (a .keys)) (now (a .link))) (now (a .s)) (foundNumber (now (a .link)) (now (a .best)))
     (a .n) (now (a .told))
 
 shared-slice-read-slot : tie.Need-shared-slice-read-slot Inv-loop μ-loop
