@@ -12,13 +12,13 @@ use borrow.Author.Tests.{eqb-true}
 use Rattle.number.proofs.Cases.{bool, cmp, lt, eq, gt}
 use Rattle.number.proofs.Searches.{below-or-last}
 use Rattle.colour.specs.{mostKey}
-use Rattle.map_slots.specs.Gathering.{differ, pixelKey, keyAt, slotOf, Gathered, Takes, there, next}
+use Rattle.map_slots.specs.Gathering.{differ, pixelKey, slotKey, slotOf, Gathered, Takes, there, next}
 
 -- ---- one key more
 
 module _ {keys : List ℕ} {m key h : ℕ} (takes : Takes keys m key h) (room : h < length keys) where
   -- a key stored at the slot it takes changes none of the m keys
-  stored-kept : (q : ℕ) → q < m → keyAt (set keys h key) q ≡ keyAt keys q
+  stored-kept : (q : ℕ) → q < m → slotKey (set keys h key) q ≡ slotKey keys q
   stored-kept q l = elim (cmp q h) [
     | lt x _ ↦ getD-set-other keys h q key 0 (λ e. omega arith)
     | gt x _ _ ↦ getD-set-other keys h q key 0 (λ e. omega arith)
@@ -63,7 +63,7 @@ pub record Gathering (strip d w keys which : List ℕ) (m last i : ℕ) : Type 0
   pub which-long : length which ≡ length w
   pub gathered : Gathered (pixelKey strip) i keys which m
   pub none : m ≡ 0 → mostKey < last
-  pub seen : 0 < m → keyAt keys (m - 1) ≡ last
+  pub seen : 0 < m → slotKey keys (m - 1) ≡ last
 
 -- before the first pixel
 pub gathering-start : (strip d w : List ℕ) → Gathering strip d w d w 0 4294967295 0

@@ -30,8 +30,8 @@ abbrev pub pixelKey : List ℕ → ℕ → ℕ
 pixelKey strip i = pointKey (shadeAt strip i)
 
 -- the key at slot q
-abbrev pub keyAt : List ℕ → ℕ → ℕ
-keyAt keys q = getD keys q 0
+abbrev pub slotKey : List ℕ → ℕ → ℕ
+slotKey keys q = getD keys q 0
 
 -- the slot of pixel i
 abbrev pub slotOf : List ℕ → ℕ → ℕ
@@ -49,9 +49,9 @@ levelsOf keys which i = levelsAt keys (slotOf which i)
 pub record Gathered (f : ℕ → ℕ) (n : ℕ) (keys which : List ℕ) (m : ℕ) : Type 0 where
   pub few : m ≤ n
   pub slotted : (i : ℕ) → i < n → slotOf which i < m
-  pub is : (i : ℕ) → i < n → keyAt keys (slotOf which i) ≡ f i
+  pub is : (i : ℕ) → i < n → slotKey keys (slotOf which i) ≡ f i
 
 -- where m slots are taken, a key takes slot h: one of them, if it stands there, or the next
 pub data Takes (keys : List ℕ) (m key h : ℕ) : Type 0 where
-  there : h < m → keyAt keys h ≡ key → Takes keys m key h
+  there : h < m → slotKey keys h ≡ key → Takes keys m key h
   next : h ≡ m → Takes keys m key h

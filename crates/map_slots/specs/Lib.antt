@@ -4,7 +4,7 @@
 --   differ a b                1 where two numbers differ, 0 where they are equal
 --   pointKey c                the key of a colour in whole levels
 --   pixelKey strip i          the key of pixel i
---   keyAt keys q              the key at slot q
+--   slotKey keys q              the key at slot q
 --   slotOf which i           the slot of pixel i
 --   levelsAt keys q           the colour with the key at slot q, in whole levels
 --   levelsOf keys which i     the colour at the slot of pixel i
@@ -17,7 +17,7 @@ unfoldable pub use Gathering.{
   differ,
   pointKey,
   pixelKey,
-  keyAt,
+  slotKey,
   slotOf,
   levelsAt,
   levelsOf,

@@ -1,7 +1,7 @@
 // The slots of a block joined: those with one key become one slot, wherever they stand.
 ghost use Prim.Native.Nat.{_+_, _≤_, _<_};
 ghost use lib.ListN.{length};
-ghost use Rattle.map_slots.specs.Gathering.{fewSlots, keyAt, Gathered, Takes};
+ghost use Rattle.map_slots.specs.Gathering.{fewSlots, slotKey, Gathered, Takes};
 
 // The slot that `key` takes where `taken` slots are taken: `slot`, if it is one of them and the
 // key stands there, else the next. Requires the keys of the slots taken.
@@ -32,7 +32,7 @@ fn with_slot(taken: usize, slot: usize) -> usize
 // Requires at most 256 slots, and room for them.
 pub fn join(keys: &mut [u32], n: usize, link: &mut [u8]) -> usize
     requires { ⌜ (n ≤ length (now keys)) × (n ≤ length (now link)) × (n ≤ fewSlots) ⌝ }
-    ensures { λ r. ⌜ Gathered (keyAt (now (keys .entry))) n (now (keys .exit)) (now (link .exit))
+    ensures { λ r. ⌜ Gathered (slotKey (now (keys .entry))) n (now (keys .exit)) (now (link .exit))
         r ⌝ }
 {
     let mut sites = [0usize; 251];

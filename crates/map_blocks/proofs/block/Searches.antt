@@ -16,7 +16,7 @@ use Rattle.map_blocks.specs.Meaning.{nearestTo}
 use Rattle.map_slots.specs.{
   fewSlots,
   pixelKey,
-  keyAt,
+  slotKey,
   slotOf,
   levelsAt,
   levelsOf,
@@ -32,7 +32,7 @@ pub record Searched (c : ℕ → Point) (s : List ℕ) (k n : ℕ) (which best :
   pub number : (i : ℕ) → i < n → foundNumber which best i ≡ nearestShade s k (c i)
 
 -- those read from the key of a pixel are the pixel's
-pub levels-of-pixel : (strip keys : List ℕ) (i q : ℕ) → Bytes strip → keyAt keys q ≡ pixelKey strip i
+pub levels-of-pixel : (strip keys : List ℕ) (i q : ℕ) → Bytes strip → slotKey keys q ≡ pixelKey strip i
     → levelsAt keys q ≡ pixelAt strip i
 levels-of-pixel strip keys i q bytes is =
     let w = pixel-within strip i bytes in
@@ -52,7 +52,7 @@ room-for few room = record {
 -- so the nearest is found for n points whose keys are gathered in m slots
 pub searched-all : {c : ℕ → Point} {f : ℕ → ℕ} {s : List ℕ} {k n : ℕ} {keys which : List ℕ} {m : ℕ}
     → Shades k s → 0 < k → Gathered f n keys which m
-    → ((i q : ℕ) → i < n → keyAt keys q ≡ f i → levelsAt keys q ≡ c i) → (d : List ℕ) → m ≤ length d → {x : List ℕ}
+    → ((i q : ℕ) → i < n → slotKey keys q ≡ f i → levelsAt keys q ≡ c i) → (d : List ℕ) → m ≤ length d → {x : List ℕ}
     → x ≡ fill m (λ q. packedNearest s k (levelsAt keys q)) d → Searched c s k n which x
 searched-all {c} {s = s} {k = k} {which = which} {m = m} shades some g same d room e = record {
   slotted = λ i l. rw (e, fill-length) (omega (arith, g .slotted i l));

@@ -11,13 +11,13 @@ use Rattle.colour.specs.{Point, mostPixels}
 use Rattle.shades.specs.{nearestShade, Shades}
 use Rattle.shades.proofs.Nearest.{nearest-below}
 use Rattle.map_errors.specs.{Errors, missesOf, foundNumber, cellOf, cellsOf, toldAt, toldOf, toldErrors, Tellable, Told}
-use Rattle.map_slots.specs.{keyAt, slotOf, levelsAt, levelsOf, Gathered}
+use Rattle.map_slots.specs.{slotKey, slotOf, levelsAt, levelsOf, Gathered}
 use Rattle.map_blocks.specs.Asking.{nearestAt, FewTaken}
 use Rattle.map_blocks.proofs.block.Searches.{Searched, searched-inside}
 use Rattle.map_errors.proofs.tell.Tells.{told-at}
 
 -- equal keys have the same levels
-pub levels-same : (keys d : List ℕ) (i q : ℕ) → keyAt keys q ≡ keyAt d i → levelsAt keys q ≡ levelsAt d i
+pub levels-same : (keys d : List ℕ) (i q : ℕ) → slotKey keys q ≡ slotKey d i → levelsAt keys q ≡ levelsAt d i
 levels-same keys d i q e = rw e
 
 -- of n points it is told how far their nearest shades are, and which these are
@@ -28,7 +28,7 @@ pub record NearestTold (c : ℕ → Point) (s : List ℕ) (k n : ℕ) (told : Li
 -- ---- the colours of n slots of d, joined and searched
 
 module _ (d : List ℕ) {s : List ℕ} {k n : ℕ} {keys link best : List ℕ} {m : ℕ}
-    (g : Gathered (keyAt d) n keys link m) (w : Searched (levelsAt d) s k n link best) where
+    (g : Gathered (slotKey d) n keys link m) (w : Searched (levelsAt d) s k n link best) where
   -- they may be told of
   pub joined-tellable : Shades k s → 0 < k → n ≤ length link → m ≤ length keys → (t : List ℕ) → 4 * n ≤ length t
       → Tellable keys link best s t n

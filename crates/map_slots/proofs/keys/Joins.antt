@@ -5,7 +5,7 @@ use mathlib.Core.Path.{_≡_, refl, _∙_}
 use native.Mathlib.Omega.{arith}
 use lib.ListN.{length, set, length-set}
 use lib.Seq.{getD-set-other}
-use Rattle.map_slots.specs.Gathering.{keyAt, Gathered, Takes, there, next}
+use Rattle.map_slots.specs.Gathering.{slotKey, Gathered, Takes, there, next}
 use Rattle.map_slots.proofs.Gathers.{gathered-none, gathered-step}
 
 -- a key takes no slot behind the next
@@ -21,8 +21,8 @@ pub record Joining (d l : List ℕ) (n : ℕ) (keys link : List ℕ) (m i : ℕ)
   pub within : i ≤ n
   pub keys-long : length keys ≡ length d
   pub link-long : length link ≡ length l
-  pub joined : Gathered (keyAt d) i keys link m
-  pub rest : (j : ℕ) → i ≤ j → keyAt keys j ≡ keyAt d j
+  pub joined : Gathered (slotKey d) i keys link m
+  pub rest : (j : ℕ) → i ≤ j → slotKey keys j ≡ slotKey d j
 
 -- before the first slot
 pub joining-start : (d l : List ℕ) (n : ℕ) → Joining d l n d l 0 0
@@ -30,20 +30,20 @@ joining-start d l n = record {
   within = omega arith;
   keys-long = refl;
   link-long = refl;
-  joined = gathered-none (keyAt d) d l;
+  joined = gathered-none (slotKey d) d l;
   rest = λ j h. refl;
 }
 
 -- one slot more
 pub joining-step : {d l : List ℕ} {n : ℕ} {keys link : List ℕ} {m i h p : ℕ} → Joining d l n keys link m i → i < n
-    → Takes keys m (keyAt keys i) h → h < length keys → i < length link → m ≤ p → p ≤ m + 1 → h < p
-    → Joining d l n (set keys h (keyAt keys i)) (set link i h) p (i + 1)
+    → Takes keys m (slotKey keys i) h → h < length keys → i < length link → m ≤ p → p ≤ m + 1 → h < p
+    → Joining d l n (set keys h (slotKey keys i)) (set link i h) p (i + 1)
 joining-step {keys = keys} {link = link} {i = i} {h = h} w l takes room free least most within = record {
   within = omega arith;
-  keys-long = length-set keys h (keyAt keys i) ∙ w .keys-long;
+  keys-long = length-set keys h (slotKey keys i) ∙ w .keys-long;
   link-long = length-set link i h ∙ w .link-long;
   joined = gathered-step takes room (w .joined) (w .rest i (omega arith)) least most within free;
   rest = λ j b.
-      getD-set-other keys h j (keyAt keys i) 0 (λ e. omega (arith, takes-most takes, w .joined .few))
+      getD-set-other keys h j (slotKey keys i) 0 (λ e. omega (arith, takes-most takes, w .joined .few))
       ∙ w .rest j (omega arith);
 }

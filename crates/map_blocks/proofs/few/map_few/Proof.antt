@@ -4,7 +4,7 @@ use native.Mathlib.Omega.{arith}
 use lib.ListN.{length}
 use denote.Ref.{now}
 use borrow.Author.Needs.{needs}
-use Rattle.map_slots.specs.{keyAt, levelsAt, Gathered}
+use Rattle.map_slots.specs.{slotKey, levelsAt, Gathered}
 use Rattle.map_blocks.proofs.block.Searches.{Searched, room-for, searched-all}
 use Rattle.map_blocks.proofs.few.Fews.{
   NearestTold,
@@ -32,7 +32,7 @@ found c = c .before .before .before .before .before .before .before .before .bef
 
 -- the slots are joined
 joined : (c : tie.After-join)
-    → Gathered (keyAt (now (st c .args .keys))) (st c .args .n) (c .join .last .0) (c .join .last .1 .1 .0)
+    → Gathered (slotKey (now (st c .args .keys))) (st c .args .n) (c .join .last .0) (c .join .last .1 .1 .0)
     (c .join .result)
 joined c = c .join .ensures
 

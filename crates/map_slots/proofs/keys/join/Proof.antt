@@ -4,7 +4,7 @@ use mathlib.Core.Path.{_≡_, refl, _∙_}
 use native.Mathlib.Omega.{arith}
 use lib.ListN.{length, length-set}
 use denote.Ref.{now}
-use Rattle.map_slots.specs.Gathering.{fewSlots, keyAt}
+use Rattle.map_slots.specs.Gathering.{fewSlots, slotKey}
 use Rattle.map_slots.proofs.keys.Joins.{Joining, takes-most, joining-start, joining-step}
 use Rattle.map_slots.proofs.keys.join.Statement.{statement}
 use Rattle.map_slots.proofs.keys.join.Tie as tie
@@ -97,7 +97,7 @@ loop-again c =
       joining-step (l .loop .inv .0) (omega arith) (at .slot-for .ensures)
           (omega (arith, most at, fewer (at .before .before .before) .0))
           (omega (arith, l .loop .inv .0 .link-long, st l .pre .1)) (e .0) (e .1) (e .2),
-      length-set (l .loop .sites) (keyAt (l .loop .keys) (l .loop .i) % 251) (at .slot-for .result) ∙ l .loop .inv .1,
+      length-set (l .loop .sites) (slotKey (l .loop .keys) (l .loop .i) % 251) (at .slot-for .result) ∙ l .loop .inv .1,
     )
 
 same-length : tie.Need-same-length Inv-loop μ-loop
