@@ -5,12 +5,12 @@ use mathlib.Core.Path.{_≡_, refl, ap}
 use native.Mathlib.Omega.{arith}
 use borrow.Author.Tests.{ne-eqb}
 use lib.Ieee.{Float}
-use Rattle.figures.specs.Figures.{figure, channelMean, meanOf, meansOf, meanNumber, meanValues}
+use Rattle.figures.specs.Figures.{figure, channelMean, meanFigure, channelMeans, meanNumber, meanValues}
 use Rattle.figures.specs.declared.Mean.{Mean}
 use Rattle.figures.specs.declared.Mean.the-variants.{NoPixels, Value}
 
 -- with pixels the mean is the figure
-pub mean-of-some : (e n : ℕ) → 0 < n → meanOf e n ≡ Value (figure e n)
+pub mean-of-some : (e n : ℕ) → 0 < n → meanFigure e n ≡ Value (figure e n)
 mean-of-some e n some = rw (ne-eqb n 0 (λ z. omega arith))
 
 -- and so is a channel's
@@ -19,7 +19,7 @@ channel-of-some e n some = rw (ne-eqb n 0 (λ z. omega arith))
 
 -- all three of them
 pub means-of-some : (r g b n : ℕ) → 0 < n
-    → meansOf r g b n ≡ record { red = figure r n; green = figure g n; blue = figure b n }
+    → channelMeans r g b n ≡ record { red = figure r n; green = figure g n; blue = figure b n }
 means-of-some r g b n some = rw (channel-of-some r n some, channel-of-some g n some, channel-of-some b n some)
 
 -- a mean is told by how many figures it holds, and which

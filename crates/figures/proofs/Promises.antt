@@ -9,8 +9,8 @@ use Rattle.figures.specs.Figures.{
   mostExact,
   figure,
   zeroFigure,
-  meanOf,
-  meansOf,
+  meanFigure,
+  channelMeans,
   meanNumber,
   meanValues,
 }
@@ -38,11 +38,11 @@ figure-exact = quotients.figure-exact
 -- ---- the mean
 
 -- With no pixels the mean says "no pixels": it holds no figure.
-pub mean-of-none : (e : ℕ) → (meanNumber (meanOf e 0) ≡ 0) × (meanValues (meanOf e 0) ≡ [])
+pub mean-of-none : (e : ℕ) → (meanNumber (meanFigure e 0) ≡ 0) × (meanValues (meanFigure e 0) ≡ [])
 mean-of-none e = (refl, refl)
 
 -- With pixels it holds one, the figure of error and pixels.
-pub mean-of-some : (e n : ℕ) → 0 < n → (meanNumber (meanOf e n) ≡ 1) × (meanValues (meanOf e n) ≡ figure e n ∷ [])
+pub mean-of-some : (e n : ℕ) → 0 < n → (meanNumber (meanFigure e n) ≡ 1) × (meanValues (meanFigure e n) ≡ figure e n ∷ [])
 mean-of-some e n some = (ap meanNumber (cases.mean-of-some e n some), ap meanValues (cases.mean-of-some e n some))
 
 -- A mean is told by what it says.
@@ -52,10 +52,10 @@ mean-only = cases.mean-only
 -- ---- the channel means
 
 -- With no pixels the three means are zeros.
-pub means-of-none : (r g b : ℕ) → meansOf r g b 0 ≡ record { red = zeroFigure; green = zeroFigure; blue = zeroFigure }
+pub means-of-none : (r g b : ℕ) → channelMeans r g b 0 ≡ record { red = zeroFigure; green = zeroFigure; blue = zeroFigure }
 means-of-none r g b = refl
 
 -- With pixels each is made as the figure is.
 pub means-of-some : (r g b n : ℕ) → 0 < n
-    → meansOf r g b n ≡ record { red = figure r n; green = figure g n; blue = figure b n }
+    → channelMeans r g b n ≡ record { red = figure r n; green = figure g n; blue = figure b n }
 means-of-some = cases.means-of-some

@@ -26,12 +26,12 @@ abbrev pub channelMean : ℕ → ℕ → Float
 channelMean error pixels = cond (eqb pixels 0) zeroFigure (figure error pixels)
 
 -- the mean: "no pixels", or the figure
-abbrev pub meanOf : ℕ → ℕ → Mean
-meanOf error pixels = cond (eqb pixels 0) NoPixels (Value (figure error pixels))
+abbrev pub meanFigure : ℕ → ℕ → Mean
+meanFigure error pixels = cond (eqb pixels 0) NoPixels (Value (figure error pixels))
 
 -- the three channel means
-abbrev pub meansOf : ℕ → ℕ → ℕ → ℕ → Means
-meansOf red green blue pixels = record {
+abbrev pub channelMeans : ℕ → ℕ → ℕ → ℕ → Means
+channelMeans red green blue pixels = record {
   red = channelMean red pixels;
   green = channelMean green pixels;
   blue = channelMean blue pixels;

@@ -4,9 +4,9 @@
 --   zeroFigure             zero, without a sign
 --   channelMean            the figure, zero for no pixels
 --   Mean                   NoPixels, or Value x
---   meanOf error pixels    "no pixels", or the figure
+--   meanFigure error pixels    "no pixels", or the figure
 --   Means                  red, green, blue
---   meansOf                the three channel means
+--   channelMeans                the three channel means
 --   meanNumber, meanValues what a mean says in document 01's terms
 --   NearestTo y e n        y is the binary64 number nearest to e / n
 pub mod Figures
@@ -18,8 +18,8 @@ unfoldable pub use Figures.{
   figure,
   zeroFigure,
   channelMean,
-  meanOf,
-  meansOf,
+  meanFigure,
+  channelMeans,
   meanNumber,
   meanValues,
 }

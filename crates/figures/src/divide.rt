@@ -1,7 +1,7 @@
 // A figure, the mean and the channel means.
 ghost use mathlib.Core.Path.{_≡_};
 ghost use Prim.Native.Nat.{_≤_};
-ghost use Rattle.figures.specs.Figures.{mostExact, figure, meanOf, meansOf};
+ghost use Rattle.figures.specs.Figures.{mostExact, figure, meanFigure, channelMeans};
 use super::Mean;
 use super::Means;
 
@@ -15,9 +15,9 @@ fn quotient(error: u64, pixels: u64) -> f64
 }
 
 // The mean square error of a strip with this error and this pixel count. Requires the same.
-pub fn mean_of(error: u64, pixels: u64) -> Mean
+pub fn mean_figure(error: u64, pixels: u64) -> Mean
     requires { ⌜ (error ≤ mostExact) × (pixels ≤ mostExact) ⌝ }
-    ensures { λ r. ⌜ r ≡ meanOf error pixels ⌝ }
+    ensures { λ r. ⌜ r ≡ meanFigure error pixels ⌝ }
 {
     if pixels == 0 {
         return Mean::NoPixels;
@@ -27,10 +27,10 @@ pub fn mean_of(error: u64, pixels: u64) -> Mean
 
 // The channel means of a strip with these channel errors and this pixel count. Requires the same of
 // each.
-pub fn means_of(red: u64, green: u64, blue: u64, pixels: u64) -> Means
+pub fn channel_means(red: u64, green: u64, blue: u64, pixels: u64) -> Means
     requires { ⌜ (red ≤ mostExact) × (green ≤ mostExact) × (blue ≤ mostExact)
         × (pixels ≤ mostExact) ⌝ }
-    ensures { λ r. ⌜ r ≡ meansOf red green blue pixels ⌝ }
+    ensures { λ r. ⌜ r ≡ channelMeans red green blue pixels ⌝ }
 {
     if pixels == 0 {
         return Means {

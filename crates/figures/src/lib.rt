@@ -2,15 +2,15 @@
 // conversions without loss and one division.
 //
 // Calls; none refuses, and what one requires stands above it
-//   mean_of    "no pixels", or error by pixels              divide.rt
-//   means_of   the three channel means, zeros for no pixels
+//   mean_figure    "no pixels", or error by pixels              divide.rt
+//   channel_means   the three channel means, zeros for no pixels
 //
 // Read next: specs/Lib.antt (what the words mean), proofs/Promises.antt (what is shown).
 
 mod divide;
 
-pub use divide::mean_of;
-pub use divide::means_of;
+pub use divide::mean_figure;
+pub use divide::channel_means;
 
 // The mean square error: "no pixels", or a binary64 figure.
 pub enum Mean {

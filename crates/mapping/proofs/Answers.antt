@@ -11,7 +11,7 @@ use Rattle.refusal.specs.{done}
 use Rattle.refusal.proofs.Outcomes.{outcome-all}
 use Rattle.colour.specs.{Bytes, mostPixels}
 use Rattle.shades.proofs.Checks.{bad-coordinates-exactly}
-use Rattle.figures.specs.{mostExact, figure, meanOf, meansOf, meanValues, NearestTo, zeroFigure}
+use Rattle.figures.specs.{mostExact, figure, meanFigure, channelMeans, meanValues, NearestTo, zeroFigure}
 use Rattle.figures.proofs.Promises as figures
 use Rattle.figures.proofs.Nearest.{power-le}
 use Rattle.map_blocks.specs.{pixelCount, NearestEntry, errorOf, errorsOf}
@@ -53,16 +53,16 @@ module _ (s p d : List ℕ) (a : ℕ) where
         subst (NearestEntry p s i) (sym (index-at s p d a ok i h)) (strips.entry-is-nearest p s i (palette .0))
 
     -- the mean and the channel means
-    means-are : (r .mean ≡ meanOf (r .error) (pixelCount s))
-        × (r .means ≡ meansOf (r .errors .red) (r .errors .green) (r .errors .blue) (pixelCount s))
+    means-are : (r .mean ≡ meanFigure (r .error) (pixelCount s))
+        × (r .means ≡ channelMeans (r .errors .red) (r .errors .green) (r .errors .blue) (pixelCount s))
     means-are = rw answer-made (refl, refl)
 
     -- with no pixels
     pub mean-of-none : pixelCount s ≡ 0 → (meanValues (r .mean) ≡ [])
         × (r .means ≡ record { red = zeroFigure; green = zeroFigure; blue = zeroFigure })
     mean-of-none z = (
-      ap meanValues (means-are .0 ∙ ap (meanOf (r .error)) z),
-      means-are .1 ∙ ap (meansOf (r .errors .red) (r .errors .green) (r .errors .blue)) z,
+      ap meanValues (means-are .0 ∙ ap (meanFigure (r .error)) z),
+      means-are .1 ∙ ap (channelMeans (r .errors .red) (r .errors .green) (r .errors .blue)) z,
     )
 
     -- with some

@@ -15,7 +15,7 @@ use Rattle.colour.specs.{Bytes, badStrip, mostPixels}
 use Rattle.colour.proofs.Strips.{whole-exactly}
 use Rattle.shades.proofs.Checks.{bad-coordinates-exactly}
 use Rattle.palette.specs.{badPalette}
-use Rattle.figures.specs.{Mean, Means, meanOf, meansOf}
+use Rattle.figures.specs.{Mean, Means, meanFigure, channelMeans}
 use Rattle.map_errors.specs.{Errors}
 use Rattle.map_blocks.specs.{Mappable, SmallErrors, pixelCount, entryFor, errorsOf}
 use Rattle.map_blocks.proofs.Totals.{channels-add, errors-most}
@@ -55,8 +55,8 @@ small-errors s p n strip palette few =
 
 -- an answer with the figures of its errors
 pub answer-is : (errors : Errors) (n : ℕ) (m : Mean) (ms : Means)
-    → m ≡ meanOf (errors .red + errors .green + errors .blue) n
-    → ms ≡ meansOf (errors .red) (errors .green) (errors .blue) n
+    → m ≡ meanFigure (errors .red + errors .green + errors .blue) n
+    → ms ≡ channelMeans (errors .red) (errors .green) (errors .blue) n
     → record {
       refusal = done;
       error = errors .red + errors .green + errors .blue;

@@ -9,7 +9,7 @@ use Rattle.number.specs.{fillFrom}
 use Rattle.refusal.specs.{Row, row, outcomeOf, done, BAD-STRIP, BAD-PALETTE, MANY-PIXELS, SHORT-ROOM}
 use Rattle.colour.specs.{badStrip, mostPixels}
 use Rattle.palette.specs.{badPalette}
-use Rattle.figures.specs.{meanOf, meansOf}
+use Rattle.figures.specs.{meanFigure, channelMeans}
 use Rattle.map_errors.specs.{Errors}
 use Rattle.map_blocks.specs.{pixelCount, entryFor, errorsOf, errorOf}
 use Rattle.mapping.specs.declared.Mapped.{Mapped}
@@ -42,8 +42,8 @@ answerWith n error errors pixels = record {
   refusal = n;
   error = error;
   errors = errors;
-  mean = meanOf error pixels;
-  means = meansOf (errors .red) (errors .green) (errors .blue) pixels;
+  mean = meanFigure error pixels;
+  means = channelMeans (errors .red) (errors .green) (errors .blue) pixels;
 }
 
 -- the answer of a strip with these errors and so many pixels: the error is the channels' sum

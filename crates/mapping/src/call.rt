@@ -51,8 +51,8 @@ fn answer(errors: Errors, pixels: u64) -> Mapped
         refusal: DONE,
         error,
         errors,
-        mean: figures::mean_of(error, pixels),
-        means: figures::means_of(red, green, blue, pixels),
+        mean: figures::mean_figure(error, pixels),
+        means: figures::channel_means(red, green, blue, pixels),
     }
 }
 

@@ -10,16 +10,16 @@ add-error c = search needs
 add-error-2 : tie.Need-add-error-2
 add-error-2 c = search needs
 
-mean-of-requires : tie.Need-mean-of-requires
-mean-of-requires c κs = search needs
+mean-figure-requires : tie.Need-mean-figure-requires
+mean-figure-requires c κs = search needs
 
-means-of-requires : tie.Need-means-of-requires
-means-of-requires c κs = search needs
+channel-means-requires : tie.Need-channel-means-requires
+channel-means-requires c κs = search needs
 
 returns : tie.Need-returns
 returns c =
     let a = c .before .before .args in
-    answer-is (a .errors) (a .pixels) _ _ (c .before .mean-of .ensures) (c .means-of .ensures)
+    answer-is (a .errors) (a .pixels) _ _ (c .before .mean-figure .ensures) (c .channel-means .ensures)
 
 pub answer-spec : {M : Type 1} → statement M
-answer-spec = tie.close (tie.spec add-error add-error-2 mean-of-requires means-of-requires returns)
+answer-spec = tie.close (tie.spec add-error add-error-2 mean-figure-requires channel-means-requires returns)
