@@ -17,7 +17,7 @@ use Rattle.lloyd.specs.{plainRound, shortRound, runOf}
 use Rattle.palette.specs.{paletteFromShades}
 use Rattle.figures.specs.{figure}
 use Rattle.mapping.specs.{mapStrip}
-use Rattle.sheets.specs.Examples.{Example, sameNumbers, sameRows, allHold, entryAt}
+use Rattle.sheets.specs.Examples.{Example, sameNumbers, sameRows, allHold, exampleAt}
 use Rattle.sheets.specs.Table.{sheets}
 
 -- Rows that pass the test are one row.
@@ -40,7 +40,7 @@ rows-same (x ∷ xs) (y ∷ ys) h =
 
 -- In a table that passes the test every entry comes out as written.
 pub each-of-all : (table : List Example) → allHold table ≡ true → (i : ℕ) → i < length table
-    → entryAt table i .computed ≡ entryAt table i .written
+    → exampleAt table i .computed ≡ exampleAt table i .written
 each-of-all [] h i l = absurd (not-suc-le-zero l)
 each-of-all (e ∷ es) h zero l =
     let (first, rest) = both (sameRows (e .computed) (e .written)) (allHold es) h in

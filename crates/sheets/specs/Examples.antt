@@ -30,5 +30,5 @@ allHold [] = true
 allHold (e ∷ es) = sameRows (e .computed) (e .written) && allHold es
 
 -- entry i of a table, counted from 0; past the end stands an example without rows
-abbrev pub entryAt : List Example → ℕ → Example
-entryAt table i = getD table i (record { computed = []; written = [] })
+abbrev pub exampleAt : List Example → ℕ → Example
+exampleAt table i = getD table i (record { computed = []; written = [] })
