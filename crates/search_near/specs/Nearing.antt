@@ -13,7 +13,7 @@ pub record Gaps (s : List ℕ) (k : ℕ) (g : List ℕ) : Type 0 where
   pub gap : (p : ℕ) → p < k → (q : ℕ) → q < k → rowOf g p q ≡ toShade s (shadeAt s p) q
 
 -- k shades, their gaps, a colour on the grid and its former shade p
-pub record Close (s g : List ℕ) (k : ℕ) (c : Point) (p : ℕ) : Type 0 where
+pub record GapsReady (s g : List ℕ) (k : ℕ) (c : Point) (p : ℕ) : Type 0 where
   pub former : p < k
   pub shades : Shades k s
   pub gaps : Gaps s k g

@@ -9,7 +9,7 @@ ghost use Rattle.number.specs.{fill};
 ghost use Rattle.colour.specs.{Within, mostCoordinate};
 ghost use Rattle.shades.specs.{mostShades, Shades, toShade, nearestShade, worked};
 ghost use Rattle.search_near.specs.Sorting.{rowOf};
-ghost use Rattle.search_near.specs.Nearing.{Gaps, Close};
+ghost use Rattle.search_near.specs.Nearing.{Gaps, GapsReady};
 use super::Met;
 use colour::Point;
 use shades::lesser;
@@ -58,7 +58,7 @@ fn tries(g: &[u32], p: usize, q: usize, limit: u32) -> bool
 // that to each other shade whose gap is at most four times as much. Requires the shades, their gaps
 // and a former shade below k.
 pub fn walk_gaps(s: &[u32], g: &[u32], k: usize, c: Point, p: usize) -> Met
-    requires { ⌜ Close (now s) (now g) k c p ⌝ }
+    requires { ⌜ GapsReady (now s) (now g) k c p ⌝ }
     ensures number { λ r. ⌜ r .number ≡ nearestShade (now (s .entry)) k c ⌝ }
     ensures distance { λ r. ⌜ r .distance
         ≡ toShade (now (s .entry)) c (nearestShade (now (s .entry)) k c) ⌝ }

@@ -1,7 +1,7 @@
 // The shortened search: the former shade's row is walked until the shades are too far from it.
 ghost use mathlib.Core.Path.{_≡_};
 ghost use Rattle.shades.specs.{toShade, nearestShade, worked};
-ghost use Rattle.search_near.specs.Sorting.{Ready};
+ghost use Rattle.search_near.specs.Sorting.{RowsReady};
 use super::Met;
 use colour::Point;
 use shades::lesser;
@@ -11,7 +11,7 @@ use shades::lesser;
 // there is too much, p is the nearest: most colours of a late round stay so, and walk nowhere.
 // Requires the shades, their rows and a former shade below k.
 pub fn walk(s: &[u32], g: &[u32], k: usize, c: Point, p: usize) -> Met
-    requires { ⌜ Ready (now s) (now g) k c p ⌝ }
+    requires { ⌜ RowsReady (now s) (now g) k c p ⌝ }
     ensures number { λ r. ⌜ r .number ≡ nearestShade (now (s .entry)) k c ⌝ }
     ensures distance { λ r. ⌜ r .distance
         ≡ toShade (now (s .entry)) c (nearestShade (now (s .entry)) k c) ⌝ }

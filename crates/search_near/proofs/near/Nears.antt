@@ -22,7 +22,7 @@ use Rattle.colour.specs.{Point, distance}
 use Rattle.colour.proofs.Distances.{farther}
 use Rattle.shades.specs.{mostShades, shadeAt, toShade, nearestShade, tried, worked, pack}
 use Rattle.shades.proofs.Nearest.{packed-only, packed-found}
-use Rattle.search_near.specs.Nearing.{Gaps, Close}
+use Rattle.search_near.specs.Nearing.{Gaps, GapsReady}
 use Rattle.search_near.specs.Sorting.{rowOf}
 use Rattle.search_near.proofs.Fillings.{Filling, filling-step, filling-done}
 
@@ -57,7 +57,7 @@ pub record Sought (s : List ℕ) (k : ℕ) (c : Point) (p best others q : ℕ) :
   pub is : best ≡ pack s c (best % mostShades)
   pub below : best % mostShades < k
 
-module _ {s g : List ℕ} {k : ℕ} {c : Point} {p : ℕ} (y : Close s g k c p) where
+module _ {s g : List ℕ} {k : ℕ} {c : Point} {p : ℕ} (y : GapsReady s g k c p) where
   -- what is asked of the row is whether the shade is tried
   pub gap-tried : (q : ℕ) → q < k
       → (not (eqb q p) && leb (rowOf g p q) (4 * toShade s c p)) ≡ tried s c p q

@@ -18,7 +18,7 @@ use Rattle.colour.specs.{Point, distance}
 use Rattle.colour.proofs.Distances.{distance-self, farther, as-far}
 use Rattle.shades.specs.{mostShades, shadeAt, toShade, nearestShade, worked, pack}
 use Rattle.shades.proofs.Nearest.{packed-only, packed-found}
-use Rattle.search_near.specs.Sorting.{Ready, Row, rowOf}
+use Rattle.search_near.specs.Sorting.{RowsReady, RisingRow, rowOf}
 use Rattle.search_near.proofs.Contents.{row-all, row-found}
 
 -- j places of the row of p are walked, and best is the least packed number of the shades met
@@ -30,13 +30,13 @@ pub record Walked (s g : List ℕ) (k : ℕ) (c : Point) (p best j : ℕ) : Type
   pub is : best ≡ pack s c (best % mostShades)
   pub below : best % mostShades < k
 
-module _ {s g : List ℕ} {k : ℕ} {c : Point} {p : ℕ} (y : Ready s g k c p) where
+module _ {s g : List ℕ} {k : ℕ} {c : Point} {p : ℕ} (y : RowsReady s g k c p) where
   -- the packed distance from p to a shade
   abbrev gapTo : ℕ → ℕ
   gapTo = pack s (shadeAt s p)
 
   -- the row of p
-  row : Row gapTo k (rowOf g p)
+  row : RisingRow gapTo k (rowOf g p)
   row = y .rows .row p (y .former)
 
   -- what the walk answers, with the least packed number and the places walked
