@@ -16,7 +16,7 @@ use Rattle.map_errors.specs.{plusErrors}
 use Rattle.map_blocks.specs.{pixelCount, entryFor, errorOf, errorsOf}
 use Rattle.map_blocks.proofs.Totals.{entry-first, entry-second, error-joined, errors-joined}
 use Rattle.mapping.specs.Outcomes.{MapOutcome, mapStrip}
-use Rattle.mapping.specs.Pieces.{joined, EachWhole, Pieced, leftBy, inStrips, EachAccepted}
+use Rattle.mapping.specs.Pieces.{joinedStrips, EachWhole, Pieced, leftBy, inStrips, EachAccepted}
 use Rattle.mapping.proofs.Meaning.{
   map-refuses,
   stretch-within,
@@ -133,27 +133,27 @@ none-joined p d a ok =
 
 -- a picture that is accepted whole is accepted strip by strip
 pub each-accepted : (ss : List (List ℕ)) (p d : List ℕ) (a : ℕ) → EachWhole ss
-    → mapStrip (joined ss) p d a .answer .refusal ≡ done → EachAccepted ss p d a
+    → mapStrip (joinedStrips ss) p d a .answer .refusal ≡ done → EachAccepted ss p d a
 each-accepted [] p d a w ok = tt
 each-accepted (s ∷ ss) p d a (w, ws) ok = (
-  first-accepted s (joined ss) p d a w ok,
-  each-accepted ss p _ (a + pixelCount s) ws (second-accepted s (joined ss) p d a w ok),
+  first-accepted s (joinedStrips ss) p d a w ok,
+  each-accepted ss p _ (a + pixelCount s) ws (second-accepted s (joinedStrips ss) p d a w ok),
 )
 
 -- and leaves the same index picture and the same errors
 pub in-strips : (ss : List (List ℕ)) (p d : List ℕ) (a : ℕ) → EachWhole ss
-    → mapStrip (joined ss) p d a .answer .refusal ≡ done → inStrips ss p d a ≡ leftBy (mapStrip (joined ss) p d a)
+    → mapStrip (joinedStrips ss) p d a .answer .refusal ≡ done → inStrips ss p d a ≡ leftBy (mapStrip (joinedStrips ss) p d a)
 in-strips [] p d a w ok = none-joined p d a ok
 in-strips (s ∷ ss) p d a (w, ws) ok =
     let o = mapStrip s p d a in
-    let rest = in-strips ss p (o .index) (a + pixelCount s) ws (second-accepted s (joined ss) p d a w ok) in
+    let rest = in-strips ss p (o .index) (a + pixelCount s) ws (second-accepted s (joinedStrips ss) p d a w ok) in
     ap (λ (r : Pieced). record {
       index = r .index;
       error = o .answer .error + r .error;
       errors = plusErrors (o .answer .errors) (r .errors);
     }) rest
     ∙ rw (
-      index-joined s (joined ss) p d a w ok,
-      error-of-both s (joined ss) p d a w ok,
-      errors-of-both s (joined ss) p d a w ok,
+      index-joined s (joinedStrips ss) p d a w ok,
+      error-of-both s (joinedStrips ss) p d a w ok,
+      errors-of-both s (joinedStrips ss) p d a w ok,
     )

@@ -22,7 +22,7 @@ use Rattle.mapping.specs.Outcomes.{
   MapMeets,
   OfEachError,
 }
-use Rattle.mapping.specs.Pieces.{joined, EachWhole, leftBy, inStrips, EachAccepted}
+use Rattle.mapping.specs.Pieces.{joinedStrips, EachWhole, leftBy, inStrips, EachAccepted}
 use Rattle.mapping.specs.declared.Mapped.{Mapped}
 use Rattle.mapping.proofs.Meaning as meaning
 use Rattle.mapping.proofs.Answers as answers
@@ -129,10 +129,10 @@ figures-exact = answers.figures-exact
 
 -- A picture that is accepted whole is accepted strip by strip, each stretch beginning where the one before ended.
 pub each-accepted : (ss : List (List ℕ)) (p d : List ℕ) (a : ℕ) → EachWhole ss
-    → mapStrip (joined ss) p d a .answer .refusal ≡ done → EachAccepted ss p d a
+    → mapStrip (joinedStrips ss) p d a .answer .refusal ≡ done → EachAccepted ss p d a
 each-accepted = joins.each-accepted
 
 -- Then the index picture is the same, and the errors of the strips add up to those of the whole.
 pub in-strips : (ss : List (List ℕ)) (p d : List ℕ) (a : ℕ) → EachWhole ss
-    → mapStrip (joined ss) p d a .answer .refusal ≡ done → inStrips ss p d a ≡ leftBy (mapStrip (joined ss) p d a)
+    → mapStrip (joinedStrips ss) p d a .answer .refusal ≡ done → inStrips ss p d a ≡ leftBy (mapStrip (joinedStrips ss) p d a)
 in-strips = joins.in-strips

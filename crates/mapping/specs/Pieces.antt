@@ -10,9 +10,9 @@ use Rattle.map_blocks.specs.{pixelCount}
 use Rattle.mapping.specs.Outcomes.{MapOutcome, mapStrip}
 
 -- the strips joined, from first to last
-abbrev pub joined : List (List ℕ) → List ℕ
-joined [] = []
-joined (s ∷ ss) = s ++ joined ss
+abbrev pub joinedStrips : List (List ℕ) → List ℕ
+joinedStrips [] = []
+joinedStrips (s ∷ ss) = s ++ joinedStrips ss
 
 -- every strip has whole pixels
 abbrev pub EachWhole : List (List ℕ) → Type 0
