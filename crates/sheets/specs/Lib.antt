@@ -7,8 +7,8 @@
 --   keysG, weightsG, recordG   sheet G's table
 --   keysH, weightsH            sheet H's table
 --   members, totals   what is lent to rounds and runs
---   addNumbers, roundNumbers, runNumbers, paletteNumbers, mapNumbers   the numbers of an outcome, in rows
---   figureNumbers, meanNumbers   those of a figure and of a mean square error
+--   addSheet, roundSheet, runSheet, paletteSheet, mapSheet   the numbers of an outcome, in rows
+--   figureRow, meanRows   those of a figure and of a mean square error
 --   Example           computed, written: what the definitions give, and what document 01 writes down
 --   sameNumbers, sameRows   two rows, and two lists of rows, are the same
 --   allHold table     every example comes out as written
@@ -37,13 +37,13 @@ unfoldable pub use Drawing.{
   totals,
 }
 unfoldable pub use Numbers.{
-  addNumbers,
-  roundNumbers,
-  runNumbers,
-  paletteNumbers,
-  figureNumbers,
-  meanNumbers,
-  mapNumbers,
+  addSheet,
+  roundSheet,
+  runSheet,
+  paletteSheet,
+  figureRow,
+  meanRows,
+  mapSheet,
 }
 pub use Examples.{Example}
 unfoldable pub use Examples.{sameNumbers, sameRows, allHold, exampleAt}

@@ -11,24 +11,24 @@ use Rattle.figures.specs.{Mean, meanNumber, meanValues}
 use Rattle.mapping.specs.{MapOutcome}
 
 -- of an add: refusal, taken, used, pixels; the keys; the weights
-abbrev pub addNumbers : Outcome → List (List ℕ)
-addNumbers o =
+abbrev pub addSheet : Outcome → List (List ℕ)
+addSheet o =
     (o .answer .refusal ∷ o .answer .taken ∷ o .answer .rec .used ∷ o .answer .rec .pixels ∷ [])
     ∷ o .keys
     ∷ o .weights
     ∷ []
 
 -- of a single round: refusal, total, shades moved, distances; the coordinates; the members
-abbrev pub roundNumbers : RoundOutcome → List (List ℕ)
-roundNumbers o =
+abbrev pub roundSheet : RoundOutcome → List (List ℕ)
+roundSheet o =
     (o .answer .refusal ∷ o .answer .total ∷ o .answer .moved ∷ o .answer .distances ∷ [])
     ∷ o .state .coordinates
     ∷ o .state .members
     ∷ []
 
 -- of a run: refusal, rounds, settled, distances, final total; the shades; the members; the totals
-abbrev pub runNumbers : RunOutcome → List (List ℕ)
-runNumbers o =
+abbrev pub runSheet : RunOutcome → List (List ℕ)
+runSheet o =
     let a = o .answer in
     (a .refusal ∷ a .rounds ∷ bit (a .settled) ∷ a .distances ∷ a .total ∷ [])
     ∷ a .shades
@@ -37,28 +37,28 @@ runNumbers o =
     ∷ []
 
 -- of a palette: refusal; the bytes
-abbrev pub paletteNumbers : PaletteOutcome → List (List ℕ)
-paletteNumbers o = (o .answer ∷ []) ∷ o .palette ∷ []
+abbrev pub paletteSheet : PaletteOutcome → List (List ℕ)
+paletteSheet o = (o .answer ∷ []) ∷ o .palette ∷ []
 
 -- of a figure: sign, significand, exponent of 2. No two figures have one row: that of a negative exponent is longer,
 -- and what is not finite has fewer than three numbers.
-abbrev pub figureNumbers : Float → List ℕ
-figureNumbers nan = []
-figureNumbers (inf s) = bit s ∷ []
-figureNumbers (fin s m (pos e)) = bit s ∷ m ∷ e ∷ []
-figureNumbers (fin s m (negsuc e)) = bit s ∷ m ∷ 0 ∷ e ∷ []
+abbrev pub figureRow : Float → List ℕ
+figureRow nan = []
+figureRow (inf s) = bit s ∷ []
+figureRow (fin s m (pos e)) = bit s ∷ m ∷ e ∷ []
+figureRow (fin s m (negsuc e)) = bit s ∷ m ∷ 0 ∷ e ∷ []
 
 -- of a mean square error: how many figures it holds; these figures
-abbrev pub meanNumbers : Mean → List (List ℕ)
-meanNumbers m = (meanNumber m ∷ []) ∷ map figureNumbers (meanValues m)
+abbrev pub meanRows : Mean → List (List ℕ)
+meanRows m = (meanNumber m ∷ []) ∷ map figureRow (meanValues m)
 
 -- of a mapping: refusal, error, and the error of each channel; the mean; the mean of each channel; the index bytes
-abbrev pub mapNumbers : MapOutcome → List (List ℕ)
-mapNumbers o =
+abbrev pub mapSheet : MapOutcome → List (List ℕ)
+mapSheet o =
     let a = o .answer in
-    ((a .refusal ∷ a .error ∷ a .errors .red ∷ a .errors .green ∷ a .errors .blue ∷ []) ∷ meanNumbers (a .mean))
-    ++ figureNumbers (a .means .red)
-    ∷ figureNumbers (a .means .green)
-    ∷ figureNumbers (a .means .blue)
+    ((a .refusal ∷ a .error ∷ a .errors .red ∷ a .errors .green ∷ a .errors .blue ∷ []) ∷ meanRows (a .mean))
+    ++ figureRow (a .means .red)
+    ∷ figureRow (a .means .green)
+    ∷ figureRow (a .means .blue)
     ∷ o .index
     ∷ []

@@ -26,12 +26,12 @@ use Rattle.sheets.specs.Drawing.{
   totals,
 }
 use Rattle.sheets.specs.Numbers.{
-  addNumbers,
-  roundNumbers,
-  runNumbers,
-  paletteNumbers,
-  figureNumbers,
-  mapNumbers,
+  addSheet,
+  roundSheet,
+  runSheet,
+  paletteSheet,
+  figureRow,
+  mapSheet,
 }
 use Rattle.sheets.specs.Examples.{Example}
 
@@ -39,7 +39,7 @@ use Rattle.sheets.specs.Examples.{Example}
 -- Nothing is refused, 4 pixels are taken, and a place more of each slice keeps its value.
 abbrev pub sheetA : Example
 sheetA = record {
-  computed = addNumbers (addStrip emptyRecord (replicate 3 7) (replicate 3 9) drawing);
+  computed = addSheet (addStrip emptyRecord (replicate 3 7) (replicate 3 9) drawing);
   written = (done ∷ 4 ∷ 2 ∷ 4 ∷ []) ∷ (keysA ++ 7 ∷ []) ∷ (weightsA ++ 9 ∷ []) ∷ [];
 }
 
@@ -47,7 +47,7 @@ sheetA = record {
 -- Two distances; answered shades past the count are zeros, members and totals past those filled keep their values.
 abbrev pub sheetB : Example
 sheetB = record {
-  computed = runNumbers (runOf recordA keysA weightsA 1 0 members totals)
+  computed = runSheet (runOf recordA keysA weightsA 1 0 members totals)
       ++ (leastOf (coloursOf 2 keysA weightsA) ∷ [])
       ∷ [];
   written = (done ∷ 1 ∷ 1 ∷ 2 ∷ 19200 ∷ [])
@@ -62,16 +62,16 @@ sheetB = record {
 -- The error is all red. A byte past the palette and the index bytes around the stretch keep their values.
 abbrev pub sheetC : Example
 sheetC = record {
-  computed = paletteNumbers (paletteFromShades (40 ∷ 0 ∷ 0 ∷ []) (replicate 4 9))
-      ++ mapNumbers (mapStrip drawing paletteC (replicate 6 8) 1);
+  computed = paletteSheet (paletteFromShades (40 ∷ 0 ∷ 0 ∷ []) (replicate 4 9))
+      ++ mapSheet (mapStrip drawing paletteC (replicate 6 8) 1);
   written = (done ∷ [])
       ∷ (paletteC ++ 9 ∷ [])
       ∷ (done ∷ 76 ∷ 76 ∷ 0 ∷ 0 ∷ [])
       ∷ (1 ∷ [])
-      ∷ figureNumbers (whole 19)
-      ∷ figureNumbers (whole 19)
-      ∷ figureNumbers (whole 0)
-      ∷ figureNumbers (whole 0)
+      ∷ figureRow (whole 19)
+      ∷ figureRow (whole 19)
+      ∷ figureRow (whole 0)
+      ∷ figureRow (whole 0)
       ∷ (8 ∷ 0 ∷ 0 ∷ 0 ∷ 0 ∷ 8 ∷ [])
       ∷ [];
 }
@@ -80,7 +80,7 @@ sheetC = record {
 -- It settles in 2 rounds at (0,0,0), (160,0,0), with a final total of 0.
 abbrev pub sheetD : Example
 sheetD = record {
-  computed = starts (coloursOf 2 keysA weightsA) 2 ∷ runNumbers (runOf recordA keysA weightsA 2 0 members totals);
+  computed = starts (coloursOf 2 keysA weightsA) 2 ∷ runSheet (runOf recordA keysA weightsA 2 0 members totals);
   written = (40 ∷ 0 ∷ 0 ∷ 160 ∷ 0 ∷ 0 ∷ [])
       ∷ (done ∷ 2 ∷ 1 ∷ (3 + 2) ∷ 0 ∷ [])
       ∷ (0 ∷ 0 ∷ 0 ∷ 160 ∷ 0 ∷ 0 ∷ replicate 186 0)
@@ -92,7 +92,7 @@ sheetD = record {
 -- E. D with limit 1: total 4800, not settled, final total 0.
 abbrev pub sheetE : Example
 sheetE = record {
-  computed = runNumbers (runOf recordA keysA weightsA 2 1 members totals);
+  computed = runSheet (runOf recordA keysA weightsA 2 1 members totals);
   written = (done ∷ 1 ∷ 0 ∷ 3 ∷ 0 ∷ [])
       ∷ (0 ∷ 0 ∷ 0 ∷ 160 ∷ 0 ∷ 0 ∷ replicate 186 0)
       ∷ (0 ∷ 1 ∷ 8 ∷ [])
@@ -104,7 +104,7 @@ sheetE = record {
 -- Of two colours as far the second start has the lowest key.
 abbrev pub sheetF : Example
 sheetF = record {
-  computed = starts (coloursOf 2 keysA weightsF) 2 ∷ runNumbers (runOf recordF keysA weightsF 2 0 members totals);
+  computed = starts (coloursOf 2 keysA weightsF) 2 ∷ runSheet (runOf recordF keysA weightsF 2 0 members totals);
   written = (80 ∷ 0 ∷ 0 ∷ 0 ∷ 0 ∷ 0 ∷ [])
       ∷ (done ∷ 2 ∷ 1 ∷ 6 ∷ 0 ∷ [])
       ∷ (160 ∷ 0 ∷ 0 ∷ 0 ∷ 0 ∷ 0 ∷ replicate 186 0)
@@ -117,7 +117,7 @@ sheetF = record {
 -- Shade 0 is just four times as far from shade 1 as the colour is.
 abbrev pub sheetG : Example
 sheetG = record {
-  computed = roundNumbers
+  computed = roundSheet
       (shortRound recordG keysG weightsG (stateOf (0 ∷ 0 ∷ 0 ∷ 160 ∷ 0 ∷ 0 ∷ []) (1 ∷ 8 ∷ [])));
   written = (done ∷ 6400 ∷ 1 ∷ 2 ∷ []) ∷ (80 ∷ 0 ∷ 0 ∷ 160 ∷ 0 ∷ 0 ∷ []) ∷ (0 ∷ 8 ∷ []) ∷ [];
 }
@@ -126,7 +126,7 @@ sheetG = record {
 abbrev pub sheetH : Example
 sheetH = record {
   computed = flat (meanOf (coloursOf 2 keysH weightsH))
-      ∷ paletteNumbers (paletteFromShades (168 ∷ 0 ∷ 0 ∷ []) (replicate 3 9));
+      ∷ paletteSheet (paletteFromShades (168 ∷ 0 ∷ 0 ∷ []) (replicate 3 9));
   written = (168 ∷ 0 ∷ 0 ∷ []) ∷ (done ∷ []) ∷ (11 ∷ 0 ∷ 0 ∷ []) ∷ [];
 }
 
@@ -134,8 +134,8 @@ sheetH = record {
 -- A plain round, then a shortened one: it works out 4 distances too, as a twin of the former shade is another shade.
 abbrev pub sheetI : Example
 sheetI = record {
-  computed = roundNumbers (plainRound recordA keysA weightsA (stateOf (replicate 6 0) members))
-      ++ roundNumbers (shortRound recordA keysA weightsA (stateOf (replicate 6 0) (0 ∷ 0 ∷ 8 ∷ [])));
+  computed = roundSheet (plainRound recordA keysA weightsA (stateOf (replicate 6 0) members))
+      ++ roundSheet (shortRound recordA keysA weightsA (stateOf (replicate 6 0) (0 ∷ 0 ∷ 8 ∷ [])));
   written = (done ∷ 25600 ∷ 1 ∷ 4 ∷ [])
       ∷ (40 ∷ replicate 5 0)
       ∷ (0 ∷ 0 ∷ 8 ∷ [])
