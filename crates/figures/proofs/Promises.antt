@@ -42,7 +42,8 @@ pub mean-of-none : (e : ℕ) → (meanNumber (meanFigure e 0) ≡ 0) × (meanVal
 mean-of-none e = (refl, refl)
 
 -- With pixels it holds one, the figure of error and pixels.
-pub mean-of-some : (e n : ℕ) → 0 < n → (meanNumber (meanFigure e n) ≡ 1) × (meanValues (meanFigure e n) ≡ figure e n ∷ [])
+pub mean-of-some : (e n : ℕ) → 0 < n
+    → (meanNumber (meanFigure e n) ≡ 1) × (meanValues (meanFigure e n) ≡ figure e n ∷ [])
 mean-of-some e n some = (ap meanNumber (cases.mean-of-some e n some), ap meanValues (cases.mean-of-some e n some))
 
 -- A mean is told by what it says.
@@ -52,7 +53,8 @@ mean-only = cases.mean-only
 -- ---- the channel means
 
 -- With no pixels the three means are zeros.
-pub means-of-none : (r g b : ℕ) → channelMeans r g b 0 ≡ record { red = zeroFigure; green = zeroFigure; blue = zeroFigure }
+pub means-of-none : (r g b : ℕ)
+    → channelMeans r g b 0 ≡ record { red = zeroFigure; green = zeroFigure; blue = zeroFigure }
 means-of-none r g b = refl
 
 -- With pixels each is made as the figure is.

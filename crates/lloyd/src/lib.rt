@@ -7,7 +7,7 @@
 //   plain_round, short_round   one round: those of the crate lloyd_rounds
 // For the crates above
 //   flag_of       settled as 1 or 0
-// A refusal answers its number and zeros and writes nothing. The tests stand in the crates table
+// A refusal answers its number and zeros and writes nothing. The tests stand in table_test
 // and lloyd_tests; the work is done by the crate rounds.
 //
 // Read next: specs/Lib.antt (what the words mean), proofs/Promises.antt (what is shown).

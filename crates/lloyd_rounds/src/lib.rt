@@ -5,7 +5,7 @@
 //                 Refuses 2 BAD TABLE, 4 BAD COUNT, 8 BAD CENTRE, 7 SHORT ROOM, in this order.
 //   short_round   one round by the shortened search.
 //                 Refuses 2, 4, 8, 7, 9 BAD MEMBER, in this order.
-// A refusal answers its number and zeros and writes nothing. The tests stand in the crates table,
+// A refusal answers its number and zeros and writes nothing. The tests stand in table_test,
 // shades and lloyd_tests; the work is done by the crate rounds.
 //
 // Read next: specs/Lib.antt (what the words mean), proofs/Promises.antt (what is shown).

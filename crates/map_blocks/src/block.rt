@@ -14,45 +14,47 @@ use map_errors::settle::settle;
 use map_slots::gather;
 use map_slots::search_slots;
 
-// Maps a block of pixels that are gathered in the first `n` slots of `keys` to the `k` shades of
-// `s`; the four lists before `index` are where it works. Requires that they are, some shades on the
-// grid, three bytes for each place of `index`, at most 1024 pixels, and room to work.
+// Maps a block of pixels that are gathered in the first `slots` places of `keys` to the first
+// `count` of `shades`; the four lists before `index` are where it works. Requires that they are,
+// some shades on the grid, three bytes for each place of `index`, at most 1024 pixels, and room to
+// work.
 fn map_many(
     strip: &[u8],
     keys: &[u32],
     which: &[u16],
-    n: usize,
-    s: &[u32],
-    k: usize,
+    slots: usize,
+    shades: &[u32],
+    count: usize,
     reds: &mut [u16],
     greens: &mut [u16],
     blues: &mut [u16],
     best: &mut [u32],
     index: &mut [u8],
 ) -> Errors
-    requires { ⌜ (length (now strip) ≡ 3 * length (now index)) × Shades k (now s) × (0 < k)
-        × (length (now index) ≤ mostSlots)
+    requires { ⌜ (length (now strip) ≡ 3 * length (now index)) × Shades count (now shades)
+        × (0 < count) × (length (now index) ≤ mostSlots)
         × Room (length (now index)) (now keys) (now which) (now reds) (now greens) (now blues)
         (now best)
-        × Gathered (pixelKey (now strip)) (length (now index)) (now keys) (now which) n ⌝ }
+        × Gathered (pixelKey (now strip)) (length (now index)) (now keys) (now which) slots ⌝ }
     ensures index { λ _. ⌜ now (index .exit)
-        ≡ fill (length (now (index .entry))) (nearestTo (now (s .entry)) k (now (strip .entry)))
-        (now (index .entry)) ⌝ }
+        ≡ fill (length (now (index .entry)))
+        (nearestTo (now (shades .entry)) count (now (strip .entry))) (now (index .entry)) ⌝ }
     ensures errors { λ r. ⌜ r
-        ≡ missesOf (pixelAt (now (strip .entry))) (now (s .entry))
-        (nearestTo (now (s .entry)) k (now (strip .entry))) (length (now (index .entry))) ⌝ }
+        ≡ missesOf (pixelAt (now (strip .entry))) (now (shades .entry))
+        (nearestTo (now (shades .entry)) count (now (strip .entry)))
+        (length (now (index .entry))) ⌝ }
 {
-    search_slots(keys, n, s, k, reds, greens, blues, best);
-    settle(strip, which, s, best, index)
+    search_slots(keys, slots, shades, count, reds, greens, blues, best);
+    settle(strip, which, shades, best, index)
 }
 
-// Maps a block of pixels to the `k` shades of `s`; the six lists before `index` are where it works.
-// Requires some shades on the grid, three bytes for each place of `index`, at most 1024 pixels, and
-// room to work.
+// Maps a block of pixels to the first `count` of `shades`; the six lists before `index` are where
+// it works. Requires some shades on the grid, three bytes for each place of `index`, at most 1024
+// pixels, and room to work.
 pub fn map_block(
     strip: &[u8],
-    s: &[u32],
-    k: usize,
+    shades: &[u32],
+    count: usize,
     keys: &mut [u32],
     which: &mut [u16],
     reds: &mut [u16],
@@ -61,28 +63,29 @@ pub fn map_block(
     best: &mut [u32],
     index: &mut [u8],
 ) -> Errors
-    requires { ⌜ (length (now strip) ≡ 3 * length (now index)) × Shades k (now s) × (0 < k)
-        × (length (now index) ≤ mostSlots)
+    requires { ⌜ (length (now strip) ≡ 3 * length (now index)) × Shades count (now shades)
+        × (0 < count) × (length (now index) ≤ mostSlots)
         × Room (length (now index)) (now keys) (now which) (now reds) (now greens) (now blues)
         (now best) ⌝ }
     ensures index { λ _. ⌜ now (index .exit)
-        ≡ fill (length (now (index .entry))) (nearestTo (now (s .entry)) k (now (strip .entry)))
-        (now (index .entry)) ⌝ }
+        ≡ fill (length (now (index .entry)))
+        (nearestTo (now (shades .entry)) count (now (strip .entry))) (now (index .entry)) ⌝ }
     ensures errors { λ r. ⌜ r
-        ≡ missesOf (pixelAt (now (strip .entry))) (now (s .entry))
-        (nearestTo (now (s .entry)) k (now (strip .entry))) (length (now (index .entry))) ⌝ }
+        ≡ missesOf (pixelAt (now (strip .entry))) (now (shades .entry))
+        (nearestTo (now (shades .entry)) count (now (strip .entry)))
+        (length (now (index .entry))) ⌝ }
 {
     let slots = gather(strip, keys, which);
     if slots <= 256 {
-        map_few(which, slots, s, k, keys, reds, greens, blues, best, index)
+        map_few(which, slots, shades, count, keys, reds, greens, blues, best, index)
     } else {
         map_many(
             strip,
             keys,
             which,
             slots,
-            s,
-            k,
+            shades,
+            count,
             reds,
             greens,
             blues,

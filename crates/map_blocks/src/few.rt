@@ -13,14 +13,14 @@ use map_errors::tell::tell;
 use map_slots::join;
 use map_slots::search_slots;
 
-// Maps pixels to the `k` shades of `s`: the colour of each is that with the key at its slot in
-// `which`, one of the first `n`. The five lists before `index` are where it works. Requires some
-// shades on the grid, at most 256 slots and 1024 pixels, and room to work.
+// Maps pixels to the first `count` of `shades`: the colour of each is that with the key at its
+// slot, which `which` tells, one of the first `slots`. The five lists before `index` are where it
+// works. Requires some shades on the grid, at most 256 slots and 1024 pixels, and room to work.
 pub fn map_few(
     which: &[u16],
-    n: usize,
-    s: &[u32],
-    k: usize,
+    slots: usize,
+    shades: &[u32],
+    count: usize,
     keys: &mut [u32],
     reds: &mut [u16],
     greens: &mut [u16],
@@ -28,23 +28,23 @@ pub fn map_few(
     best: &mut [u32],
     index: &mut [u8],
 ) -> Errors
-    requires { ⌜ Shades k (now s) × (0 < k) × (length (now index) ≤ mostSlots)
-        × FewTaken (length (now index)) (now which) n
+    requires { ⌜ Shades count (now shades) × (0 < count) × (length (now index) ≤ mostSlots)
+        × FewTaken (length (now index)) (now which) slots
         × Room (length (now index)) (now keys) (now which) (now reds) (now greens) (now blues)
         (now best) ⌝ }
     ensures index { λ _. ⌜ now (index .exit)
         ≡ fill (length (now (index .entry)))
-        (nearestAt (now (s .entry)) k (levelsOf (now (keys .entry)) (now (which .entry))))
+        (nearestAt (now (shades .entry)) count (levelsOf (now (keys .entry)) (now (which .entry))))
         (now (index .entry)) ⌝ }
     ensures errors { λ r. ⌜ r
-        ≡ missesOf (levelsOf (now (keys .entry)) (now (which .entry))) (now (s .entry))
-        (nearestAt (now (s .entry)) k (levelsOf (now (keys .entry)) (now (which .entry))))
+        ≡ missesOf (levelsOf (now (keys .entry)) (now (which .entry))) (now (shades .entry))
+        (nearestAt (now (shades .entry)) count (levelsOf (now (keys .entry)) (now (which .entry))))
         (length (now (index .entry))) ⌝ }
 {
     let mut link = [0u8; 256];
     let mut told = [0u32; 1024];
-    let joined = join(keys, n, &mut link);
-    search_slots(keys, joined, s, k, reds, greens, blues, best);
-    tell(keys, &link, best, n, s, &mut told);
+    let joined = join(keys, slots, &mut link);
+    search_slots(keys, joined, shades, count, reds, greens, blues, best);
+    tell(keys, &link, best, slots, shades, &mut told);
     add_told(which, &told, index)
 }

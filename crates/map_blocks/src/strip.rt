@@ -23,26 +23,27 @@ fn plus(a: Errors, b: Errors) -> Errors
     }
 }
 
-// Where the block ends that begins at pixel `i` of `n`: 1024 pixels on, or at the end. Requires
-// that the pixel is there.
-fn block_end(i: usize, n: usize) -> usize
-    requires { ⌜ i < n ⌝ }
-    ensures { λ r. ⌜ BlockEnd i n r ⌝ }
+// Where the block ends that begins at pixel `i` of `pixels`: 1024 pixels on, or at the end.
+// Requires that the pixel is there.
+fn block_end(i: usize, pixels: usize) -> usize
+    requires { ⌜ i < pixels ⌝ }
+    ensures { λ r. ⌜ BlockEnd i pixels r ⌝ }
 {
-    if 1024 < n - i { i + 1024 } else { n }
+    if 1024 < pixels - i { i + 1024 } else { pixels }
 }
 
-// Maps a strip to the `k` shades of `s`. Requires some shades on the grid, three bytes for each
-// place of `index`, and at most 16,777,216 pixels.
-fn map_blocks(strip: &[u8], s: &[u32], k: usize, index: &mut [u8]) -> Errors
-    requires { ⌜ (length (now strip) ≡ 3 * length (now index)) × Shades k (now s) × (0 < k)
-        × (length (now index) ≤ mostPixels) ⌝ }
+// Maps a strip to the first `count` of `shades`. Requires some shades on the grid, three bytes for
+// each place of `index`, and at most 16,777,216 pixels.
+fn map_blocks(strip: &[u8], shades: &[u32], count: usize, index: &mut [u8]) -> Errors
+    requires { ⌜ (length (now strip) ≡ 3 * length (now index)) × Shades count (now shades)
+        × (0 < count) × (length (now index) ≤ mostPixels) ⌝ }
     ensures index { λ _. ⌜ now (index .exit)
-        ≡ fill (length (now (index .entry))) (nearestTo (now (s .entry)) k (now (strip .entry)))
-        (now (index .entry)) ⌝ }
+        ≡ fill (length (now (index .entry)))
+        (nearestTo (now (shades .entry)) count (now (strip .entry))) (now (index .entry)) ⌝ }
     ensures errors { λ r. ⌜ r
-        ≡ missesOf (pixelAt (now (strip .entry))) (now (s .entry))
-        (nearestTo (now (s .entry)) k (now (strip .entry))) (length (now (index .entry))) ⌝ }
+        ≡ missesOf (pixelAt (now (strip .entry))) (now (shades .entry))
+        (nearestTo (now (shades .entry)) count (now (strip .entry)))
+        (length (now (index .entry))) ⌝ }
 {
     let mut keys = [0u32; 1024];
     let mut which = [0u16; 1024];
@@ -61,8 +62,8 @@ fn map_blocks(strip: &[u8], s: &[u32], k: usize, index: &mut [u8]) -> Errors
         let e = block_end(i, n);
         let block = map_block(
             &strip[3 * i..3 * e],
-            s,
-            k,
+            shades,
+            count,
             &mut keys,
             &mut which,
             &mut reds,

@@ -1,5 +1,5 @@
-// What is written of the pixels of a block once their shades are found: the shades' numbers, and how
-// far the pixels are from them, channel by channel.
+// What is written of the pixels of a block once their shades are found: the shades' numbers, and
+// how far the pixels are from them, channel by channel.
 //
 // Functions, for the crate above; none refuses, and what one requires stands above it
 //   settle     stores numbers and adds up errors, pixel by pixel    settle.rt

@@ -10,22 +10,22 @@ ghost use Rattle.map_errors.specs.Finding.{Found, foundNumber};
 use super::Errors;
 
 // The squared difference of a level and a coordinate, which is required to be that of a shade.
-fn miss(level: u8, b: u32) -> u64
-    requires { ⌜ b ≤ mostCoordinate ⌝ }
-    ensures { λ r. ⌜ (r ≡ sq level b) × (r ≤ mostCoordinate * mostCoordinate) ⌝ }
+fn miss(level: u8, coordinate: u32) -> u64
+    requires { ⌜ coordinate ≤ mostCoordinate ⌝ }
+    ensures { λ r. ⌜ (r ≡ sq level coordinate) × (r ≤ mostCoordinate * mostCoordinate) ⌝ }
 {
-    colour::square(level as u32, b) as u64
+    colour::square(level as u32, coordinate) as u64
 }
 
-// Stores the number found for each pixel of `strip`, at its slot in `which`, and adds up how far
-// the pixels are from their shades of `s`, channel by channel. Requires three bytes and a number
+// Stores the number found for each pixel of `strip`, at its slot, which `which` tells, and adds up
+// how far the pixels are from their `shades`, channel by channel. Requires three bytes and a number
 // found for each place of `index`.
-pub fn settle(strip: &[u8], which: &[u16], s: &[u32], best: &[u32], index: &mut [u8]) -> Errors
-    requires { ⌜ Found (now strip) (now which) (now s) (now best) (length (now index)) ⌝ }
+pub fn settle(strip: &[u8], which: &[u16], shades: &[u32], best: &[u32], index: &mut [u8]) -> Errors
+    requires { ⌜ Found (now strip) (now which) (now shades) (now best) (length (now index)) ⌝ }
     ensures index { λ _. ⌜ now (index .exit)
         ≡ fill (length (now (index .entry))) (foundNumber (now (which .entry)) (now (best .entry)))
         (now (index .entry)) ⌝ }
-    ensures errors { λ r. ⌜ r ≡ missesOf (pixelAt (now (strip .entry))) (now (s .entry))
+    ensures errors { λ r. ⌜ r ≡ missesOf (pixelAt (now (strip .entry))) (now (shades .entry))
         (foundNumber (now (which .entry)) (now (best .entry))) (length (now (index .entry))) ⌝ }
 {
     let n = index.len();
@@ -38,9 +38,9 @@ pub fn settle(strip: &[u8], which: &[u16], s: &[u32], best: &[u32], index: &mut 
         index[i] = number as u8;
         let from = 3 * i;
         let at = 3 * (number as usize);
-        red += miss(strip[from], s[at]);
-        green += miss(strip[from + 1], s[at + 1]);
-        blue += miss(strip[from + 2], s[at + 2]);
+        red += miss(strip[from], shades[at]);
+        green += miss(strip[from + 1], shades[at + 1]);
+        blue += miss(strip[from + 2], shades[at + 2]);
         i += 1;
     }
     Errors { red, green, blue }

@@ -9,33 +9,33 @@ ghost use Rattle.map_errors.specs.Finding.{foundNumber};
 ghost use Rattle.map_errors.specs.Telling.{cellsOf, toldOf, toldErrors, Tellable, Told};
 use super::Errors;
 
-// Tells of `n` slots, in the front of `told`, the rest of which stays: how far the colour that a
-// slot is linked to is from the shade found for it, channel by channel, and the shade's number.
-// Requires that the links are slots, that the shades are in `s`, and room.
-pub fn tell(keys: &[u32], link: &[u8], best: &[u32], n: usize, s: &[u32], told: &mut [u32])
-    requires { ⌜ Tellable (now keys) (now link) (now best) (now s) (now told) n ⌝ }
+// Tells of so many slots, in the front of `told`, the rest of which stays: how far the colour that
+// a slot is linked to is from the shade found for it, channel by channel, and the shade's number.
+// Requires that the links are slots, that the shades are there, and room.
+pub fn tell(keys: &[u32], link: &[u8], best: &[u32], slots: usize, shades: &[u32], told: &mut [u32])
+    requires { ⌜ Tellable (now keys) (now link) (now best) (now shades) (now told) slots ⌝ }
     ensures { λ _. ⌜ now (told .exit)
-        ≡ fill (4 * n) (cellsOf (levelsOf (now (keys .entry)) (now (link .entry)))
-        (now (s .entry)) (foundNumber (now (link .entry)) (now (best .entry))))
+        ≡ fill (4 * slots) (cellsOf (levelsOf (now (keys .entry)) (now (link .entry)))
+        (now (shades .entry)) (foundNumber (now (link .entry)) (now (best .entry))))
         (now (told .entry)) ⌝ }
 {
     let mut i = 0;
-    while i < n {
+    while i < slots {
         let slot = link[i] as usize;
         let key = keys[slot];
         let number = best[slot] % 64;
         let from = 3 * (number as usize);
         let at = 4 * i;
-        told[at] = colour::square(colour::red_of(key), s[from]);
-        told[at + 1] = colour::square(colour::green_of(key), s[from + 1]);
-        told[at + 2] = colour::square(colour::blue_of(key), s[from + 2]);
+        told[at] = colour::square(colour::red_of(key), shades[from]);
+        told[at + 1] = colour::square(colour::green_of(key), shades[from + 1]);
+        told[at + 2] = colour::square(colour::blue_of(key), shades[from + 2]);
         told[at + 3] = number;
         i += 1;
     }
 }
 
-// Stores the number told of each pixel, at its slot in `which`, and adds up the squared
-// differences told of them. Requires four cells, with a byte for the number, for each slot of
+// Stores the number told of each pixel, at its slot, which `which` tells, and adds up the squared
+// differences told of them. Requires four cells, with a byte for the number, for each place of
 // `index`.
 pub fn add_told(which: &[u16], told: &[u32], index: &mut [u8]) -> Errors
     requires { ⌜ Told (now which) (now told) (length (now index)) ⌝ }

@@ -1,6 +1,7 @@
 -- Key after key takes its slot: one where it stands, else the next; and pixel after pixel that of the pixel before it
 -- where the two have one key, else the next.
 use Prim.Native.Nat.{ℕ, _+_, _-_, _/_, _≤_, _<_}
+use mathlib.Core.Bool.{not}
 use mathlib.Core.List.{List}
 use mathlib.Core.Logic.{inl, inr, ⊎-elim}
 use mathlib.Core.Path.{_≡_, refl, sym, _∙_}
@@ -9,10 +10,11 @@ use lib.Dec.{eqb}
 use lib.ListN.{length, set, length-set}
 use lib.Seq.{getD-set-same, getD-set-other}
 use borrow.Author.Tests.{eqb-true}
+use Rattle.number.specs.{bit}
 use Rattle.number.proofs.Cases.{bool, cmp, lt, eq, gt}
 use Rattle.number.proofs.Searches.{below-or-last}
 use Rattle.colour.specs.{mostKey}
-use Rattle.map_slots.specs.Gathering.{differ, pixelKey, slotKey, slotOf, Gathered, Takes, there, next}
+use Rattle.map_slots.specs.Gathering.{pixelKey, slotKey, slotOf, Gathered, Takes, there, next}
 
 -- ---- one key more
 
@@ -78,7 +80,7 @@ gathering-start strip d w = record {
 
 module _ {strip d w keys which : List ℕ} {m last i : ℕ} (g : Gathering strip d w keys which m last i) where
   -- the next pixel takes the last of m + x slots, where x tells whether its key differs from the last
-  pub gathering-takes : {key x : ℕ} → key ≤ mostKey → x ≡ differ key last
+  pub gathering-takes : {key x : ℕ} → key ≤ mostKey → x ≡ bit (not (eqb key last))
       → (0 < m + x) × (m + x ≤ m + 1) × Takes keys m key (m + x - 1)
   gathering-takes {key} {x} most diff = elim (bool (eqb key last)) [
     | inl t ↦

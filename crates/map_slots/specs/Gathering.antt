@@ -1,10 +1,8 @@
 -- A block of pixels, and what gathering them leaves: pixels that follow one another and are equal share a slot. Where
 -- these slots are few, they are joined: those with one key are gathered once more, wherever they stand.
 use Prim.Native.Nat.{ℕ, _≤_, _<_}
-use mathlib.Core.Bool.{cond}
 use mathlib.Core.List.{List}
 use mathlib.Core.Path.{_≡_}
-use lib.Dec.{eqb}
 use lib.ListN.{getD}
 use Rattle.colour.specs.{Point, keyOf, redOf, greenOf, blueOf}
 use Rattle.shades.specs.{shadeAt}
@@ -16,10 +14,6 @@ mostSlots = 1024
 -- the most slots that are joined
 abbrev pub fewSlots : ℕ
 fewSlots = 256
-
--- 1 where two numbers differ, 0 where they are equal
-abbrev pub differ : ℕ → ℕ → ℕ
-differ a b = cond (eqb a b) 0 1
 
 -- the key of a colour in whole levels
 abbrev pub pointKey : Point → ℕ

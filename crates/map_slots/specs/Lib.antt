@@ -1,11 +1,10 @@
--- Glossary.
---   mostSlots                1024, the most pixels of a block
---   fewSlots                 256, the most slots that are joined
---   differ a b                1 where two numbers differ, 0 where they are equal
+-- Glossary. A slot is where equal pixels of a block share one key.
+--   mostSlots                 1024, the most pixels of a block
+--   fewSlots                  256, the most slots that are joined
 --   pointKey c                the key of a colour in whole levels
 --   pixelKey strip i          the key of pixel i
---   slotKey keys q              the key at slot q
---   slotOf which i           the slot of pixel i
+--   slotKey keys q            the key at slot q
+--   slotOf which i            the slot of pixel i
 --   levelsAt keys q           the colour with the key at slot q, in whole levels
 --   levelsOf keys which i     the colour at the slot of pixel i
 --   Gathered f n keys which m the keys f 0 .. f (n - 1) are at their slots, m in all
@@ -14,7 +13,6 @@ pub mod Gathering
 unfoldable pub use Gathering.{
   mostSlots,
   fewSlots,
-  differ,
   pointKey,
   pixelKey,
   slotKey,

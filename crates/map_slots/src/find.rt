@@ -8,19 +8,19 @@ ghost use Rattle.shades.specs.{Shades, packedNearest};
 ghost use Rattle.search_all.specs.{RoomFor};
 ghost use Rattle.map_slots.specs.Gathering.{levelsAt};
 
-// Lays out the colours of the first `n` keys: their levels go to the fronts of three lists, the
+// Lays out the colours of the first `slots` keys: their levels go to the fronts of three lists, the
 // rest of which stays. Requires that many keys, and room for their colours.
-fn lay_out(keys: &[u32], n: usize, reds: &mut [u16], greens: &mut [u16], blues: &mut [u16])
-    requires { ⌜ (n ≤ length (now keys)) × RoomFor n (now reds) (now greens) (now blues) ⌝ }
+fn lay_out(keys: &[u32], slots: usize, reds: &mut [u16], greens: &mut [u16], blues: &mut [u16])
+    requires { ⌜ (slots ≤ length (now keys)) × RoomFor slots (now reds) (now greens) (now blues) ⌝ }
     ensures reds { λ _. ⌜ now (reds .exit)
-        ≡ fill n (λ q. levelsAt (now (keys .entry)) q .r) (now (reds .entry)) ⌝ }
+        ≡ fill slots (λ q. levelsAt (now (keys .entry)) q .r) (now (reds .entry)) ⌝ }
     ensures greens { λ _. ⌜ now (greens .exit)
-        ≡ fill n (λ q. levelsAt (now (keys .entry)) q .g) (now (greens .entry)) ⌝ }
+        ≡ fill slots (λ q. levelsAt (now (keys .entry)) q .g) (now (greens .entry)) ⌝ }
     ensures blues { λ _. ⌜ now (blues .exit)
-        ≡ fill n (λ q. levelsAt (now (keys .entry)) q .b) (now (blues .entry)) ⌝ }
+        ≡ fill slots (λ q. levelsAt (now (keys .entry)) q .b) (now (blues .entry)) ⌝ }
 {
     let mut i = 0;
-    while i < n {
+    while i < slots {
         let key = keys[i];
         reds[i] = colour::short_of(colour::red_of(key));
         greens[i] = colour::short_of(colour::green_of(key));
@@ -29,25 +29,27 @@ fn lay_out(keys: &[u32], n: usize, reds: &mut [u16], greens: &mut [u16], blues: 
     }
 }
 
-// The nearest of `k` shades of `s` to the colour of each of the first `n` keys, distance and number
-// in one, into the front of `best`, the rest of which stays; the three lists before it are where
-// the colours are laid out. Requires some shades on the grid, that many keys, and room.
+// The nearest of the first `count` of `shades` to the colour of each of the first `slots` keys,
+// distance and number in one, into the front of `best`, the rest of which stays; the three lists
+// before it are where the colours are laid out. Requires some shades on the grid, that many keys,
+// and room.
 pub fn search_slots(
     keys: &[u32],
-    n: usize,
-    s: &[u32],
-    k: usize,
+    slots: usize,
+    shades: &[u32],
+    count: usize,
     reds: &mut [u16],
     greens: &mut [u16],
     blues: &mut [u16],
     best: &mut [u32],
 )
-    requires { ⌜ Shades k (now s) × (0 < k) × (n ≤ length (now keys)) × (n ≤ length (now best))
-        × RoomFor n (now reds) (now greens) (now blues) ⌝ }
+    requires { ⌜ Shades count (now shades) × (0 < count) × (slots ≤ length (now keys))
+        × (slots ≤ length (now best)) × RoomFor slots (now reds) (now greens) (now blues) ⌝ }
     ensures { λ _. ⌜ now (best .exit)
-        ≡ fill n (λ q. packedNearest (now (s .entry)) k (levelsAt (now (keys .entry)) q))
+        ≡ fill slots
+        (λ q. packedNearest (now (shades .entry)) count (levelsAt (now (keys .entry)) q))
         (now (best .entry)) ⌝ }
 {
-    lay_out(keys, n, reds, greens, blues);
-    search_all::search_points(reds, greens, blues, s, k, &mut best[0..n]);
+    lay_out(keys, slots, reds, greens, blues);
+    search_all::search_points(reds, greens, blues, shades, count, &mut best[0..slots]);
 }

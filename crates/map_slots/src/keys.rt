@@ -25,20 +25,20 @@ fn with_slot(taken: usize, slot: usize) -> usize
     if slot < taken { taken } else { taken + 1 }
 }
 
-// Joins the first `n` slots: the front of `keys` gets the keys of the joined slots, and `link`
-// the joined slot of each of the `n`. Answers how many joined slots there are. A key looks for
+// Joins so many slots: the front of `keys` gets the keys of the joined slots, and `link` the joined
+// slot of each of the `slots`. Answers how many joined slots there are. A key looks for
 // its slot at the site of its remainder, which tells the slot of the last key that came there,
 // and is believed where that is the same key. A key whose site another took gets a second slot.
 // Requires at most 256 slots, and room for them.
-pub fn join(keys: &mut [u32], n: usize, link: &mut [u8]) -> usize
-    requires { ⌜ (n ≤ length (now keys)) × (n ≤ length (now link)) × (n ≤ fewSlots) ⌝ }
-    ensures { λ r. ⌜ Gathered (slotKey (now (keys .entry))) n (now (keys .exit)) (now (link .exit))
-        r ⌝ }
+pub fn join(keys: &mut [u32], slots: usize, link: &mut [u8]) -> usize
+    requires { ⌜ (slots ≤ length (now keys)) × (slots ≤ length (now link)) × (slots ≤ fewSlots) ⌝ }
+    ensures { λ r. ⌜ Gathered (slotKey (now (keys .entry))) slots (now (keys .exit))
+        (now (link .exit)) r ⌝ }
 {
     let mut sites = [0usize; 251];
     let mut taken = 0;
     let mut i = 0;
-    while i < n {
+    while i < slots {
         let key = keys[i];
         let site = (key % 251) as usize;
         let slot = slot_for(keys, taken, sites[site], key);

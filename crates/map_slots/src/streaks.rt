@@ -1,16 +1,8 @@
 // The pixels of a block, gathered: one that equals the pixel before it shares its slot, so that a
 // colour is searched once for each streak of it.
-ghost use mathlib.Core.Path.{_≡_};
 ghost use Prim.Native.Nat.{_/_, _≤_};
 ghost use lib.ListN.{length};
-ghost use Rattle.map_slots.specs.Gathering.{mostSlots, differ, pixelKey, Gathered};
-
-// 1 where two keys differ, 0 where they are equal.
-fn differs(a: u32, b: u32) -> usize
-    ensures { λ r. ⌜ r ≡ differ a b ⌝ }
-{
-    if a == b { 0 } else { 1 }
-}
+ghost use Rattle.map_slots.specs.Gathering.{mostSlots, pixelKey, Gathered};
 
 // Gathers the pixels of `strip`: `keys` gets the key of each streak of equal ones at its slot,
 // and `which` the slot of each pixel. Answers how many slots there are. No branch is made on a
@@ -29,7 +21,7 @@ pub fn gather(strip: &[u8], keys: &mut [u32], which: &mut [u16]) -> usize
     while i < n {
         let at = 3 * i;
         let key = colour::key_of(strip[at], strip[at + 1], strip[at + 2]);
-        slots += differs(key, last);
+        slots += bits::bit(key != last) as usize;
         let slot = slots - 1;
         keys[slot] = key;
         which[i] = slot as u16;

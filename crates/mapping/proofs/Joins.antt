@@ -142,7 +142,8 @@ each-accepted (s ∷ ss) p d a (w, ws) ok = (
 
 -- and leaves the same index picture and the same errors
 pub in-strips : (ss : List (List ℕ)) (p d : List ℕ) (a : ℕ) → EachWhole ss
-    → mapStrip (joinedStrips ss) p d a .answer .refusal ≡ done → inStrips ss p d a ≡ leftBy (mapStrip (joinedStrips ss) p d a)
+    → mapStrip (joinedStrips ss) p d a .answer .refusal ≡ done
+    → inStrips ss p d a ≡ leftBy (mapStrip (joinedStrips ss) p d a)
 in-strips [] p d a w ok = none-joined p d a ok
 in-strips (s ∷ ss) p d a (w, ws) ok =
     let o = mapStrip s p d a in

@@ -134,5 +134,6 @@ each-accepted = joins.each-accepted
 
 -- Then the index picture is the same, and the errors of the strips add up to those of the whole.
 pub in-strips : (ss : List (List ℕ)) (p d : List ℕ) (a : ℕ) → EachWhole ss
-    → mapStrip (joinedStrips ss) p d a .answer .refusal ≡ done → inStrips ss p d a ≡ leftBy (mapStrip (joinedStrips ss) p d a)
+    → mapStrip (joinedStrips ss) p d a .answer .refusal ≡ done
+    → inStrips ss p d a ≡ leftBy (mapStrip (joinedStrips ss) p d a)
 in-strips = joins.in-strips

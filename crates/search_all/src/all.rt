@@ -63,24 +63,24 @@ pub fn search_points(
     reds: &[u16],
     greens: &[u16],
     blues: &[u16],
-    s: &[u32],
-    k: usize,
+    shades: &[u32],
+    count: usize,
     best: &mut [u32],
 )
     requires { ⌜ RoomFor (length (now best)) (now reds) (now greens) (now blues)
         × PointsOnGrid (length (now best)) (pointAt (now reds) (now greens) (now blues))
-        × Shades k (now s) × (0 < k) ⌝ }
+        × Shades count (now shades) × (0 < count) ⌝ }
     ensures { λ _. ⌜ now (best .exit)
         ≡ fill (length (now (best .entry)))
-        (λ i. packedNearest (now (s .entry)) k
+        (λ i. packedNearest (now (shades .entry)) count
         (pointAt (now (reds .entry)) (now (greens .entry)) (now (blues .entry)) i))
         (now (best .entry)) ⌝ }
 {
     let n = best.len();
     shades::set_all(best, n, 4294967295);
     let mut q = 0;
-    while q < k {
-        look(reds, greens, blues, shades::shade_at(s, q), q, best);
+    while q < count {
+        look(reds, greens, blues, shades::shade_at(shades, q), q, best);
         q += 1;
     }
 }
@@ -90,31 +90,32 @@ pub fn search_points(
 // there, and a key for each place of `best`.
 fn search_block(
     keys: &[u32],
-    s: &[u32],
-    k: usize,
+    shades: &[u32],
+    count: usize,
     reds: &mut [u16],
     greens: &mut [u16],
     blues: &mut [u16],
     best: &mut [u32],
 )
-    requires { ⌜ (length (now best) ≤ length (now keys)) × Shades k (now s) × (0 < k)
+    requires { ⌜ (length (now best) ≤ length (now keys)) × Shades count (now shades) × (0 < count)
         × RoomFor (length (now keys)) (now reds) (now greens) (now blues) ⌝ }
     ensures { λ _. ⌜ now (best .exit)
         ≡ fill (length (now (best .entry)))
-        (λ i. packedNearest (now (s .entry)) k (colourAt (now (keys .entry)) i))
+        (λ i. packedNearest (now (shades .entry)) count (colourAt (now (keys .entry)) i))
         (now (best .entry)) ⌝ }
 {
     lay_out(keys, reds, greens, blues);
-    search_points(reds, greens, blues, s, k, best);
+    search_points(reds, greens, blues, shades, count, best);
 }
 
 // The nearest shade of each of the first `used` colours, distance and number in one, into the first
 // `used` places of `members`; the others stay. Requires some shades on the grid, and room.
-pub fn search_all(keys: &[u32], used: usize, s: &[u32], k: usize, members: &mut [u32])
+pub fn search_all(keys: &[u32], used: usize, shades: &[u32], count: usize, members: &mut [u32])
     requires { ⌜ (used ≤ length (now keys)) × (used ≤ length (now members))
-        × Shades k (now s) × (0 < k) ⌝ }
+        × Shades count (now shades) × (0 < count) ⌝ }
     ensures { λ _. ⌜ now (members .exit)
-        ≡ fill used (λ i. packedNearest (now (s .entry)) k (colourAt (now (keys .entry)) i))
+        ≡ fill used
+        (λ i. packedNearest (now (shades .entry)) count (colourAt (now (keys .entry)) i))
         (now (members .entry)) ⌝ }
 {
     let mut reds = [0u16; 256];
@@ -125,8 +126,8 @@ pub fn search_all(keys: &[u32], used: usize, s: &[u32], k: usize, members: &mut 
         let e = i + 256;
         search_block(
             &keys[i..e],
-            s,
-            k,
+            shades,
+            count,
             &mut reds,
             &mut greens,
             &mut blues,
@@ -136,8 +137,8 @@ pub fn search_all(keys: &[u32], used: usize, s: &[u32], k: usize, members: &mut 
     }
     search_block(
         &keys[i..used],
-        s,
-        k,
+        shades,
+        count,
         &mut reds,
         &mut greens,
         &mut blues,

@@ -1,5 +1,6 @@
-// The shortened search without sorting: each shade has a row of its gaps to the shades, in the order
-// of their numbers, and each of them is looked at. On a small table that is less than sorting.
+// The shortened search without sorting: each shade has a row of its gaps to the shades, in the
+// order of their numbers, and each of them is looked at. On a small table that is less than
+// sorting.
 ghost use mathlib.Core.Path.{_≡_};
 ghost use mathlib.Core.Bool.{not, _&&_};
 ghost use Prim.Native.Nat.{_+_, _*_, _<_, _≤_};
@@ -14,64 +15,65 @@ use super::Met;
 use colour::Point;
 use shades::lesser;
 
-// The gaps from `p` to the shades, into the first `k` places of `row`, which is required to have
-// them; the others stay.
-fn gap_row(s: &[u32], k: usize, p: Point, row: &mut [u32])
-    requires { ⌜ Shades k (now s) × Within mostCoordinate p × (k ≤ length (now row)) ⌝ }
+// The gaps from `p` to the shades, into the first `count` places of `row`, which is required to
+// have them; the others stay.
+fn gap_row(shades: &[u32], count: usize, p: Point, row: &mut [u32])
+    requires { ⌜ Shades count (now shades) × Within mostCoordinate p
+        × (count ≤ length (now row)) ⌝ }
     ensures { λ _. ⌜ now (row .exit)
-        ≡ fill k (toShade (now (s .entry)) p) (now (row .entry)) ⌝ }
+        ≡ fill count (toShade (now (shades .entry)) p) (now (row .entry)) ⌝ }
 {
     let mut q = 0;
-    while q < k {
-        row[q] = shades::distance_to(s, q, p);
+    while q < count {
+        row[q] = shades::distance_to(shades, q, p);
         q += 1;
     }
 }
 
-// Fills the row of each shade with its gaps, 64 places a row. Requires `k` shades on the grid and
-// room for the rows.
-pub fn fill_gaps(s: &[u32], k: usize, g: &mut [u32])
-    requires { ⌜ Shades k (now s) × (mostShades * k ≤ length (now g)) ⌝ }
-    ensures { λ _. ⌜ Gaps (now (s .entry)) k (now (g .exit)) ⌝ }
+// Fills the row of each shade with its gaps, 64 places a row. Requires `count` shades on the grid
+// and room for the rows.
+pub fn fill_gaps(shades: &[u32], count: usize, gaps: &mut [u32])
+    requires { ⌜ Shades count (now shades) × (mostShades * count ≤ length (now gaps)) ⌝ }
+    ensures { λ _. ⌜ Gaps (now (shades .entry)) count (now (gaps .exit)) ⌝ }
 {
     let mut p = 0;
-    while p < k {
+    while p < count {
         let a = 64 * p;
         let e = a + 64;
-        gap_row(s, k, shades::shade_at(s, p), &mut g[a..e]);
+        gap_row(shades, count, shades::shade_at(shades, p), &mut gaps[a..e]);
         p += 1;
     }
 }
 
 // Whether shade `q` is another than `p`, and its gap to p at most `limit`. Requires the gap.
-fn tries(g: &[u32], p: usize, q: usize, limit: u32) -> bool
-    requires { ⌜ mostShades * p + q < length (now g) ⌝ }
-    ensures { λ r. ⌜ r ≡ (not (eqb q p) && leb (rowOf (now (g .entry)) p q) limit) ⌝ }
+fn tries(gaps: &[u32], p: usize, q: usize, limit: u32) -> bool
+    requires { ⌜ mostShades * p + q < length (now gaps) ⌝ }
+    ensures { λ r. ⌜ r ≡ (not (eqb q p) && leb (rowOf (now (gaps .entry)) p q) limit) ⌝ }
 {
     if q == p {
         return false;
     }
-    g[64 * p + q] <= limit
+    gaps[64 * p + q] <= limit
 }
 
-// The nearest shade of `c`, from its former shade `p`, and the distances worked out: that to p, and
-// that to each other shade whose gap is at most four times as much. Requires the shades, their gaps
-// and a former shade below k.
-pub fn walk_gaps(s: &[u32], g: &[u32], k: usize, c: Point, p: usize) -> Met
-    requires { ⌜ GapsReady (now s) (now g) k c p ⌝ }
-    ensures number { λ r. ⌜ r .number ≡ nearestShade (now (s .entry)) k c ⌝ }
+// The nearest shade of `point`, from its former shade `p`, and the distances worked out: that to p,
+// and that to each other shade whose gap is at most four times as much. Requires the shades, their
+// gaps and a former shade below `count`.
+pub fn walk_gaps(shades: &[u32], gaps: &[u32], count: usize, point: Point, p: usize) -> Met
+    requires { ⌜ GapsReady (now shades) (now gaps) count point p ⌝ }
+    ensures number { λ r. ⌜ r .number ≡ nearestShade (now (shades .entry)) count point ⌝ }
     ensures distance { λ r. ⌜ r .distance
-        ≡ toShade (now (s .entry)) c (nearestShade (now (s .entry)) k c) ⌝ }
-    ensures count { λ r. ⌜ r .count ≡ worked (now (s .entry)) k c p ⌝ }
+        ≡ toShade (now (shades .entry)) point (nearestShade (now (shades .entry)) count point) ⌝ }
+    ensures count { λ r. ⌜ r .count ≡ worked (now (shades .entry)) count point p ⌝ }
 {
-    let d = shades::distance_to(s, p, c);
+    let d = shades::distance_to(shades, p, point);
     let limit = 4 * d;
     let mut best = 64 * d + p as u32;
     let mut others: u64 = 0;
     let mut q = 0;
-    while q < k {
-        if tries(g, p, q, limit) {
-            best = lesser(best, shades::packed(s, q, c));
+    while q < count {
+        if tries(gaps, p, q, limit) {
+            best = lesser(best, shades::packed(shades, q, point));
             others += 1;
         }
         q += 1;

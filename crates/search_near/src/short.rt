@@ -6,31 +6,31 @@ use super::Met;
 use colour::Point;
 use shades::lesser;
 
-// The nearest shade of `c`, from its former shade `p`, and the distances worked out. Place 0 of the
-// row has gap 0, so its shade stands where p stands, and the walk begins at place 1. Where the gap
-// there is too much, p is the nearest: most colours of a late round stay so, and walk nowhere.
-// Requires the shades, their rows and a former shade below k.
-pub fn walk(s: &[u32], g: &[u32], k: usize, c: Point, p: usize) -> Met
-    requires { ⌜ RowsReady (now s) (now g) k c p ⌝ }
-    ensures number { λ r. ⌜ r .number ≡ nearestShade (now (s .entry)) k c ⌝ }
+// The nearest shade of `point`, from its former shade `p`, and the distances worked out. Place 0 of
+// the row has gap 0, so its shade stands where p stands, and the walk begins at place 1. Where the
+// gap there is too much, p is the nearest: most colours of a late round stay so, and walk nowhere.
+// Requires the shades, their rows and a former shade below `count`.
+pub fn walk(shades: &[u32], rows: &[u32], count: usize, point: Point, p: usize) -> Met
+    requires { ⌜ RowsReady (now shades) (now rows) count point p ⌝ }
+    ensures number { λ r. ⌜ r .number ≡ nearestShade (now (shades .entry)) count point ⌝ }
     ensures distance { λ r. ⌜ r .distance
-        ≡ toShade (now (s .entry)) c (nearestShade (now (s .entry)) k c) ⌝ }
-    ensures count { λ r. ⌜ r .count ≡ worked (now (s .entry)) k c p ⌝ }
+        ≡ toShade (now (shades .entry)) point (nearestShade (now (shades .entry)) count point) ⌝ }
+    ensures count { λ r. ⌜ r .count ≡ worked (now (shades .entry)) count point p ⌝ }
 {
-    let d = shades::distance_to(s, p, c);
+    let d = shades::distance_to(shades, p, point);
     let base = 64 * p;
     let limit = 4 * d;
-    if limit < g[base + 1] / 64 {
+    if limit < rows[base + 1] / 64 {
         return Met {
             number: p as u32,
             distance: d,
             count: 1,
         };
     }
-    let mut best = 64 * d + g[base] % 64;
+    let mut best = 64 * d + rows[base] % 64;
     let mut j = 1;
-    while j < k {
-        let v = g[base + j];
+    while j < count {
+        let v = rows[base + j];
         if limit < v / 64 {
             return Met {
                 number: best % 64,
@@ -38,7 +38,7 @@ pub fn walk(s: &[u32], g: &[u32], k: usize, c: Point, p: usize) -> Met
                 count: j as u64,
             };
         }
-        best = lesser(best, shades::packed(s, (v % 64) as usize, c));
+        best = lesser(best, shades::packed(shades, (v % 64) as usize, point));
         j += 1;
     }
     Met {

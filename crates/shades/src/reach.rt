@@ -8,23 +8,25 @@ ghost use Rattle.shades.specs.Distances.{toShade, pack};
 use super::place::shade_at;
 use colour::Point;
 
-// The distance from `c` to shade `q`. Requires that the shade is there, and that point and
+// The distance from `point` to shade `q`. Requires that the shade is there, and that point and
 // coordinates are on the grid.
-pub fn distance_to(s: &[u32], q: usize, c: Point) -> u32
-    requires { ⌜ (3 * q + 2 < length (now s)) × OnGrid (now s) × Within mostCoordinate c ⌝ }
-    ensures { λ r. ⌜ (r ≡ toShade (now (s .entry)) c q) × (r ≤ mostDistance) ⌝ }
+pub fn distance_to(shades: &[u32], q: usize, point: Point) -> u32
+    requires { ⌜ (3 * q + 2 < length (now shades)) × OnGrid (now shades)
+        × Within mostCoordinate point ⌝ }
+    ensures { λ r. ⌜ (r ≡ toShade (now (shades .entry)) point q) × (r ≤ mostDistance) ⌝ }
 {
-    colour::distance(c, shade_at(s, q))
+    colour::distance(point, shade_at(shades, q))
 }
 
-// The distance from `c` to shade `q`, and `q`, in one number. Requires the same, and q below 64.
-pub fn packed(s: &[u32], q: usize, c: Point) -> u32
-    requires { ⌜ (3 * q + 2 < length (now s)) × OnGrid (now s) × Within mostCoordinate c
-        × (q < mostShades) ⌝ }
-    ensures { λ r. ⌜ (r ≡ pack (now (s .entry)) c q)
+// The distance from `point` to shade `q`, and `q`, in one number. Requires the same, and q below
+// 64.
+pub fn packed(shades: &[u32], q: usize, point: Point) -> u32
+    requires { ⌜ (3 * q + 2 < length (now shades)) × OnGrid (now shades)
+        × Within mostCoordinate point × (q < mostShades) ⌝ }
+    ensures { λ r. ⌜ (r ≡ pack (now (shades .entry)) point q)
         × (r < mostShades * mostDistance + mostShades) ⌝ }
 {
-    64 * distance_to(s, q, c) + q as u32
+    64 * distance_to(shades, q, point) + q as u32
 }
 
 // What a colour of this weight costs at this distance. Requires a table's weight and a distance.

@@ -4,13 +4,13 @@ ghost use Prim.Native.Nat.{_≤_};
 ghost use lib.ListN.{length};
 ghost use Rattle.number.specs.{fill};
 
-// Sets the first `n` places, which are required to be there, to `value`; the others stay.
-pub fn set_all(d: &mut [u32], n: usize, value: u32)
-    requires { ⌜ n ≤ length (now d) ⌝ }
-    ensures { λ _. ⌜ now (d .exit) ≡ fill n (λ i. value) (now (d .entry)) ⌝ }
+// Sets the first `count` places, which are required to be there, to `value`; the others stay.
+pub fn set_all(d: &mut [u32], count: usize, value: u32)
+    requires { ⌜ count ≤ length (now d) ⌝ }
+    ensures { λ _. ⌜ now (d .exit) ≡ fill count (λ i. value) (now (d .entry)) ⌝ }
 {
     let mut i = 0;
-    while i < n {
+    while i < count {
         d[i] = value;
         i += 1;
     }

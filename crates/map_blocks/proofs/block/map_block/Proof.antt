@@ -95,8 +95,8 @@ returns c =
     let g = here (m .before .before .before .before .before .before .before .before .before) in
     let a = st g .args in
     let e = m .map-few .ensures in (
-      gathered-index (now (a .strip)) (bytes g) (gathered g) (now (a .s)) (a .k) (now (a .index)) (e .0),
-      gathered-errors (now (a .strip)) (bytes g) (gathered g) (now (a .s)) (a .k) (e .1),
+      gathered-index (now (a .strip)) (bytes g) (gathered g) (now (a .shades)) (a .count) (now (a .index)) (e .0),
+      gathered-errors (now (a .strip)) (bytes g) (gathered g) (now (a .shades)) (a .count) (e .1),
     )
 
 same-length-8 : tie.Need-same-length-8

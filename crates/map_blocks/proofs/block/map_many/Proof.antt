@@ -34,7 +34,7 @@ bytes c i =
 -- the slots are searched
 all : (c : tie.After-search-slots)
     → let a = st (c .before) .args in
-    Searched (pixelAt (now (a .strip))) (now (a .s)) (a .k) (length (now (a .index))) (now (a .which))
+    Searched (pixelAt (now (a .strip))) (now (a .shades)) (a .count) (length (now (a .index))) (now (a .which))
     (c .search-slots .last .1 .1 .1 .1 .1 .1 .1 .0)
 all c =
     let a = st (c .before) .args in

@@ -32,7 +32,7 @@ found c = c .before .before .before .before .before .before .before .before .bef
 
 -- the slots are joined
 joined : (c : tie.After-join)
-    → Gathered (slotKey (now (st c .args .keys))) (st c .args .n) (c .join .last .0) (c .join .last .1 .1 .0)
+    → Gathered (slotKey (now (st c .args .keys))) (st c .args .slots) (c .join .last .0) (c .join .last .1 .1 .0)
     (c .join .result)
 joined c = c .join .ensures
 
@@ -44,7 +44,7 @@ fewer c = omega (arith, joined c .few, st c .pre .3 .few)
 all : (c : tie.After-search-slots)
     → let g = here c in
     let a = st g .args in
-    Searched (levelsAt (now (a .keys))) (now (a .s)) (a .k) (a .n) (g .join .last .1 .1 .0)
+    Searched (levelsAt (now (a .keys))) (now (a .shades)) (a .count) (a .slots) (g .join .last .1 .1 .0)
     (c .search-slots .last .1 .1 .1 .1 .1 .1 .1 .0)
 all c =
     let g = here c in
@@ -56,7 +56,7 @@ all c =
 -- and told of
 told : (c : tie.After-tell)
     → let a = st (here (found (c .before))) .args in
-    NearestTold (levelsAt (now (a .keys))) (now (a .s)) (a .k) (a .n) (c .tell .last .1 .1 .1 .1 .1 .0)
+    NearestTold (levelsAt (now (a .keys))) (now (a .shades)) (a .count) (a .slots) (c .tell .last .1 .1 .1 .1 .1 .0)
 told c =
     let f = found (c .before) in
     let g = here f in

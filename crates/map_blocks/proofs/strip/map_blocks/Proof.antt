@@ -45,7 +45,7 @@ bytes c i = omega (arith, c .before .before .before .shared-slice-known .given i
 loop-holds : tie.Need-loop-holds Inv-loop μ-loop
 loop-holds c =
     let a = c .before .before .before .args in (
-      mapped-start (now (a .strip)) (now (a .s)) (a .k) (now (a .index)),
+      mapped-start (now (a .strip)) (now (a .shades)) (a .count) (now (a .index)),
       record {
         keys-long = refl;
         which-long = refl;

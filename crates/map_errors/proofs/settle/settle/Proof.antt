@@ -44,7 +44,7 @@ first c = c .before .before .before
 -- the shade with the number found is in s
 inside : (c : tie.In-loop Inv-loop μ-loop)
     → let a = st (c .before) .args in
-    3 * foundNumber (now (a .which)) (now (a .best)) (c .before .loop .i) + 2 < length (now (a .s))
+    3 * foundNumber (now (a .which)) (now (a .best)) (c .before .loop .i) + 2 < length (now (a .shades))
 inside c = st (c .before) .pre .inside (c .before .loop .i) (omega arith)
 
 -- the errors so far are small
@@ -55,8 +55,8 @@ small : (c : tie.At-loop Inv-loop μ-loop)
 small c =
     let a = st c .args in
     let known = c .before .before .before .before .before .shared-slice-known .given in
-    let low = misses-low mostCoordinate (pixelAt (now (a .strip))) (now (a .s))
-    (foundNumber (now (a .which)) (now (a .best))) (λ q. shade-within (now (a .s)) q (st c .pre .shades)) in
+    let low = misses-low mostCoordinate (pixelAt (now (a .strip))) (now (a .shades))
+    (foundNumber (now (a .which)) (now (a .best))) (λ q. shade-within (now (a .shades)) q (st c .pre .shades)) in
     let on = pixels-on-grid (now (a .strip)) (length (now (a .index))) (λ p. omega (arith, known p)) in
     settled-small (c .loop .inv) (mostCoordinate * mostCoordinate) (λ j l. low j (on j l))
 
@@ -65,7 +65,7 @@ loop-holds c =
     let a = c .before .before .before .before .before .args in
     let f = foundNumber (now (a .which)) (now (a .best)) in
     let p = pixelAt (now (a .strip)) in
-    let s = now (a .s) in
+    let s = now (a .shades) in
     settled-start f (missAt 0 p s f) (missAt 1 p s f) (missAt 2 p s f) (now (a .index))
 
 mul-number : tie.Need-mul-number Inv-loop μ-loop

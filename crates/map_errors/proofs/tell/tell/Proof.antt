@@ -40,14 +40,14 @@ room c = omega (arith, telling-long (c .before .loop .inv), st (c .before) .pre 
 -- the shade with the number found is in s
 inside : (c : tie.In-loop Inv-loop μ-loop)
     → let a = st (c .before) .args in
-    3 * foundNumber (now (a .link)) (now (a .best)) (c .before .loop .i) + 2 < length (now (a .s))
+    3 * foundNumber (now (a .link)) (now (a .best)) (c .before .loop .i) + 2 < length (now (a .shades))
 inside c = st (c .before) .pre .inside (c .before .loop .i) (omega arith)
 
 loop-holds : tie.Need-loop-holds Inv-loop μ-loop
 loop-holds c =
     let a = c .before .before .before .before .before .args in
-    telling-start (levelsOf (now (a .keys)) (now (a .link))) (now (a .s)) (foundNumber (now (a .link)) (now (a .best)))
-    (a .n) (now (a .told))
+    telling-start (levelsOf (now (a .keys)) (now (a .link))) (now (a .shades)) (foundNumber (now (a .link)) (now (a .best)))
+    (a .slots) (now (a .told))
 
 shared-slice-read-slot : tie.Need-shared-slice-read-slot Inv-loop μ-loop
 shared-slice-read-slot c = omega (arith, st (c .before .before) .pre .links)
@@ -183,7 +183,7 @@ same-length c = telling-long (c .before .loop .inv)
 returns : tie.Need-returns Inv-loop μ-loop
 returns c =
     let l = c .before .loop in
-    let e : l .i ≡ st (c .before) .args .n = omega (arith, l .inv .within) in
+    let e : l .i ≡ st (c .before) .args .slots = omega (arith, l .inv .within) in
     rw e at (l .inv .is)
 
 pub tell-spec : {M : Type 1} → statement M

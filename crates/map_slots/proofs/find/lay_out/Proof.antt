@@ -23,13 +23,13 @@ st c = c .before .before .before .before .before
 
 -- the turn has room in the three lists
 room : (c : tie.At-loop Inv-loop μ-loop)
-    → RoomFor (st c .args .n) (c .loop .reds) (c .loop .greens) (c .loop .blues)
+    → RoomFor (st c .args .slots) (c .loop .reds) (c .loop .greens) (c .loop .blues)
 room c = fronts-room (c .loop .inv) (st c .pre .1)
 
 loop-holds : tie.Need-loop-holds Inv-loop μ-loop
 loop-holds c =
     let a = c .before .before .before .before .args in
-    fronts-start (levelsAt (now (a .keys))) (a .n) (now (a .reds)) (now (a .greens)) (now (a .blues))
+    fronts-start (levelsAt (now (a .keys))) (a .slots) (now (a .reds)) (now (a .greens)) (now (a .blues))
 
 mul-key : tie.Need-mul-key Inv-loop μ-loop
 mul-key c = omega (arith, st (c .before) .pre .0)
@@ -104,7 +104,7 @@ same-length-3 c = fronts-long (c .before .loop .inv) .2
 returns : tie.Need-returns Inv-loop μ-loop
 returns c =
     let l = c .before .loop in
-    let e : l .i ≡ st (c .before) .args .n = omega (arith, l .inv .within) in
+    let e : l .i ≡ st (c .before) .args .slots = omega (arith, l .inv .within) in
     (rw e at (l .inv .red), (rw e at (l .inv .green), rw e at (l .inv .blue)))
 
 pub lay-out-spec : {M : Type 1} → statement M

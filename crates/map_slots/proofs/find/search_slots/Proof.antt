@@ -21,7 +21,7 @@ laid c = c .before .before .before .before .before .before .before .before .befo
 done : (c : tie.After-lay-out)
     → let a = st c .args in
     let x = c .lay-out .last .1 .1 in
-    LaidOut (levelsAt (now (a .keys))) (a .n) (x .0) (x .1 .0) (x .1 .1 .0)
+    LaidOut (levelsAt (now (a .keys))) (a .slots) (x .0) (x .1 .0) (x .1 .1 .0)
 done c =
     let e = c .lay-out .ensures in
     fronts-done record { within = le-refl _; red = e .0; green = e .1 .0; blue = e .1 .1 } (st c .pre .4)
@@ -62,7 +62,7 @@ returns : tie.Need-returns
 returns c =
     let at = laid (c .before .before .before .before) in
     let a = st at .args in
-    keys-searched (now (a .s)) (a .k) (now (a .keys)) (done at) (now (a .best)) (st at .pre .3)
+    keys-searched (now (a .shades)) (a .count) (now (a .keys)) (done at) (now (a .best)) (st at .pre .3)
     (c .before .before .search-points .ensures)
 
 pub search-slots-spec : {M : Type 1} → statement M

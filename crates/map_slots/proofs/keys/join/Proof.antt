@@ -30,7 +30,7 @@ fewer : (c : tie.In-loop Inv-loop μ-loop)
 fewer c =
     let l = c .before in
     let w = l .loop .inv .0 in
-    let less : l .loop .taken < st l .args .n = omega (arith, w .joined .few, c .loop-test .taken) in
+    let less : l .loop .taken < st l .args .slots = omega (arith, w .joined .few, c .loop-test .taken) in
     (omega (arith, less, w .keys-long, st l .pre .0), omega (arith, less, st l .pre .2))
 
 -- the slot that the key takes is one of them, or the next
@@ -40,7 +40,7 @@ most c = takes-most (c .slot-for .ensures)
 loop-holds : tie.Need-loop-holds Inv-loop μ-loop
 loop-holds c =
     let a = c .before .before .args in
-    (joining-start (now (a .keys)) (now (a .link)) (a .n), refl)
+    (joining-start (now (a .keys)) (now (a .link)) (a .slots), refl)
 
 mul-key : tie.Need-mul-key Inv-loop μ-loop
 mul-key c = omega (arith, st (c .before) .pre .2)
@@ -109,7 +109,7 @@ same-length-2 c = c .before .loop .inv .0 .link-long
 returns : tie.Need-returns Inv-loop μ-loop
 returns c =
     let l = c .before .loop in
-    let e : l .i ≡ st (c .before) .args .n = omega (arith, l .inv .0 .within) in
+    let e : l .i ≡ st (c .before) .args .slots = omega (arith, l .inv .0 .within) in
     rw e at (l .inv .0 .joined)
 
 pub join-spec : {M : Type 1} → statement M

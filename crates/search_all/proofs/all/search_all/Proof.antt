@@ -22,7 +22,7 @@ st c = c .before .before .before .before
 loop-holds : tie.Need-loop-holds Inv-loop μ-loop
 loop-holds c =
     let a = c .before .before .before .args in (
-      searched-start (now (a .s)) (a .k) (now (a .keys)) (a .used) (now (a .members)),
+      searched-start (now (a .shades)) (a .count) (now (a .keys)) (a .used) (now (a .members)),
       record { red = refl; green = refl; blue = refl },
     )
 

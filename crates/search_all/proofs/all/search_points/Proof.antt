@@ -46,7 +46,7 @@ look-requires c κs =
     let p = st l .pre in (
       rw (long l) (p .0),
       rw (long l) (p .1),
-      rw (c .before .shade-at .ensures) (shade-within (now (st l .args .s)) (l .loop .q) (p .2 .low)),
+      rw (c .before .shade-at .ensures) (shade-within (now (st l .args .shades)) (l .loop .q) (p .2 .low)),
       omega (arith, p .2 .few),
     )
 

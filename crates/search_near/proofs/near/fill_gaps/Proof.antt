@@ -17,7 +17,7 @@ abbrev μ-loop : tie.MeasureT-loop
 μ-loop s k g₀ p₀ g p = k - p
 
 loop-holds : tie.Need-loop-holds Inv-loop μ-loop
-loop-holds c = let a = c .before .before .args in filling-start (a .k) (GapRow (now (a .s)) (a .k)) (now (a .g))
+loop-holds c = let a = c .before .before .args in filling-start (a .count) (GapRow (now (a .shades)) (a .count)) (now (a .gaps))
 
 mul-a : tie.Need-mul-a Inv-loop μ-loop
 mul-a c = omega (arith, c .before .before .before .before .pre .0 .few)
@@ -45,8 +45,8 @@ gap-row-requires c κs =
     let start = c .before .before .before .before .before .before in
     let l = c .before .before .before .loop in (
       start .pre .0,
-      rw (c .before .shade-at .ensures) (shade-within (now (start .args .s)) (l .p) (start .pre .0 .low)),
-      rw (mid-len (64 * l .p) (64 * l .p + 64) (l .g) (omega (arith, l .inv .long)))
+      rw (c .before .shade-at .ensures) (shade-within (now (start .args .shades)) (l .p) (start .pre .0 .low)),
+      rw (mid-len (64 * l .p) (64 * l .p + 64) (l .gaps) (omega (arith, l .inv .long)))
           (omega (arith, start .pre .0 .few)),
     )
 
@@ -59,7 +59,7 @@ loop-less c = omega arith
 loop-again : tie.Need-loop-again Inv-loop μ-loop
 loop-again c =
     let start = c .before .before .before .before .before .before .before .before .before in
-    gapping-step (now (start .args .s)) (c .before .before .before .before .before .before .loop .inv)
+    gapping-step (now (start .args .shades)) (c .before .before .before .before .before .before .loop .inv)
     (c .before .before .before .before .before .loop-test .taken) (start .pre .0 .few) (start .pre .1) refl
     (rw (c .before .before .before .before .shade-at .ensures) at (c .before .before .gap-row .ensures))
 
@@ -69,7 +69,7 @@ same-length c = c .before .loop .inv .long
 returns : tie.Need-returns Inv-loop μ-loop
 returns c =
     let start = c .before .before .before .before in
-    gapping-done (now (start .args .s)) (c .before .loop .inv) (c .loop-test .left) (start .pre .1)
+    gapping-done (now (start .args .shades)) (c .before .loop .inv) (c .loop-test .left) (start .pre .1)
 
 pub fill-gaps-spec : {M : Type 1} → statement M
 fill-gaps-spec =

@@ -8,29 +8,29 @@ use Rattle.shades.proofs.place.put_shade.Tie as tie
 mul-i : tie.Need-mul-i
 mul-i c = search needs
 
-mul-s : tie.Need-mul-s
-mul-s c = search needs
+mul-shades : tie.Need-mul-shades
+mul-shades c = search needs
 
-slice-write-s : tie.Need-slice-write-s
-slice-write-s c = search needs
+slice-write-shades : tie.Need-slice-write-shades
+slice-write-shades c = search needs
 
-add-s : tie.Need-add-s
-add-s c = search needs
+add-shades : tie.Need-add-shades
+add-shades c = search needs
 
-mul-s-2 : tie.Need-mul-s-2
-mul-s-2 c = search needs
+mul-shades-2 : tie.Need-mul-shades-2
+mul-shades-2 c = search needs
 
-slice-write-s-2 : tie.Need-slice-write-s-2
-slice-write-s-2 c = simp length-set (omega arith)
+slice-write-shades-2 : tie.Need-slice-write-shades-2
+slice-write-shades-2 c = simp length-set (omega arith)
 
-add-s-2 : tie.Need-add-s-2
-add-s-2 c = search needs
+add-shades-2 : tie.Need-add-shades-2
+add-shades-2 c = search needs
 
-mul-s-3 : tie.Need-mul-s-3
-mul-s-3 c = search needs
+mul-shades-3 : tie.Need-mul-shades-3
+mul-shades-3 c = search needs
 
-slice-write-s-3 : tie.Need-slice-write-s-3
-slice-write-s-3 c = search needs
+slice-write-shades-3 : tie.Need-slice-write-shades-3
+slice-write-shades-3 c = search needs
 
 same-length : tie.Need-same-length
 same-length c = search needs
@@ -43,13 +43,13 @@ put-shade-spec =
     tie.close
     (tie.spec
     mul-i
-    mul-s
-    slice-write-s
-    add-s
-    mul-s-2
-    slice-write-s-2
-    add-s-2
-    mul-s-3
-    slice-write-s-3
+    mul-shades
+    slice-write-shades
+    add-shades
+    mul-shades-2
+    slice-write-shades-2
+    add-shades-2
+    mul-shades-3
+    slice-write-shades-3
     same-length
     returns)

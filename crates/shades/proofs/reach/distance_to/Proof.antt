@@ -12,7 +12,7 @@ shade-at-requires c κs = search needs
 distance-requires : tie.Need-distance-requires
 distance-requires c κs =
     let s = c .before .before in
-    (s .pre .2, rw (c .shade-at .ensures) (shade-within (now (s .args .s)) (s .args .q) (s .pre .1)))
+    (s .pre .2, rw (c .shade-at .ensures) (shade-within (now (s .args .shades)) (s .args .q) (s .pre .1)))
 
 returns : tie.Need-returns
 returns c = (cc, omega arith)

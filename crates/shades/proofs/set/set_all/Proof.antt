@@ -40,7 +40,7 @@ same-length c = ap length (c .before .loop .inv .1) ∙ fill-length _ _ _
 
 returns : tie.Need-returns Inv-loop μ-loop
 returns c =
-    let e : c .before .loop .i ≡ c .before .before .args .n = omega arith in
+    let e : c .before .loop .i ≡ c .before .before .args .count = omega arith in
     rw e at (c .before .loop .inv .1)
 
 pub set-all-spec : {M : Type 1} → statement M

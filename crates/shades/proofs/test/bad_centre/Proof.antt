@@ -17,16 +17,16 @@ abbrev μ-loop : tie.MeasureT-loop
 μ-loop s n count₀ i₀ count i = n - i
 
 loop-holds : tie.Need-loop-holds Inv-loop μ-loop
-loop-holds c = counting-start _ (offGrid (now (c .before .args .s)))
+loop-holds c = counting-start _ (offGrid (now (c .before .args .shades)))
 
-mul-off-grid : tie.Need-mul-off-grid Inv-loop μ-loop
-mul-off-grid c = omega arith
+mul-bit : tie.Need-mul-bit Inv-loop μ-loop
+mul-bit c = omega arith
 
-shared-slice-read-off-grid : tie.Need-shared-slice-read-off-grid Inv-loop μ-loop
-shared-slice-read-off-grid c = omega arith
+shared-slice-read-bit : tie.Need-shared-slice-read-bit Inv-loop μ-loop
+shared-slice-read-bit c = omega arith
 
-off-grid-requires : tie.Need-off-grid-requires Inv-loop μ-loop
-off-grid-requires c κs = search needs
+bit-requires : tie.Need-bit-requires Inv-loop μ-loop
+bit-requires c κs = search needs
 
 add-count : tie.Need-add-count Inv-loop μ-loop
 add-count c = omega arith
@@ -39,7 +39,7 @@ loop-less c = omega arith
 
 loop-again : tie.Need-loop-again Inv-loop μ-loop
 loop-again c =
-    counting-step (c .before .before .before .loop .inv) (omega arith) (c .off-grid .result) (c .off-grid .ensures .0)
+    counting-step (c .before .before .before .loop .inv) (omega arith) (c .bit .result) (c .bit .ensures .0)
 
 returns : tie.Need-returns Inv-loop μ-loop
 returns c = ap (ltb 0) (counting-done (c .before .loop .inv) (c .loop-test .left))
@@ -51,9 +51,9 @@ bad-centre-spec =
     Inv-loop
     μ-loop
     loop-holds
-    mul-off-grid
-    shared-slice-read-off-grid
-    off-grid-requires
+    mul-bit
+    shared-slice-read-bit
+    bit-requires
     add-count
     add-i
     loop-less
