@@ -22,22 +22,22 @@ abbrev st : tie.At-loop Inv-loop μ-loop → tie.Start Inv-loop μ-loop
 st c = c .before .before .before .before
 
 -- the loop, from the test whether the key differs
-abbrev turn : tie.After-differs Inv-loop μ-loop → tie.At-loop Inv-loop μ-loop
+abbrev turn : tie.After-bit Inv-loop μ-loop → tie.At-loop Inv-loop μ-loop
 turn c = c .before .before .before .before .before .before
 
 -- the slot of the turn's pixel
-abbrev slot : tie.After-differs Inv-loop μ-loop → ℕ
-slot c = turn c .loop .slots + c .differs .result - 1
+abbrev slot : tie.After-bit Inv-loop μ-loop → ℕ
+slot c = turn c .loop .slots + c .bit .result - 1
 
 -- it takes that slot
-takes : (c : tie.After-differs Inv-loop μ-loop)
-    → let l = turn c .loop in (0 < l .slots + c .differs .result)
-    × (l .slots + c .differs .result ≤ l .slots + 1)
+takes : (c : tie.After-bit Inv-loop μ-loop)
+    → let l = turn c .loop in (0 < l .slots + c .bit .result)
+    × (l .slots + c .bit .result ≤ l .slots + 1)
     × Takes (l .keys) (l .slots) (c .before .key-of .result) (slot c)
-takes c = gathering-takes (turn c .loop .inv) (c .before .key-of .ensures .1) (c .differs .ensures)
+takes c = gathering-takes (turn c .loop .inv) (c .before .key-of .ensures .1) (c .bit .ensures .0)
 
 -- and has room there
-room : (c : tie.After-differs Inv-loop μ-loop) → slot c < length (turn c .loop .keys)
+room : (c : tie.After-bit Inv-loop μ-loop) → slot c < length (turn c .loop .keys)
 room c =
     let w = turn c .loop .inv in
     omega (arith, takes c, w .gathered .few, w .keys-long, st (turn c) .pre .0)
@@ -68,8 +68,11 @@ shared-slice-read-key-of-3 c = omega arith
 key-of-requires : tie.Need-key-of-requires Inv-loop μ-loop
 key-of-requires c κs = search needs
 
-differs-requires : tie.Need-differs-requires Inv-loop μ-loop
-differs-requires c κs = search needs
+bit-requires : tie.Need-bit-requires Inv-loop μ-loop
+bit-requires c κs = search needs
+
+cast-slots : tie.Need-cast-slots Inv-loop μ-loop
+cast-slots c = search needs
 
 add-slots : tie.Need-add-slots Inv-loop μ-loop
 add-slots c = omega (arith, takes c, turn c .loop .inv .gathered .few)
@@ -130,7 +133,8 @@ gather-spec =
     add-key-of-2
     shared-slice-read-key-of-3
     key-of-requires
-    differs-requires
+    bit-requires
+    cast-slots
     add-slots
     sub-slot
     mul-keys
