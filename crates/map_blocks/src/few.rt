@@ -8,8 +8,8 @@ ghost use Rattle.map_errors.specs.{missesOf};
 ghost use Rattle.map_slots.specs.{mostSlots, levelsOf};
 ghost use Rattle.map_blocks.specs.Asking.{Room, FewTaken, nearestAt};
 use map_errors::Errors;
-use map_errors::tell::add_told;
-use map_errors::tell::tell;
+use map_tell::tell::add_told;
+use map_tell::tell::tell;
 use map_slots::join;
 use map_slots::search_slots;
 

@@ -3,13 +3,10 @@
 //
 // Functions, for the crate above; none refuses, and what one requires stands above it
 //   settle     stores numbers and adds up errors, pixel by pixel    settle.rt
-//   tell       tells squared differences and number of each slot   tell.rt
-//   add_told   stores numbers and adds up errors, as they are told
 //
 // Read next: specs/Lib.antt (what the words mean), proofs/Lib.antt (which laws stand where).
 
 pub mod settle;
-pub mod tell;
 
 // The sums of squared level differences, one for each channel.
 pub struct Errors {

@@ -10,11 +10,12 @@ use Rattle.number.proofs.Sums.{sum-eq}
 use Rattle.colour.specs.{Point, mostPixels}
 use Rattle.shades.specs.{nearestShade, Shades}
 use Rattle.shades.proofs.Nearest.{nearest-below}
-use Rattle.map_errors.specs.{Errors, missesOf, foundNumber, cellOf, cellsOf, toldAt, toldOf, toldErrors, Tellable, Told}
+use Rattle.map_errors.specs.{Errors, missesOf, foundNumber}
+use Rattle.map_tell.specs.{cellOf, cellsOf, toldAt, toldOf, toldErrors, Tellable, Told}
 use Rattle.map_slots.specs.{slotKey, slotOf, levelsAt, levelsOf, Gathered}
 use Rattle.map_blocks.specs.Asking.{nearestAt, FewTaken}
 use Rattle.map_blocks.proofs.block.Searches.{Searched, searched-inside}
-use Rattle.map_errors.proofs.tell.Tells.{told-at}
+use Rattle.map_tell.proofs.Tells.{told-at}
 
 -- equal keys have the same levels
 pub levels-same : (keys d : List ℕ) (i q : ℕ) → slotKey keys q ≡ slotKey d i → levelsAt keys q ≡ levelsAt d i

@@ -9,7 +9,7 @@ use Rattle.map_errors.specs.Missing.{pixelAt}
 use Rattle.map_errors.specs.Finding.{foundNumber}
 use Rattle.map_errors.proofs.Misses.{missAt, misses-low}
 use Rattle.map_errors.proofs.Pixels.{pixels-on-grid}
-use Rattle.map_errors.proofs.settle.Settling.{
+use Rattle.map_errors.proofs.Settling.{
   Settled,
   settled-start,
   settled-long,

@@ -5,8 +5,8 @@ use native.Mathlib.Omega.{arith}
 use lib.ListN.{length}
 use denote.Ref.{now}
 use Rattle.map_slots.specs.{slotOf}
-use Rattle.map_errors.specs.Telling.{toldOf}
-use Rattle.map_errors.proofs.settle.Settling.{
+use Rattle.map_tell.specs.Telling.{toldOf}
+use Rattle.map_errors.proofs.Settling.{
   Settled,
   settled-start,
   settled-long,
@@ -14,9 +14,9 @@ use Rattle.map_errors.proofs.settle.Settling.{
   settled-step,
   settled-done,
 }
-use Rattle.map_errors.proofs.tell.Tells.{told-first}
-use Rattle.map_errors.proofs.tell.add_told.Statement.{statement}
-use Rattle.map_errors.proofs.tell.add_told.Tie as tie
+use Rattle.map_tell.proofs.Tells.{told-first}
+use Rattle.map_tell.proofs.tell.add_told.Statement.{statement}
+use Rattle.map_tell.proofs.tell.add_told.Tie as tie
 
 abbrev Inv-loop : tie.InvT-loop
 Inv-loop which told index₀ n red₀ green₀ blue₀ i₀ index red green blue i =

@@ -5,9 +5,9 @@ ghost use Prim.Native.Nat.{_*_};
 ghost use lib.ListN.{length};
 ghost use Rattle.number.specs.{fill};
 ghost use Rattle.map_slots.specs.{levelsOf};
-ghost use Rattle.map_errors.specs.Finding.{foundNumber};
-ghost use Rattle.map_errors.specs.Telling.{cellsOf, toldOf, toldErrors, Tellable, Told};
-use super::Errors;
+ghost use Rattle.map_errors.specs.{foundNumber};
+ghost use Rattle.map_tell.specs.Telling.{cellsOf, toldOf, toldErrors, Tellable, Told};
+use map_errors::Errors;
 
 // Tells of so many slots, in the front of `told`, the rest of which stays: how far the colour that
 // a slot is linked to is from the shade found for it, channel by channel, and the shade's number.

@@ -8,7 +8,7 @@ use Rattle.number.specs.{fill, sq}
 use Rattle.number.proofs.Fills.{fill-at, fill-length, fill-more}
 use Rattle.colour.specs.{Point}
 use Rattle.shades.specs.{shadeAt}
-use Rattle.map_errors.specs.Telling.{cellOf, cellsOf, toldAt}
+use Rattle.map_tell.specs.Telling.{cellOf, cellsOf, toldAt}
 
 -- ---- cells
 

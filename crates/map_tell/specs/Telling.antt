@@ -6,8 +6,7 @@ use Rattle.number.specs.{sum, sq}
 use Rattle.colour.specs.{Point, mostLevel, mostPixels}
 use Rattle.shades.specs.{shadeAt, OnGrid}
 use Rattle.map_slots.specs.{slotOf}
-use Rattle.map_errors.specs.Finding.{foundNumber}
-use Rattle.map_errors.specs.declared.Errors.{Errors}
+use Rattle.map_errors.specs.{Errors, foundNumber}
 
 -- what is told of a point and shade q of s: in cells 0 to 2 the squared differences on the channels, in cell 3 the
 -- number

@@ -6,10 +6,10 @@ use lib.ListN.{length, length-set}
 use denote.Ref.{now}
 use borrow.Author.Needs.{needs}
 use Rattle.map_slots.specs.{levelsOf}
-use Rattle.map_errors.specs.Finding.{foundNumber}
-use Rattle.map_errors.proofs.tell.Tells.{Telling, telling-start, telling-long, telling-step}
-use Rattle.map_errors.proofs.tell.tell.Statement.{statement}
-use Rattle.map_errors.proofs.tell.tell.Tie as tie
+use Rattle.map_errors.specs.{foundNumber}
+use Rattle.map_tell.proofs.Tells.{Telling, telling-start, telling-long, telling-step}
+use Rattle.map_tell.proofs.tell.tell.Statement.{statement}
+use Rattle.map_tell.proofs.tell.tell.Tie as tie
 
 abbrev Inv-loop : tie.InvT-loop
 Inv-loop keys link best n s told₀ i₀ told i = Telling (levelsOf keys link) s (foundNumber link best) n told₀ told i

@@ -1,2 +1,0 @@
--- Place after place the numbers are stored and the squared differences added up.
-pub mod Settling
