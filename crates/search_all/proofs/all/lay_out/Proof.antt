@@ -24,18 +24,19 @@ loop-holds c =
     let ks = now (a .keys) in
     fronts-start (colourAt ks) (length ks) (now (a .reds)) (now (a .greens)) (now (a .blues))
 
--- where the turn begins
+-- where the function begins
+abbrev st : tie.At-loop Inv-loop μ-loop → tie.Start Inv-loop μ-loop
+st c = c .before .before .before .before .before
+
+-- the turn, from its colour
 abbrev turn : tie.After-colour-of Inv-loop μ-loop → tie.At-loop Inv-loop μ-loop
 turn c = c .before .before .before
 
--- where the function begins
-abbrev st : tie.After-colour-of Inv-loop μ-loop → tie.Start Inv-loop μ-loop
-st c = turn c .before .before .before .before .before
-
 -- the turn has room in the three lists
 room : (c : tie.After-colour-of Inv-loop μ-loop)
-    → RoomFor (length (now (st c .args .keys))) (turn c .loop .reds) (turn c .loop .greens) (turn c .loop .blues)
-room c = fronts-room (turn c .loop .inv) (st c .pre)
+    → let l = turn c in
+    RoomFor (length (now (st l .args .keys))) (l .loop .reds) (l .loop .greens) (l .loop .blues)
+room c = fronts-room (turn c .loop .inv) (st (turn c) .pre)
 
 mul-colour-of : tie.Need-mul-colour-of Inv-loop μ-loop
 mul-colour-of c = omega arith
@@ -85,7 +86,7 @@ loop-again c =
     let red = c .before .before .short-of in
     let green = c .before .short-of2 in
     let blue = c .short-of3 in
-    fronts-step (turn at .loop .inv) (omega arith) (st at .pre)
+    fronts-step (turn at .loop .inv) (omega arith) (st (turn at) .pre)
     (record { r = red .result; g = green .result; b = blue .result })
     (rw (red .ensures .0, green .ensures .0, blue .ensures .0) (at .colour-of .ensures .0))
 
@@ -100,9 +101,8 @@ same-length-3 c = fronts-long (c .before .loop .inv) .2
 
 returns : tie.Need-returns Inv-loop μ-loop
 returns c =
-    let a = c .before .before .before .before .before .before .args in
     let l = c .before .loop in
-    let e : l .i ≡ length (now (a .keys)) = omega (arith, l .inv .within) in
+    let e : l .i ≡ length (now (st (c .before) .args .keys)) = omega (arith, l .inv .within) in
     (rw e at (l .inv .red), (rw e at (l .inv .green), rw e at (l .inv .blue)))
 
 pub lay-out-spec : {M : Type 1} → statement M

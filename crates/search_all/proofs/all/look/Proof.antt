@@ -23,6 +23,10 @@ abbrev μ-loop : tie.MeasureT-loop
 abbrev st : tie.At-loop Inv-loop μ-loop → tie.Start Inv-loop μ-loop
 st c = c .before .before .before .before .before
 
+-- the turn, from its distance
+abbrev turn : tie.After-distance-from Inv-loop μ-loop → tie.At-loop Inv-loop μ-loop
+turn c = c .before .before .before .before .before
+
 cast-number : tie.Need-cast-number Inv-loop μ-loop
 cast-number c = omega arith
 
@@ -57,8 +61,7 @@ mul-lesser : tie.Need-mul-lesser Inv-loop μ-loop
 mul-lesser c = omega arith
 
 slice-read-lesser : tie.Need-slice-read-lesser Inv-loop μ-loop
-slice-read-lesser c =
-    rw (c .before .before .before .before .before .before .loop .inv .1, fill-length) (omega arith)
+slice-read-lesser c = rw (turn (c .before) .loop .inv .1, fill-length) (omega arith)
 
 mul-lesser-2 : tie.Need-mul-lesser-2 Inv-loop μ-loop
 mul-lesser-2 c = omega arith
@@ -73,8 +76,7 @@ mul-best : tie.Need-mul-best Inv-loop μ-loop
 mul-best c = omega arith
 
 slice-write-best : tie.Need-slice-write-best Inv-loop μ-loop
-slice-write-best c =
-    rw (c .before .before .before .before .before .before .before .loop .inv .1, fill-length) (omega arith)
+slice-write-best c = rw (turn (c .before .before) .loop .inv .1, fill-length) (omega arith)
 
 add-i : tie.Need-add-i Inv-loop μ-loop
 add-i c = omega arith
@@ -84,10 +86,10 @@ loop-less c = omega arith
 
 loop-again : tie.Need-loop-again Inv-loop μ-loop
 loop-again c =
-    let turn = c .before .before .before .before .before .before .before in
-    let l = turn .loop in
-    let a = st turn .args in
-    let far = c .before .before .distance-from in (
+    let at = c .before .before in
+    let l = turn at .loop in
+    let a = st (turn at) .args in
+    let far = at .distance-from in (
       omega arith,
       look-more (pointAt (now (a .reds)) (now (a .greens)) (now (a .blues))) (a .p) (a .q) (l .i) (now (a .best))
           (l .inv .1) (omega arith) (far .result) (c .lesser .result) (far .ensures .0) (c .lesser .ensures),
@@ -98,8 +100,7 @@ same-length c = ap length (c .before .loop .inv .1) ∙ fill-length _ _ _
 
 returns : tie.Need-returns Inv-loop μ-loop
 returns c =
-    let e : c .before .loop .i ≡ length (now (c .before .before .before .before .before .before .args .best)) =
-    omega arith in
+    let e : c .before .loop .i ≡ length (now (st (c .before) .args .best)) = omega arith in
     rw e at (c .before .loop .inv .1)
 
 pub look-spec : {M : Type 1} → statement M

@@ -19,6 +19,22 @@ abbrev μ-loop : tie.MeasureT-loop
 abbrev st : tie.At-loop Inv-loop μ-loop → tie.Start Inv-loop μ-loop
 st c = c .before .before .before .before
 
+-- the turn, from where the three lists are lent
+abbrev turn : tie.After-blues Inv-loop μ-loop → tie.At-loop Inv-loop μ-loop
+turn c = c .before .before .before .before .before
+
+-- the turn's block searched, from the turn's end
+abbrev searched : tie.After-slice-known2 Inv-loop μ-loop → tie.After-search-block Inv-loop μ-loop
+searched c = c .before .before .before .before .before
+
+-- the loop's end, from where the three lists are lent for the last block
+abbrev end : tie.After-blues3 Inv-loop μ-loop → tie.At-loop Inv-loop μ-loop
+end c = c .before .before .before .before .before
+
+-- the last block searched, from the function's end
+abbrev last : tie.After-slice-known3 Inv-loop μ-loop → tie.After-search-block2 Inv-loop μ-loop
+last c = c .before .before .before .before .before
+
 loop-holds : tie.Need-loop-holds Inv-loop μ-loop
 loop-holds c =
     let a = c .before .before .before .args in (
@@ -51,7 +67,7 @@ slice-aggregate-search-block-2 : tie.Need-slice-aggregate-search-block-2 Inv-loo
 slice-aggregate-search-block-2 c = omega (arith, c .before .before .before .before .loop .inv .1 .green)
 
 slice-aggregate-search-block-3 : tie.Need-slice-aggregate-search-block-3 Inv-loop μ-loop
-slice-aggregate-search-block-3 c = omega (arith, c .before .before .before .before .before .loop .inv .1 .blue)
+slice-aggregate-search-block-3 c = omega (arith, turn c .loop .inv .1 .blue)
 
 mul-search-block-2 : tie.Need-mul-search-block-2 Inv-loop μ-loop
 mul-search-block-2 c = omega arith
@@ -63,11 +79,11 @@ part-search-block-start-2 : tie.Need-part-search-block-start-2 Inv-loop μ-loop
 part-search-block-start-2 c = omega arith
 
 part-search-block-end-2 : tie.Need-part-search-block-end-2 Inv-loop μ-loop
-part-search-block-end-2 c = omega (arith, c .before .before .before .before .before .loop .inv .0 .long)
+part-search-block-end-2 c = omega (arith, turn c .loop .inv .0 .long)
 
 search-block-requires : tie.Need-search-block-requires Inv-loop μ-loop
 search-block-requires c κs =
-    let l = c .before .before .before .before .before .before in
+    let l = turn (c .before) in
     let p = st l .pre in
     let i = l .loop .i in (
       block-keys (l .loop .inv .0) (i + 256) (omega arith) (p .1) (p .0),
@@ -81,8 +97,9 @@ loop-less c = omega arith
 
 loop-again : tie.Need-loop-again Inv-loop μ-loop
 loop-again c =
-    let l = c .before .before .before .before .before .before .before .before .before .before .before .before in
-    let b = c .before .before .before .before .before .search-block in
+    let at = searched c in
+    let l = turn (at .before .before) in
+    let b = at .search-block in
     let w = l .loop .inv .1 in (
       searched-step (l .loop .inv .0) (l .loop .i + 256) (omega arith) (omega arith) (st l .pre .1) (b .ensures),
       record {
@@ -111,7 +128,7 @@ slice-aggregate-search-block-5 : tie.Need-slice-aggregate-search-block-5 Inv-loo
 slice-aggregate-search-block-5 c = omega (arith, c .before .before .before .before .loop .inv .1 .green)
 
 slice-aggregate-search-block-6 : tie.Need-slice-aggregate-search-block-6 Inv-loop μ-loop
-slice-aggregate-search-block-6 c = omega (arith, c .before .before .before .before .before .loop .inv .1 .blue)
+slice-aggregate-search-block-6 c = omega (arith, end c .loop .inv .1 .blue)
 
 mul-search-block-4 : tie.Need-mul-search-block-4 Inv-loop μ-loop
 mul-search-block-4 c = omega arith
@@ -123,11 +140,11 @@ part-search-block-start-4 : tie.Need-part-search-block-start-4 Inv-loop μ-loop
 part-search-block-start-4 c = omega arith
 
 part-search-block-end-4 : tie.Need-part-search-block-end-4 Inv-loop μ-loop
-part-search-block-end-4 c = omega (arith, c .before .before .before .before .before .loop .inv .0 .long)
+part-search-block-end-4 c = omega (arith, end c .loop .inv .0 .long)
 
 search-block-requires-2 : tie.Need-search-block-requires-2 Inv-loop μ-loop
 search-block-requires-2 c κs =
-    let l = c .before .before .before .before .before .before in
+    let l = end (c .before) in
     let p = st l .pre in
     let used = st l .args .used in (
       block-keys (l .loop .inv .0) used (omega arith) (p .1) (p .0),
@@ -137,15 +154,13 @@ search-block-requires-2 c κs =
     )
 
 same-length : tie.Need-same-length Inv-loop μ-loop
-same-length c =
-    let l = c .before .before .before .before .before .before .before .before .before .before .before .before in
-    omega (arith, l .loop .inv .0 .long)
+same-length c = omega (arith, end (last c .before .before) .loop .inv .0 .long)
 
 returns : tie.Need-returns Inv-loop μ-loop
 returns c =
-    let l = c .before .before .before .before .before .before .before .before .before .before .before .before in
+    let l = end (last c .before .before) in
     searched-step (l .loop .inv .0) (st l .args .used) (omega arith) (omega arith) (st l .pre .1)
-    (c .before .before .before .before .before .search-block2 .ensures) .is
+    (last c .search-block2 .ensures) .is
 
 pub search-all-spec : {M : Type 1} → statement M
 search-all-spec =

@@ -17,9 +17,17 @@ Inv-loop reds greens blues s k best₀ n q₀ best q = Looked s (pointAt reds gr
 abbrev μ-loop : tie.MeasureT-loop
 μ-loop reds greens blues s k best₀ n q₀ best q = k - q
 
--- where the function begins
+-- where the slices are known, from the loop's beginning
+abbrev known : tie.After-slice-known2 Inv-loop μ-loop → tie.After-shared-slice-known4 Inv-loop μ-loop
+known c = c .before .before .before .before .before
+
+-- where the function begins, from the same
+abbrev begin : tie.After-slice-known2 Inv-loop μ-loop → tie.Start Inv-loop μ-loop
+begin c = known c .before .before .before .before
+
+-- and from a turn
 abbrev st : tie.At-loop Inv-loop μ-loop → tie.Start Inv-loop μ-loop
-st c = c .before .before .before .before .before .before .before .before .before .before
+st c = begin (c .before)
 
 -- where every place holds the greatest number
 abbrev filled : tie.At-loop Inv-loop μ-loop → tie.After-set-all Inv-loop μ-loop
@@ -33,9 +41,7 @@ set-all-requires : tie.Need-set-all-requires Inv-loop μ-loop
 set-all-requires c κs = search needs
 
 loop-holds : tie.Need-loop-holds Inv-loop μ-loop
-loop-holds c =
-    looked-start (now (c .before .before .before .before .before .before .before .before .before .args .best))
-    (c .before .before .set-all .ensures)
+loop-holds c = looked-start (now (begin c .args .best)) (c .before .before .set-all .ensures)
 
 shade-at-requires : tie.Need-shade-at-requires Inv-loop μ-loop
 shade-at-requires c κs = omega (arith, st (c .before) .pre .2 .room)

@@ -21,6 +21,10 @@ Inv-loop s g k c p d limit best₀ others₀ q₀ best others q = Sought s k c p
 abbrev μ-loop : tie.MeasureT-loop
 μ-loop s g k c p d limit best₀ others₀ q₀ best others q = k - q
 
+-- where the function begins
+abbrev st : tie.At-loop Inv-loop μ-loop → tie.Start Inv-loop μ-loop
+st c = c .before .before .before .before
+
 distance-to-requires : tie.Need-distance-to-requires Inv-loop μ-loop
 distance-to-requires c κs =
     let y = c .before .before .pre in
@@ -43,12 +47,12 @@ loop-holds c = rw (c .distance-to .ensures .0) (sought-start (c .before .before 
 
 tries-requires : tie.Need-tries-requires Inv-loop μ-loop
 tries-requires c κs =
-    let y = c .before .before .before .before .before .pre in
+    let y = st (c .before) .pre in
     omega (arith, y .former, y .shades .few, y .gaps .room)
 
 packed-requires : tie.Need-packed-requires Inv-loop μ-loop
 packed-requires c κs =
-    let y = c .before .before .before .before .before .before .before .pre in
+    let y = st (c .before .before .before) .pre in
     (omega (arith, y .shades .room), y .shades .low, y .inside, omega (arith, y .shades .few))
 
 lesser-requires : tie.Need-lesser-requires Inv-loop μ-loop
@@ -66,7 +70,7 @@ loop-less c = omega arith
 loop-again : tie.Need-loop-again Inv-loop μ-loop
 loop-again c =
     let l = c .before .before .before in
-    let y = l .before .before .before .before .pre in
+    let y = st l .pre in
     let h = c .before .before .loop-test .taken in
     let asked =
     sym (gap-tried y (l .loop .q) h) ∙ sym (rw (l .before .distance-to .ensures .0) at (c .before .tries .ensures)) in
@@ -78,11 +82,11 @@ loop-again c =
 
 add-t16 : tie.Need-add-t16 Inv-loop μ-loop
 add-t16 c =
-    let y = c .before .before .before .before .before .pre in
-    record { fits = omega (arith, c .before .loop .inv .counted .few, c .before .loop .inv .counted .within, y .shades .few) }
+    let counted = c .before .loop .inv .counted in
+    record { fits = omega (arith, counted .few, counted .within, st (c .before) .pre .shades .few) }
 
 returns : tie.Need-returns Inv-loop μ-loop
-returns c = sought-done (c .before .before .before .before .before .pre) (c .before .loop .inv) (c .loop-test .left)
+returns c = sought-done (st (c .before) .pre) (c .before .loop .inv) (c .loop-test .left)
 
 pub walk-gaps-spec : {M : Type 1} → statement M
 walk-gaps-spec =
