@@ -14,7 +14,7 @@ pub mean-of-some : (e n : ℕ) → 0 < n → meanFigure e n ≡ Value (figure e 
 mean-of-some e n some = rw (ne-eqb n 0 (λ z. omega arith))
 
 -- and so is a channel's
-pub channel-of-some : (e n : ℕ) → 0 < n → channelMean e n ≡ figure e n
+channel-of-some : (e n : ℕ) → 0 < n → channelMean e n ≡ figure e n
 channel-of-some e n some = rw (ne-eqb n 0 (λ z. omega arith))
 
 -- all three of them

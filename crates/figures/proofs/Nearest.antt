@@ -213,7 +213,7 @@ in-fractions a c e n g x u is near =
     (le-of-eq (gap-times c (x * n) (e * u) ∙ ap₂ gap first second ∙ sym (gap-times u (a * n) (e * c))))
 
 -- the binary64 number that e / n is rounded to is the nearest
-pub round-nearest : (e n : ℕ) → e ≤ mostExact → 0 < n → NearestTo (round binary64 false e n) e n
+round-nearest : (e n : ℕ) → e ≤ mostExact → 0 < n → NearestTo (round binary64 false e n) e n
 round-nearest e n few some = record {
   holds = round-fits binary64 false e n;
   top = grid binary64 e n;

@@ -9,8 +9,8 @@
 
 mod divide;
 
-pub use divide::mean_figure;
 pub use divide::channel_means;
+pub use divide::mean_figure;
 
 // The mean square error: "no pixels", or a binary64 figure.
 pub enum Mean {

@@ -25,7 +25,7 @@ module _ (s t : List ℕ) (k : ℕ) (agree : (i : ℕ) → i < 3 * k → getD s 
       rw (agree (3 * q) (omega arith), agree (3 * q + 1) (omega arith), agree (3 * q + 2) (omega arith))
 
   -- so they have the same nearest
-  pub nearest-same : (c : Point) → nearestShade s k c ≡ nearestShade t k c
+  nearest-same : (c : Point) → nearestShade s k c ≡ nearestShade t k c
   nearest-same c = first-same ltb k (toShade s c) (toShade t c) (λ q l. ap (distance c) (shade-same q l))
 
   -- which stands where it stands in the other

@@ -77,7 +77,18 @@ pub fn map_block(
 {
     let slots = gather(strip, keys, which);
     if slots <= 256 {
-        map_few(which, slots, shades, count, keys, reds, greens, blues, best, index)
+        map_few(
+            which,
+            slots,
+            shades,
+            count,
+            keys,
+            reds,
+            greens,
+            blues,
+            best,
+            index,
+        )
     } else {
         map_many(
             strip,

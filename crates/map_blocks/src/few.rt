@@ -8,10 +8,10 @@ ghost use Rattle.map_errors.specs.{missesOf};
 ghost use Rattle.map_slots.specs.{mostSlots, levelsOf};
 ghost use Rattle.map_blocks.specs.Asking.{Room, FewTaken, nearestAt};
 use map_errors::Errors;
-use map_tell::tell::add_told;
-use map_tell::tell::tell;
 use map_slots::join;
 use map_slots::search_slots;
+use map_tell::tell::add_told;
+use map_tell::tell::tell;
 
 // Maps pixels to the first `count` of `shades`: the colour of each is that with the key at its
 // slot, which `which` tells, one of the first `slots`. The five lists before `index` are where it

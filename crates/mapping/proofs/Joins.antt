@@ -47,14 +47,14 @@ module _ (s t p d : List ℕ) (a : ℕ) (whole : badStrip s ≡ false)
       whole-exactly t .1 (omega (arith, length-append s t))
 
   -- the first is accepted
-  pub first-accepted : mapStrip s p d a .answer .refusal ≡ done
+  first-accepted : mapStrip s p d a .answer .refusal ≡ done
   first-accepted =
       let few : pixelCount s ≤ mostPixels = omega (arith, none .2, pixels-joined) in
       let room : a + pixelCount s ≤ length d = omega (arith, stretch-within (s ++ t) p d a ok, pixels-joined) in
       map-refuses s p d a .accepted-exactly .1 (whole, (none .1, (le-ltb _ _ few, (le-ltb _ _ room, tt))))
 
   -- and so is the second, behind it
-  pub second-accepted : mapStrip t p (mapStrip s p d a .index) (a + pixelCount s) .answer .refusal ≡ done
+  second-accepted : mapStrip t p (mapStrip s p d a .index) (a + pixelCount s) .answer .refusal ≡ done
   second-accepted =
       let e = mapStrip s p d a .index in
       let few : pixelCount t ≤ mostPixels = omega (arith, none .2, pixels-joined) in
@@ -69,7 +69,7 @@ module _ (s t p d : List ℕ) (a : ℕ) (whole : badStrip s ≡ false)
       (second-whole, (none .1, (le-ltb _ _ few, (le-ltb _ _ room, tt))))
 
   -- the index picture after both is that of the whole
-  pub index-joined : mapStrip t p (mapStrip s p d a .index) (a + pixelCount s) .index ≡ mapStrip (s ++ t) p d a .index
+  index-joined : mapStrip t p (mapStrip s p d a .index) (a + pixelCount s) .index ≡ mapStrip (s ++ t) p d a .index
   index-joined =
       let n = pixelCount s in
       let m = pixelCount t in
@@ -106,14 +106,14 @@ module _ (s t p d : List ℕ) (a : ℕ) (whole : badStrip s ≡ false)
   errors-are u e b k = ap (λ (o : MapOutcome). o .answer .errors) (map-refuses u p e b .accepted-is k)
 
   -- the errors of both add up to that of the whole
-  pub error-of-both : first-call .answer .error + second-call .answer .error ≡ whole-call .answer .error
+  error-of-both : first-call .answer .error + second-call .answer .error ≡ whole-call .answer .error
   error-of-both =
       ap₂ _+_ (error-is s d a first-accepted) (error-is t _ (a + pixelCount s) second-accepted)
       ∙ sym (error-joined p s t (pixelCount s) (whole-length s whole) (pixelCount t))
       ∙ ap (errorOf p (s ++ t)) (sym pixels-joined) ∙ sym (error-is (s ++ t) d a ok)
 
   -- and so on each channel
-  pub errors-of-both : plusErrors (first-call .answer .errors) (second-call .answer .errors)
+  errors-of-both : plusErrors (first-call .answer .errors) (second-call .answer .errors)
       ≡ whole-call .answer .errors
   errors-of-both =
       ap₂ plusErrors (errors-are s d a first-accepted) (errors-are t _ (a + pixelCount s) second-accepted)

@@ -40,7 +40,7 @@ module _ (s : List ℕ) (k : ℕ) (c : Point) (some : 0 < k) (few : k ≤ mostSh
   packed-number = omega (arith, nearest-below s k c some)
 
   -- and the distance
-  pub packed-distance : packedNearest s k c / mostShades ≡ toShade s c (nearestShade s k c)
+  packed-distance : packedNearest s k c / mostShades ≡ toShade s c (nearestShade s k c)
   packed-distance = omega (arith, nearest-below s k c some)
 
   -- both are read from a number that is the same

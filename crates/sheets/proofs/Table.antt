@@ -21,7 +21,7 @@ use Rattle.sheets.specs.Examples.{Example, sameNumbers, sameRows, allHol
 use Rattle.sheets.specs.Table.{sheets}
 
 -- Rows that pass the test are one row.
-pub numbers-same : (xs ys : List ℕ) → sameNumbers xs ys ≡ true → xs ≡ ys
+numbers-same : (xs ys : List ℕ) → sameNumbers xs ys ≡ true → xs ≡ ys
 numbers-same [] [] h = refl
 numbers-same [] (y ∷ ys) h = never (sym h)
 numbers-same (x ∷ xs) [] h = never (sym h)
@@ -30,7 +30,7 @@ numbers-same (x ∷ xs) (y ∷ ys) h =
     ap₂ (λ (n : ℕ) (ns : List ℕ). n ∷ ns) (eqb-true x y first) (numbers-same xs ys rest)
 
 -- Lists of rows that pass the test are one list.
-pub rows-same : (xs ys : List (List ℕ)) → sameRows xs ys ≡ true → xs ≡ ys
+rows-same : (xs ys : List (List ℕ)) → sameRows xs ys ≡ true → xs ≡ ys
 rows-same [] [] h = refl
 rows-same [] (y ∷ ys) h = never (sym h)
 rows-same (x ∷ xs) [] h = never (sym h)

@@ -17,15 +17,15 @@ use Rattle.shades.proofs.Nearest.{packed-only}
 use Rattle.search_all.specs.Asking.{lookedAt, PointsOnGrid}
 
 -- the greatest number that a place holds: no packed number is as great
-abbrev pub mostPlace : ℕ
+abbrev mostPlace : ℕ
 mostPlace = 4294967295
 
 -- the least packed number of the first q shades; of no shades it is the greatest that a place holds
-abbrev pub leastPacked : List ℕ → ℕ → Point → ℕ
+abbrev leastPacked : List ℕ → ℕ → Point → ℕ
 leastPacked s q c = lowest mostPlace q (pack s c)
 
 -- of some shades on the grid it is that of the nearest
-pub least-packed-nearest : (s : List ℕ) (k : ℕ) (c : Point) → Shades k s → 0 < k → Within mostCoordinate c
+least-packed-nearest : (s : List ℕ) (k : ℕ) (c : Point) → Shades k s → 0 < k → Within mostCoordinate c
     → leastPacked s k c ≡ packedNearest s k c
 least-packed-nearest s k c shades some inside =
     lowest-is-least mostPlace k (pack s c) some
@@ -45,7 +45,7 @@ look-more c p q i d {e} h l x v far lesser =
     rw (lesser, far, kept, h) (fill-more i f d l)
 
 -- the least packed number of the first q shades from point c i
-abbrev pub leastAt : List ℕ → (ℕ → Point) → ℕ → ℕ → ℕ
+abbrev leastAt : List ℕ → (ℕ → Point) → ℕ → ℕ → ℕ
 leastAt s c q i = leastPacked s q (c i)
 
 -- from every place of `start` the first q of k shades are looked at

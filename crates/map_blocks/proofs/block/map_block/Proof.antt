@@ -12,23 +12,61 @@ use Rattle.map_blocks.proofs.block.Searches.{gathered-taken, gathered-i
 use Rattle.map_blocks.proofs.block.map_block.Statement.{statement}
 use Rattle.map_blocks.proofs.block.map_block.Tie as tie
 
+-- where the lists to work in are known
+abbrev lists : tie.After-gather → tie.After-slice-known5
+lists c = c .before .before .before .before .before
+
+-- where the slices to read are known
+abbrev known : tie.After-gather → tie.After-shared-slice-known2
+known c = lists c .before .before .before .before .before
+
 -- where the function begins
 abbrev st : tie.After-gather → tie.Start
-st c = c .before .before .before .before .before .before .before .before .before .before .before .before
+st c = known c .before .before
 
 -- where the pixels are gathered, before their slots are counted
 abbrev here : tie.After-slice-known9 → tie.After-gather
 here c = c .before .before .before .before
 
+-- where the lists are lent to map few slots
+abbrev few-lent : tie.After-map-few-arg7 → tie.After-map-few-arg2
+few-lent c = c .before .before .before .before .before
+
+-- where the slots are few
+abbrev few-slots : tie.After-map-few-arg7 → tie.Then1
+few-slots c = few-lent c .before .before
+
+-- where the lists come back
+abbrev few-back : tie.After-slice-known15 → tie.After-blues
+few-back c = c .before .before .before .before .before
+
+-- the first of them
+abbrev few-first : tie.After-blues → tie.After-slice-known10
+few-first c = c .before .before .before .before .before
+
 -- where few slots are mapped
 abbrev few : tie.After-slice-known15 → tie.After-map-few
-few c = c .before .before .before .before .before .before .before .before .before .before .before .before
+few c = few-first (few-back c) .before .before
+
+-- where the lists are lent to map many slots
+abbrev many-lent : tie.After-map-many-arg7 → tie.After-map-many-arg2
+many-lent c = c .before .before .before .before .before
+
+-- where the slots are many
+abbrev many-slots : tie.After-map-many-arg7 → tie.Else1
+many-slots c = many-lent c .before .before
+
+-- where the lists come back
+abbrev many-back : tie.After-slice-known20 → tie.After-blues2
+many-back c = c .before .before .before .before .before
+
+-- where many slots are mapped
+abbrev many : tie.After-slice-known20 → tie.After-map-many
+many c = many-back c .before .before .before .before .before
 
 -- the strip is of bytes
 bytes : (c : tie.After-gather) → Bytes (now (st c .args .strip))
-bytes c i =
-    let known = c .before .before .before .before .before .before .before .before .before .before .before in
-    omega (arith, known .shared-slice-known .given i)
+bytes c i = omega (arith, known c .before .shared-slice-known .given i)
 
 -- the pixels are gathered, one for each place of the index
 gathered : (c : tie.After-gather)
@@ -57,14 +95,14 @@ gather-requires c κs = search needs
 
 map-few-requires : tie.Need-map-few-requires
 map-few-requires c κs =
-    let taken = c .before .before .before .before .before .before .before in
+    let taken = few-slots c in
     let g = here (taken .before) in
     let p = st g .pre in
     (p .1, p .2, p .3, gathered-taken (gathered g) (omega (arith, taken .if1 .taken)), room g)
 
 map-many-requires : tie.Need-map-many-requires
 map-many-requires c κs =
-    let g = here (c .before .before .before .before .before .before .before .before) in
+    let g = here (many-slots c .before) in
     let p = st g .pre in
     (p .0, p .1, p .2, p .3, room g, gathered g)
 
@@ -92,7 +130,7 @@ same-length-7 c = search needs
 returns : tie.Need-returns
 returns c =
     let m = few c in
-    let g = here (m .before .before .before .before .before .before .before .before .before) in
+    let g = here (few-slots (m .before) .before) in
     let a = st g .args in
     let e = m .map-few .ensures in (
       gathered-index (now (a .strip)) (bytes g) (gathered g) (now (a .shades)) (a .count) (now (a .index)) (e .0),
@@ -121,7 +159,7 @@ same-length-14 : tie.Need-same-length-14
 same-length-14 c = search needs
 
 returns-2 : tie.Need-returns-2
-returns-2 c = c .before .before .before .before .before .before .before .before .before .before .map-many .ensures
+returns-2 c = many c .map-many .ensures
 
 pub map-block-spec : {M : Type 1} → statement M
 map-block-spec =

@@ -17,19 +17,29 @@ use Rattle.map_blocks.proofs.block.Searches.{
 use Rattle.map_blocks.proofs.block.map_many.Statement.{statement}
 use Rattle.map_blocks.proofs.block.map_many.Tie as tie
 
+-- where the lists to work in are known
+abbrev lists : tie.After-search-slots-arg4 → tie.After-slice-known4
+lists c = c .before .before .before .before .before
+
+-- where the slices to read are known
+abbrev known : tie.After-search-slots-arg4 → tie.After-shared-slice-known3
+known c = lists c .before .before .before .before .before
+
 -- where the function begins
 abbrev st : tie.After-search-slots-arg4 → tie.Start
-st c = c .before .before .before .before .before .before .before .before .before .before .before .before .before
+st c = known c .before .before .before
+
+-- where the lists to work in come back
+abbrev back : tie.After-settle-arg2 → tie.After-blues
+back c = c .before .before .before .before .before
 
 -- where the slots are searched
 abbrev found : tie.After-settle-arg2 → tie.After-search-slots
-found c = c .before .before .before .before .before .before .before .before .before .before
+found c = back c .before .before .before .before .before
 
 -- the strip is of bytes
 bytes : (c : tie.After-search-slots-arg4) → Bytes (now (st c .args .strip))
-bytes c i =
-    let known = c .before .before .before .before .before .before .before .before .before .before .before .before in
-    omega (arith, known .shared-slice-known .given i)
+bytes c i = omega (arith, known c .before .before .shared-slice-known .given i)
 
 -- the slots are searched
 all : (c : tie.After-search-slots)

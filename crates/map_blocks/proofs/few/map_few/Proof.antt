@@ -18,17 +18,45 @@ use Rattle.map_blocks.proofs.few.Fews.{
 use Rattle.map_blocks.proofs.few.map_few.Statement.{statement}
 use Rattle.map_blocks.proofs.few.map_few.Tie as tie
 
+-- where the lists to work in are known
+abbrev lists : tie.After-join → tie.After-slice-known4
+lists c = c .before .before .before .before .before
+
+-- where the slots of the pixels are known
+abbrev known : tie.After-join → tie.After-shared-slice-known
+known c = lists c .before .before .before .before .before
+
 -- where the function begins
 abbrev st : tie.After-join → tie.Start
-st c = c .before .before .before .before .before .before .before .before .before .before .before
+st c = known c .before
+
+-- where the lists are lent to search
+abbrev lent : tie.After-search-slots-arg5 → tie.After-link2
+lent c = c .before .before .before .before .before
 
 -- where the slots are joined
-abbrev here : tie.After-search-slots → tie.After-join
-here c = c .before .before .before .before .before .before .before .before .before
+abbrev linked : tie.After-search-slots-arg5 → tie.After-join
+linked c = lent c .before .before .before
 
--- where these are searched
+-- and from their search
+abbrev here : tie.After-search-slots → tie.After-join
+here c = linked (c .before)
+
+-- where the lists have come back
+abbrev back : tie.After-told → tie.After-best
+back c = c .before .before .before .before .before
+
+-- the first of them
+abbrev first : tie.After-best → tie.After-slice-known8
+first c = c .before .before .before .before .before
+
+-- where the joined slots are searched
 abbrev found : tie.After-told → tie.After-search-slots
-found c = c .before .before .before .before .before .before .before .before .before .before .before .before
+found c = first (back c) .before .before
+
+-- where they are told of, from the function's end
+abbrev end : tie.After-slice-known12 → tie.After-told2
+end c = c .before .before .before .before .before
 
 -- the slots are joined
 joined : (c : tie.After-join)
@@ -70,7 +98,7 @@ join-requires c κs = search needs
 
 search-slots-requires : tie.Need-search-slots-requires
 search-slots-requires c κs =
-    let g = c .before .before .before .before .before .before .before .before in
+    let g = linked c in
     let p = st g .pre in (
       p .0,
       p .1,
@@ -106,7 +134,7 @@ add-told-requires c κs =
 
 same-length : tie.Need-same-length
 same-length c =
-    let t = c .before .before .before .before .before .before in
+    let t = end c .before in
     here (found (t .before)) .join .kept .0
 
 same-length-2 : tie.Need-same-length-2
@@ -126,7 +154,7 @@ same-length-6 c = search needs
 
 returns : tie.Need-returns
 returns c =
-    let t = c .before .before .before .before .before .before in
+    let t = end c .before in
     let start = st (here (found (t .before))) in
     let e = c .before .before .add-told .ensures in (
       told-index (told t) _ _ (start .pre .3) (now (start .args .index)) (e .0),

@@ -34,9 +34,29 @@ abbrev μ-loop : tie.MeasureT-loop
 abbrev st : tie.At-loop Inv-loop μ-loop → tie.Start Inv-loop μ-loop
 st c = c .before .before .before .before
 
--- where the block's end is told, from its mapping
+-- the turn, from where the first list is lent
+abbrev turn : tie.After-keys Inv-loop μ-loop → tie.At-loop Inv-loop μ-loop
+turn c = c .before .before .before .before
+
+-- that, from where the last list is lent
+abbrev lent : tie.After-best Inv-loop μ-loop → tie.After-keys Inv-loop μ-loop
+lent c = c .before .before .before .before .before
+
+-- where the block's end is told, from the same
+abbrev ended : tie.After-best Inv-loop μ-loop → tie.After-block-end Inv-loop μ-loop
+ended c = lent c .before .before
+
+-- and from its mapping
 abbrev told : tie.After-map-block Inv-loop μ-loop → tie.After-block-end Inv-loop μ-loop
-told c = c .before .before .before .before .before .before .before .before .before
+told c = ended (c .before .before)
+
+-- where the lists have come back
+abbrev back : tie.After-slice-known2 Inv-loop μ-loop → tie.After-reds2 Inv-loop μ-loop
+back c = c .before .before .before .before .before
+
+-- where the block is mapped
+abbrev mapped : tie.After-slice-known2 Inv-loop μ-loop → tie.After-map-block Inv-loop μ-loop
+mapped c = back c .before .before .before
 
 -- the strip is of bytes
 bytes : (c : tie.At-loop Inv-loop μ-loop) → Bytes (now (st c .args .strip))
@@ -75,41 +95,38 @@ part-map-block-end : tie.Need-part-map-block-end Inv-loop μ-loop
 part-map-block-end c = omega (arith, c .block-end .ensures, st (c .before .before) .pre .0)
 
 slice-aggregate-map-block : tie.Need-slice-aggregate-map-block Inv-loop μ-loop
-slice-aggregate-map-block c = omega (arith, c .before .before .before .before .loop .inv .1 .keys-long)
+slice-aggregate-map-block c = omega (arith, turn c .loop .inv .1 .keys-long)
 
 slice-aggregate-map-block-2 : tie.Need-slice-aggregate-map-block-2 Inv-loop μ-loop
-slice-aggregate-map-block-2 c = omega (arith, c .before .before .before .before .before .loop .inv .1 .which-long)
+slice-aggregate-map-block-2 c = omega (arith, turn (c .before) .loop .inv .1 .which-long)
 
 slice-aggregate-map-block-3 : tie.Need-slice-aggregate-map-block-3 Inv-loop μ-loop
-slice-aggregate-map-block-3 c =
-    omega (arith, c .before .before .before .before .before .before .loop .inv .1 .red-long)
+slice-aggregate-map-block-3 c = omega (arith, turn (c .before .before) .loop .inv .1 .red-long)
 
 slice-aggregate-map-block-4 : tie.Need-slice-aggregate-map-block-4 Inv-loop μ-loop
-slice-aggregate-map-block-4 c =
-    omega (arith, c .before .before .before .before .before .before .before .loop .inv .1 .green-long)
+slice-aggregate-map-block-4 c = omega (arith, turn (c .before .before .before) .loop .inv .1 .green-long)
 
 slice-aggregate-map-block-5 : tie.Need-slice-aggregate-map-block-5 Inv-loop μ-loop
 slice-aggregate-map-block-5 c =
-    omega (arith, c .before .before .before .before .before .before .before .before .loop .inv .1 .blue-long)
+    omega (arith, turn (c .before .before .before .before) .loop .inv .1 .blue-long)
 
 slice-aggregate-map-block-6 : tie.Need-slice-aggregate-map-block-6 Inv-loop μ-loop
-slice-aggregate-map-block-6 c =
-    omega (arith, c .before .before .before .before .before .before .before .before .before .loop .inv .1 .best-long)
+slice-aggregate-map-block-6 c = omega (arith, turn (lent c) .loop .inv .1 .best-long)
 
 sub-map-block-2 : tie.Need-sub-map-block-2 Inv-loop μ-loop
-sub-map-block-2 c = omega (arith, c .before .before .before .before .before .before .before .block-end .ensures)
+sub-map-block-2 c = omega (arith, ended c .block-end .ensures)
 
 part-map-block-start-2 : tie.Need-part-map-block-start-2 Inv-loop μ-loop
-part-map-block-start-2 c = omega (arith, c .before .before .before .before .before .before .before .block-end .ensures)
+part-map-block-start-2 c = omega (arith, ended c .block-end .ensures)
 
 part-map-block-end-2 : tie.Need-part-map-block-end-2 Inv-loop μ-loop
 part-map-block-end-2 c =
-    let b = c .before .before .before .before .before .before .before in
+    let b = ended c in
     omega (arith, b .block-end .ensures, mapped-long (b .before .before .loop .inv .0))
 
 map-block-requires : tie.Need-map-block-requires Inv-loop μ-loop
 map-block-requires c κs =
-    let b = c .before .before .before .before .before .before .before .before in
+    let b = ended (c .before) in
     let l = b .before .before in
     let e = b .block-end .ensures in
     block-asked (l .loop .inv .0) (b .block-end .result) (omega arith) (e .within) (st l .pre) (l .loop .inv .1)
@@ -117,7 +134,7 @@ map-block-requires c κs =
 
 plus-requires : tie.Need-plus-requires Inv-loop μ-loop
 plus-requires c κs =
-    let at = c .before .before .before .before .before .before .before .before in
+    let at = mapped c in
     let b = told at .block-end in
     let l = told at .before .before in
     errors-small (l .loop .inv .0) (b .result) (omega (arith, b .ensures)) (b .ensures .within) (st l .pre) (bytes l)
@@ -125,12 +142,12 @@ plus-requires c κs =
 
 loop-less : tie.Need-loop-less Inv-loop μ-loop
 loop-less c =
-    let b = told (c .before .before .before .before .before .before .before .before .before) .block-end in
+    let b = told (mapped (c .before)) .block-end in
     omega (arith, b .ensures)
 
 loop-again : tie.Need-loop-again Inv-loop μ-loop
 loop-again c =
-    let at = c .before .before .before .before .before .before .before .before .before in
+    let at = mapped (c .before) in
     let m = at .map-block in
     let b = told at .block-end in
     let l = told at .before .before in

@@ -10,6 +10,10 @@ use Rattle.map_blocks.proofs.strip.map_pixels.Tie as tie
 abbrev st : tie.After-widen → tie.Start
 st c = c .before .before .before .before .before
 
+-- where the palette is widened
+abbrev widened : tie.After-map-blocks-arg → tie.After-widen
+widened c = c .before .before .before
+
 slice-aggregate-widen : tie.Need-slice-aggregate-widen
 slice-aggregate-widen c = search needs
 
@@ -21,7 +25,7 @@ slice-aggregate-map-blocks c = search needs
 
 map-blocks-requires : tie.Need-map-blocks-requires
 map-blocks-requires c κs =
-    let w = c .before .before .before in
+    let w = widened c in
     let p = st w .pre in
     let known = w .before .before .before in (
       p .pixels,
@@ -35,9 +39,10 @@ same-length c = search needs
 
 returns : tie.Need-returns
 returns c =
-    let w = c .before .before .before .before .before .before in
+    let at = c .before .before in
+    let w = widened (at .before) in
     let p = st w .pre in
-    let e = c .before .before .map-blocks .ensures in (
+    let e = at .map-blocks .ensures in (
       widened-index p (w .widen .ensures) (now (st w .args .index)) (e .0),
       widened-errors p (w .widen .ensures) (e .1),
     )

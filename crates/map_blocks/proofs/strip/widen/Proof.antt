@@ -17,8 +17,12 @@ abbrev μ-loop : tie.MeasureT-loop
 μ-loop palette wide₀ n i₀ wide i = length palette - i
 
 -- where the function begins
-abbrev st : tie.After-level Inv-loop μ-loop → tie.Start Inv-loop μ-loop
-st c = c .before .before .before .before .before .before
+abbrev st : tie.At-loop Inv-loop μ-loop → tie.Start Inv-loop μ-loop
+st c = c .before .before .before
+
+-- the turn, from its level
+abbrev turn : tie.After-level Inv-loop μ-loop → tie.At-loop Inv-loop μ-loop
+turn c = c .before .before .before
 
 loop-holds : tie.Need-loop-holds Inv-loop μ-loop
 unfolding fill
@@ -34,7 +38,7 @@ mul-wide : tie.Need-mul-wide Inv-loop μ-loop
 mul-wide c = omega arith
 
 slice-write-wide : tie.Need-slice-write-wide Inv-loop μ-loop
-slice-write-wide c = rw (c .before .before .before .loop .inv .1, fill-length) (omega (arith, st c .pre))
+slice-write-wide c = rw (turn c .loop .inv .1, fill-length) (omega (arith, st (turn c) .pre))
 
 add-i : tie.Need-add-i Inv-loop μ-loop
 add-i c = omega arith
@@ -44,9 +48,10 @@ loop-less c = omega arith
 
 loop-again : tie.Need-loop-again Inv-loop μ-loop
 loop-again c =
-    let l = c .before .before .before .loop in (
+    let l = turn c .loop in
+    let start = st (turn c) in (
       omega arith,
-      rw (c .level .ensures .0, l .inv .1) (fill-more (l .i) _ (now (st c .args .wide)) (omega (arith, st c .pre))),
+      rw (c .level .ensures .0, l .inv .1) (fill-more (l .i) _ (now (start .args .wide)) (omega (arith, start .pre))),
     )
 
 same-length : tie.Need-same-length Inv-loop μ-loop
@@ -54,7 +59,7 @@ same-length c = ap length (c .before .loop .inv .1) ∙ fill-length _ _ _
 
 returns : tie.Need-returns Inv-loop μ-loop
 returns c =
-    let e : c .before .loop .i ≡ length (now (c .before .before .before .before .args .palette)) = omega arith in
+    let e : c .before .loop .i ≡ length (now (st (c .before) .args .palette)) = omega arith in
     rw e at (c .before .loop .inv .1)
 
 pub widen-spec : {M : Type 1} → statement M

@@ -29,9 +29,13 @@ Inv-loop strip which s best index₀ n red₀ green₀ blue₀ i₀ index red gr
 abbrev μ-loop : tie.MeasureT-loop
 μ-loop strip which s best index₀ n red₀ green₀ blue₀ i₀ index red green blue i = length index₀ - i
 
--- where the function begins
+-- where the function begins, from the loop's beginning
+abbrev begin : tie.After-slice-known Inv-loop μ-loop → tie.Start Inv-loop μ-loop
+begin c = c .before .before .before .before .before
+
+-- and from a turn
 abbrev st : tie.At-loop Inv-loop μ-loop → tie.Start Inv-loop μ-loop
-st c = c .before .before .before .before .before .before
+st c = begin (c .before)
 
 -- where the turn begins, from its first miss
 abbrev turn : tie.After-miss Inv-loop μ-loop → tie.In-loop Inv-loop μ-loop
@@ -62,7 +66,7 @@ small c =
 
 loop-holds : tie.Need-loop-holds Inv-loop μ-loop
 loop-holds c =
-    let a = c .before .before .before .before .before .args in
+    let a = begin c .args in
     let f = foundNumber (now (a .which)) (now (a .best)) in
     let p = pixelAt (now (a .strip)) in
     let s = now (a .shades) in

@@ -21,6 +21,10 @@ abbrev μ-loop : tie.MeasureT-loop
 abbrev st : tie.At-loop Inv-loop μ-loop → tie.Start Inv-loop μ-loop
 st c = c .before .before .before .before .before
 
+-- the turn, from its red level
+abbrev turn : tie.After-red-of Inv-loop μ-loop → tie.At-loop Inv-loop μ-loop
+turn c = c .before .before .before
+
 -- the turn has room in the three lists
 room : (c : tie.At-loop Inv-loop μ-loop)
     → RoomFor (st c .args .slots) (c .loop .reds) (c .loop .greens) (c .loop .blues)
@@ -44,10 +48,10 @@ short-of-requires : tie.Need-short-of-requires Inv-loop μ-loop
 short-of-requires c κs = omega (arith, c .red-of .ensures .1)
 
 mul-reds : tie.Need-mul-reds Inv-loop μ-loop
-mul-reds c = omega (arith, room (c .before .before .before .before) .red)
+mul-reds c = omega (arith, room (turn (c .before)) .red)
 
 slice-write-reds : tie.Need-slice-write-reds Inv-loop μ-loop
-slice-write-reds c = omega (arith, room (c .before .before .before .before) .red)
+slice-write-reds c = omega (arith, room (turn (c .before)) .red)
 
 green-of-requires : tie.Need-green-of-requires Inv-loop μ-loop
 green-of-requires c κs = search needs
@@ -56,10 +60,10 @@ short-of-requires-2 : tie.Need-short-of-requires-2 Inv-loop μ-loop
 short-of-requires-2 c κs = omega (arith, c .green-of .ensures .1)
 
 mul-greens : tie.Need-mul-greens Inv-loop μ-loop
-mul-greens c = omega (arith, room (c .before .before .before .before .before .before) .green)
+mul-greens c = omega (arith, room (turn (c .before .before .before)) .green)
 
 slice-write-greens : tie.Need-slice-write-greens Inv-loop μ-loop
-slice-write-greens c = omega (arith, room (c .before .before .before .before .before .before) .green)
+slice-write-greens c = omega (arith, room (turn (c .before .before .before)) .green)
 
 blue-of-requires : tie.Need-blue-of-requires Inv-loop μ-loop
 blue-of-requires c κs = search needs
@@ -68,10 +72,10 @@ short-of-requires-3 : tie.Need-short-of-requires-3 Inv-loop μ-loop
 short-of-requires-3 c κs = omega (arith, c .blue-of .ensures .1)
 
 mul-blues : tie.Need-mul-blues Inv-loop μ-loop
-mul-blues c = omega (arith, room (c .before .before .before .before .before .before .before .before) .blue)
+mul-blues c = omega (arith, room (turn (c .before .before .before .before .before)) .blue)
 
 slice-write-blues : tie.Need-slice-write-blues Inv-loop μ-loop
-slice-write-blues c = omega (arith, room (c .before .before .before .before .before .before .before .before) .blue)
+slice-write-blues c = omega (arith, room (turn (c .before .before .before .before .before)) .blue)
 
 add-i : tie.Need-add-i Inv-loop μ-loop
 add-i c = omega arith
@@ -83,8 +87,8 @@ loop-again : tie.Need-loop-again Inv-loop μ-loop
 loop-again c =
     let second = c .before .before in
     let first = second .before .before in
-    let turn = first .before .before .before .before in
-    fronts-step (turn .loop .inv) (omega arith) (st turn .pre .1)
+    let l = turn (first .before) in
+    fronts-step (l .loop .inv) (omega arith) (st l .pre .1)
     record { r = first .short-of .result; g = second .short-of2 .result; b = c .short-of3 .result }
     (rw (
       first .short-of .ensures .0 ∙ first .before .red-of .ensures .0,

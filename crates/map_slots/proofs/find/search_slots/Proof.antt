@@ -9,13 +9,21 @@ use Rattle.map_slots.proofs.Finds.{keys-ready, keys-searched}
 use Rattle.map_slots.proofs.find.search_slots.Statement.{statement}
 use Rattle.map_slots.proofs.find.search_slots.Tie as tie
 
+-- where the three lists are known
+abbrev known : tie.After-lay-out → tie.After-slice-known3
+known c = c .before .before .before .before .before
+
 -- where the function begins
 abbrev st : tie.After-lay-out → tie.Start
-st c = c .before .before .before .before .before .before .before .before .before .before
+st c = known c .before .before .before .before .before
+
+-- where the three lists have come back
+abbrev back : tie.After-search-points-arg3 → tie.After-blues
+back c = c .before .before .before .before
 
 -- where the colours are laid out
 abbrev laid : tie.After-search-points-arg3 → tie.After-lay-out
-laid c = c .before .before .before .before .before .before .before .before .before
+laid c = back c .before .before .before .before .before
 
 -- they are laid out
 done : (c : tie.After-lay-out)

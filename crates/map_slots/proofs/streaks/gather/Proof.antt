@@ -21,9 +21,13 @@ abbrev μ-loop : tie.MeasureT-loop
 abbrev st : tie.At-loop Inv-loop μ-loop → tie.Start Inv-loop μ-loop
 st c = c .before .before .before .before
 
--- the loop, from the test whether the key differs
+-- the loop, from the key of the turn's pixel
+abbrev keyed : tie.After-key-of Inv-loop μ-loop → tie.At-loop Inv-loop μ-loop
+keyed c = c .before .before .before .before .before
+
+-- and from the test whether the key differs
 abbrev turn : tie.After-bit Inv-loop μ-loop → tie.At-loop Inv-loop μ-loop
-turn c = c .before .before .before .before .before .before
+turn c = keyed (c .before)
 
 -- the slot of the turn's pixel
 abbrev slot : tie.After-bit Inv-loop μ-loop → ℕ

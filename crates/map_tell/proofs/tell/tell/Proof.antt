@@ -17,9 +17,13 @@ Inv-loop keys link best n s told₀ i₀ told i = Telling (levelsOf keys link) s
 abbrev μ-loop : tie.MeasureT-loop
 μ-loop keys link best n s told₀ i₀ told i = n - i
 
--- where the function begins
+-- where the function begins, from the loop's beginning
+abbrev begin : tie.After-slice-known Inv-loop μ-loop → tie.Start Inv-loop μ-loop
+begin c = c .before .before .before .before .before
+
+-- and from a turn
 abbrev st : tie.At-loop Inv-loop μ-loop → tie.Start Inv-loop μ-loop
-st c = c .before .before .before .before .before .before
+st c = begin (c .before)
 
 -- where the turn begins, from its red level
 abbrev turn : tie.After-red-of Inv-loop μ-loop → tie.In-loop Inv-loop μ-loop
@@ -45,9 +49,10 @@ inside c = st (c .before) .pre .inside (c .before .loop .i) (omega arith)
 
 loop-holds : tie.Need-loop-holds Inv-loop μ-loop
 loop-holds c =
-    let a = c .before .before .before .before .before .args in
-    telling-start (levelsOf (now (a .keys)) (now (a .link))) (now (a .shades)) (foundNumber (now (a .link)) (now (a .best)))
-    (a .slots) (now (a .told))
+    let a = begin c .args in
+    let link = now (a .link) in
+    telling-start (levelsOf (now (a .keys)) link) (now (a .shades)) (foundNumber link (now (a .best))) (a .slots)
+    (now (a .told))
 
 shared-slice-read-slot : tie.Need-shared-slice-read-slot Inv-loop μ-loop
 shared-slice-read-slot c = omega (arith, st (c .before .before) .pre .links)

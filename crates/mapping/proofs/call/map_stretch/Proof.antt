@@ -10,6 +10,10 @@ use Rattle.mapping.proofs.Ways.{stretch-mapped}
 use Rattle.mapping.proofs.call.map_stretch.Statement.{statement}
 use Rattle.mapping.proofs.call.map_stretch.Tie as tie
 
+-- where the function begins
+abbrev st : tie.After-map-pixels → tie.Start
+st c = c .before .before .before .before .before
+
 add-end : tie.Need-add-end
 add-end c = search needs
 
@@ -30,14 +34,15 @@ same-length c = search needs
 
 returns : tie.Need-returns
 returns c =
-    let m = c .before .before .map-pixels in
-    let st = c .before .before .before .before .before .before .before in
-    let a = st .args in (
+    let at = c .before .before in
+    let m = at .map-pixels in
+    let start = st at in
+    let a = start .args in (
       stretch-mapped (a .first) (a .pixels) (entryFor (now (a .palette)) (now (a .strip))) (now (a .index)) _
-          (st .pre .1) (m .ensures .0),
+          (start .pre .1) (m .ensures .0),
       m .ensures .1
           ∙ ap (errorsOf (now (a .palette)) (now (a .strip)))
-          (mid-len (a .first) (a .first + a .pixels) (now (a .index)) (st .pre .1) ∙ omega arith),
+          (mid-len (a .first) (a .first + a .pixels) (now (a .index)) (start .pre .1) ∙ omega arith),
     )
 
 pub map-stretch-spec : {M : Type 1} → statement M

@@ -60,8 +60,9 @@ returns : tie.Need-returns
 returns c =
     let before = laid (c .before .before .before) in
     let a = st before .args in
-    laid-out-filled (done before) (packedNearest (now (a .shades)) (a .count)) (length (now (a .best))) (st before .pre .0)
-    (now (a .best)) (c .before .before .search-points .ensures)
+    let best = now (a .best) in
+    laid-out-filled (done before) (packedNearest (now (a .shades)) (a .count)) (length best) (st before .pre .0) best
+    (c .before .before .search-points .ensures)
 
 pub search-block-spec : {M : Type 1} → statement M
 search-block-spec =

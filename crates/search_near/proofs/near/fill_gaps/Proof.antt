@@ -25,7 +25,9 @@ abbrev turn : tie.After-gap-row Inv-loop μ-loop → tie.In-loop Inv-loop μ-loo
 turn c = c .before .before .before
 
 loop-holds : tie.Need-loop-holds Inv-loop μ-loop
-loop-holds c = let a = c .before .before .args in filling-start (a .count) (GapRow (now (a .shades)) (a .count)) (now (a .gaps))
+loop-holds c =
+    let a = c .before .before .args in
+    filling-start (a .count) (GapRow (now (a .shades)) (a .count)) (now (a .gaps))
 
 mul-a : tie.Need-mul-a Inv-loop μ-loop
 mul-a c = omega (arith, st (c .before) .pre .0 .few)
