@@ -4,9 +4,9 @@
 --   zeroFigure             zero, without a sign
 --   channelMean            the figure, zero for no pixels
 --   Mean                   NoPixels, or Value x
---   meanFigure error pixels    "no pixels", or the figure
+--   meanFigure error pixels   "no pixels", or the figure
 --   Means                  red, green, blue
---   channelMeans                the three channel means
+--   channelMeans           the three channel means
 --   meanNumber, meanValues what a mean says in document 01's terms
 --   NearestTo y e n        y is the binary64 number nearest to e / n
 pub mod Figures

@@ -2,7 +2,7 @@
 // conversions without loss and one division.
 //
 // Calls; none refuses, and what one requires stands above it
-//   mean_figure    "no pixels", or error by pixels              divide.rt
+//   mean_figure     "no pixels", or error by pixels              divide.rt
 //   channel_means   the three channel means, zeros for no pixels
 //
 // Read next: specs/Lib.antt (what the words mean), proofs/Promises.antt (what is shown).

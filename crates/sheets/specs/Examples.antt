@@ -1,4 +1,4 @@
--- A table of examples, and the one test of all its entries.
+-- A table of examples, and the one test of them all.
 use Prim.Native.Nat.{ℕ}
 use mathlib.Core.Bool.{Bool, true, false, _&&_}
 use mathlib.Core.List.{List, [], _∷_}
@@ -29,6 +29,6 @@ abbrev pub allHold : List Example → Bool
 allHold [] = true
 allHold (e ∷ es) = sameRows (e .computed) (e .written) && allHold es
 
--- entry i of a table, counted from 0; past the end stands an example without rows
+-- example i of a table, counted from 0; past the end stands an example without rows
 abbrev pub exampleAt : List Example → ℕ → Example
 exampleAt table i = getD table i (record { computed = []; written = [] })

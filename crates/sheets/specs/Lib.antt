@@ -12,7 +12,7 @@
 --   Example           computed, written: what the definitions give, and what document 01 writes down
 --   sameNumbers, sameRows   two rows, and two lists of rows, are the same
 --   allHold table     every example comes out as written
---   exampleAt table i   entry i of a table, counted from 0
+--   exampleAt table i example i of a table, counted from 0
 --   sheetA to sheetI  the sheets, each as an example
 --   sheets            the table of all nine
 pub mod Drawing

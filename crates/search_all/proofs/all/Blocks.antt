@@ -16,14 +16,14 @@ part-colour : (a n i : ℕ) (ks : List ℕ) → i < n → colourAt (midOf a n ks
 part-colour a n i ks h = ap colourOf (part-at a n i ks h)
 
 -- the packed number of the nearest shade of colour i
-abbrev pub nearestAt : List ℕ → ℕ → List ℕ → ℕ → ℕ
-nearestAt s k ks i = packedNearest s k (colourAt ks i)
+abbrev packedAt : List ℕ → ℕ → List ℕ → ℕ → ℕ
+packedAt s k ks i = packedNearest s k (colourAt ks i)
 
 -- of the first `used` colours those before place i are searched, in members as many as before
 pub record Searched (s : List ℕ) (k : ℕ) (ks : List ℕ) (used : ℕ) (before members : List ℕ) (i : ℕ) : Type 0 where
   pub within : i ≤ used
   pub long : length members ≡ length before
-  pub is : members ≡ fill i (nearestAt s k ks) before
+  pub is : members ≡ fill i (packedAt s k ks) before
 
 -- before the first colour
 pub searched-start : (s : List ℕ) (k : ℕ) (ks : List ℕ) (used : ℕ) (d : List ℕ) → Searched s k ks used d d 0
@@ -33,10 +33,10 @@ searched-start s k ks used d = record { within = omega arith; long = refl; is = 
 -- the block from place a up to place e is searched too
 pub searched-step : {s ks before m x : List ℕ} {k used a : ℕ} → Searched s k ks used before m a → (e : ℕ) → a ≤ e
     → e ≤ used → used ≤ length before
-    → x ≡ fill (length (midOf a (e - a) m)) (nearestAt s k (midOf a (e - a) ks)) (midOf a (e - a) m)
+    → x ≡ fill (length (midOf a (e - a) m)) (packedAt s k (midOf a (e - a) ks)) (midOf a (e - a) m)
     → Searched s k ks used before (putMid a (e - a) m x) e
 searched-step {s} {ks} {before} {m} {x} {k} {used} {a} b e h g room ex =
-    let f = nearestAt s k ks in
+    let f = packedAt s k ks in
     let n : length (midOf a (e - a) m) ≡ e - a = mid-len a e m (omega (arith, b .long)) in
     let z : a + (e - a) ≡ e = omega arith in
     let all : putMid a (e - a) m x ≡ fill e f before =

@@ -40,8 +40,8 @@ module _ {s g : List ℕ} {k : ℕ} {c : Point} {p : ℕ} (y : RowsReady s g k c
   row = y .rows .row p (y .former)
 
   -- what the walk answers, with the least packed number and the places walked
-  abbrev Found : ℕ → ℕ → Type 0
-  Found best j =
+  abbrev Answered : ℕ → ℕ → Type 0
+  Answered best j =
       (best % mostShades ≡ nearestShade s k c)
       × ((best / mostShades ≡ toShade s c (nearestShade s k c)) × (j ≡ worked s k c p))
 
@@ -149,7 +149,7 @@ module _ {s g : List ℕ} {k : ℕ} {c : Point} {p : ℕ} (y : RowsReady s g k c
         ∙ howMany-others k p b (y .former) (le-leb _ (4 * toShade s c p) (omega (arith, distance-self (shadeAt s p))))
 
     -- where every gap left is too much, the walk has found the nearest shade
-    walked-done : Ended → Found best j
+    walked-done : Ended → Answered best j
     walked-done far =
         let some : 0 < k = omega (arith, y .former) in
         let e =
@@ -158,12 +158,12 @@ module _ {s g : List ℕ} {k : ℕ} {c : Point} {p : ℕ} (y : RowsReady s g k c
         (f .0, (f .1, places-worked far))
 
     -- the row is at its end
-    pub walked-all : k ≤ j → Found best j
+    pub walked-all : k ≤ j → Answered best j
     walked-all h = walked-done (λ i l m. absurd (omega arith))
 
     -- the gap at the next place is too much, and the row rises
     pub walked-stopped : j < k → 4 * toShade s c p < rowOf g p j / mostShades
-        → Found best j
+        → Answered best j
     walked-stopped h far = walked-done (λ i l m. omega (arith, row .rising j i l m))
 
   module _ (far : 4 * toShade s c p < rowOf g p 1 / mostShades) where
@@ -191,7 +191,7 @@ module _ {s g : List ℕ} {k : ℕ} {c : Point} {p : ℕ} (y : RowsReady s g k c
     pub walked-nowhere : (p ≡ nearestShade s k c)
         × ((toShade s c p ≡ toShade s c (nearestShade s k c)) × (1 ≡ worked s k c p))
     walked-nowhere =
-        let f : Found (mostShades * toShade s c p + rowOf g p 0 % mostShades) 1 = elim (decLt 1 k) [
+        let f : Answered (mostShades * toShade s c p + rowOf g p 0 % mostShades) 1 = elim (decLt 1 k) [
           | yes l ↦ walked-stopped first-met l far
           | no l ↦ walked-all first-met (omega arith)
         ] in
