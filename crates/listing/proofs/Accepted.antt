@@ -6,7 +6,7 @@ use mathlib.Core.Logic.{_⊎_, inl, inr}
 use mathlib.Core.Path.{_≡_, refl, sym, ap, _∙_}
 use native.Mathlib.Omega.{arith}
 use lib.Dec.{eqb}
-use lib.ListN.{length, replicate, length-replicate}
+use lib.ListN.{length, replicate}
 use borrow.Author.Tests.{lt-leb, le-ltb}
 use Rattle.number.specs.{sum}
 use Rattle.refusal.specs.{Refusal, done, firstOf, Given, BAD-COUNT, FEW-COLOURS}
@@ -20,11 +20,12 @@ use Rattle.table.specs.{Record, GoodTable, emptyRecord, roomOf, full}
 use Rattle.table.proofs.Promises.{accepted-exactly, bad-table-exactly, stays-good, after-taken}
 use Rattle.p6.specs.{rasterOf}
 use Rattle.listing.specs.Refusals.{mostListed, listedZeros, smallRows}
-use Rattle.listing.specs.Listings.{tableOf, runTests}
+use Rattle.listing.specs.Works.{tableOf, runTests}
 use Rattle.lloyd.specs.{shortMembers, shortTotals}
 use Rattle.lloyd.proofs.Promises.{short-members-exactly}
 use Rattle.number.proofs.Cases.{never}
 use Rattle.listing.proofs.Smalls.{small-raster, small-whole}
+use Rattle.listing.proofs.Works.{zeros-length}
 
 -- a test joined by "and" with one that fails fails
 and-false : (a : Bool) → (a && false) ≡ false
@@ -42,12 +43,7 @@ all-taken room (k ∷ ks) es a b =
     rw goes
     (ap suc (all-taken room ks (put k es) (omega (arith, give-length k 1 es)) (omega (arith, give-pixels k 1 es))))
 
--- 8,192 zeros are as many
-zeros-length : length listedZeros ≡ mostListed
-unfolding listedZeros
-zeros-length = length-replicate {A = ℕ} mostListed 0
-
--- so the room is 8,192
+-- there is room for 8,192 colours
 room-is : roomOf listedZeros listedZeros ≡ mostListed
 room-is = rw zeros-length
 

@@ -2,13 +2,11 @@
 pub mod Promises
 -- The tests of a picture that is to be listed.
 pub mod Smalls
--- The ways out of a listing.
-pub mod Ways
+-- The count line, and the picture behind it.
+pub mod Fronts
+-- What the calls leave of a picture and of an input.
+pub mod Works
+-- The text of what they leave, and its length.
+pub mod Texts
 -- What is never refused in a listing.
 pub mod Accepted
--- The table and the run of a listing, from what the calls answered.
-pub mod Runs
--- An input taken apart, and the text that was put.
-pub mod Inputs
--- A listing is never longer than its room.
-pub mod Lengths

@@ -10,13 +10,13 @@ use Rattle.refusal.specs.{Refusal, numberOf, done, firstOf, Given, NoneHolds, B
 use Rattle.colour.specs.{Bytes}
 use Rattle.p6.specs.{rasterOf}
 use Rattle.texts.specs.{linesOf}
+use Rattle.listing_lines.specs.{mostText, refusedText}
 use Rattle.listing.specs.Refusals.{countIn, pictureIn, smallRows, inputRows}
-use Rattle.listing.specs.Texts.{mostText, refusedText}
-use Rattle.listing.specs.Listings.{tableOf, listingLines, pictureText, listingText, listingOf, runTests}
+use Rattle.listing.specs.Works.{tableOf, runTests}
+use Rattle.listing.specs.Listings.{listingLines, pictureText, listingText, listingOf}
 use Rattle.listing.specs.declared.Listing.{Listing}
-use Rattle.listing.proofs.Ways as ways
+use Rattle.listing.proofs.Texts as texts
 use Rattle.listing.proofs.Accepted as accepted
-use Rattle.listing.proofs.Lengths as lengths
 
 -- ---- the contract leaves one answer
 
@@ -26,27 +26,27 @@ listing-only s a b = a ∙ sym b
 
 -- The text is never longer than the answer has room.
 pub text-most : (s : List ℕ) → length (listingText s) ≤ mostText
-text-most = lengths.text-most
+text-most = texts.text-most
 
 -- ---- which text it is
 
 -- An input whose count line, length or picture is refused gives that line, by the first test that holds.
 pub input-refused : (s : List ℕ) (n : Refusal) → Given (inputRows s) n → listingText s ≡ refusedText (numberOf n)
-input-refused = ways.input-refused
+input-refused = texts.input-refused
 
 -- Else it gives the text of the picture behind the count line, with the count that this line names.
 pub input-accepted : (s : List ℕ) → NoneHolds (inputRows s) → listingText s ≡ pictureText (pictureIn s) (countIn s)
-input-accepted = ways.input-accepted
+input-accepted = texts.input-accepted
 
 -- A picture whose run is refused gives that line.
 pub run-refused : (p : List ℕ) (count : ℕ) (n : Refusal) → Given (runTests p count) n
     → pictureText p count ≡ refusedText (numberOf n)
-run-refused = ways.run-refused
+run-refused = texts.run-refused
 
 -- Else it gives its lines.
 pub run-accepted : (p : List ℕ) (count : ℕ) → NoneHolds (runTests p count)
     → pictureText p count ≡ linesOf (listingLines p count)
-run-accepted = ways.run-accepted
+run-accepted = texts.run-accepted
 
 -- ---- what is never refused there
 

@@ -6,24 +6,25 @@
 --   longInput            an input over 65,536 bytes
 --   smallRows            the picture's own tests, where over 8,192 pixels is BAD SIZE too
 --   inputRows            the tests before the run, in their order
---   mostLine             room that a line never goes past
---   mostText             8448, the room of a listing
---   refusedText n        the line of a refusal
---   mappedTo index q     the pixels mapped to shade q
---   shadeFields, shadeRows   a shade's line, and those of the first k shades
---   paletteBytes, mappedRaster   the palette of the shades, and the raster mapped to it
---   shadeLines           the lines of the shades, and the last line
 --   tableOf, runOn       the table of a picture, and the run on it
---   headFields, listingLines   line 1, and all lines
 --   runTests             the run's tests, in their order
+--   paletteBytes, mappedRaster   the palette of a run's shades, and the raster mapped to it
+--   Work                 what the calls leave: a refusal's number, or all that the lines tell
+--   summaryOf, refusedWork   what is told besides the shades, and what a refusal leaves
+--   workRun, madeWork    what is left of a run, and of a picture whose run is accepted
+--   workPicture, workInput   of an accepted picture, and of an input
+--   Fits                 at most 64 shades, and room for shades and pixels
+--   workLines, workText  the lines of what is left, and its text
+--   listingLines         the lines of a picture
 --   pictureText          the text of an accepted picture: its lines, or the run's refusal
 --   listingText          the text of an input
 --   textRoom             the room of a listing, zeros
 --   Listing, listingOf   the answer: the text in front of zeros, and its length
 pub mod Refusals
-pub mod Texts
+pub mod Works
 pub mod Listings
 pub use declared.Listing.{Listing}
+pub use declared.Work.{Work}
 unfoldable pub use Refusals.{
   mostInput,
   mostListed,
@@ -35,23 +36,24 @@ unfoldable pub use Refusals.{
   smallRows,
   inputRows,
 }
-unfoldable pub use Texts.{
-  mostLine,
-  mostText,
-  refusedText,
-  mappedTo,
-  shadeFields,
-  shadeRows,
-  paletteBytes,
-  mappedRaster,
-  shadeLines,
-}
-unfoldable pub use Listings.{
+unfoldable pub use Works.{
   tableOf,
   runOn,
-  headFields,
-  listingLines,
   runTests,
+  paletteBytes,
+  mappedRaster,
+  summaryOf,
+  refusedWork,
+  workRun,
+  madeWork,
+  workPicture,
+  workInput,
+}
+pub use Works.{Fits}
+unfoldable pub use Listings.{
+  workLines,
+  workText,
+  listingLines,
   pictureText,
   listingText,
   textRoom,

@@ -1,49 +1,35 @@
--- The listing of an input, on every input.
+-- The listing of an input, on every input: the text of what is listed.
 use Prim.Native.Nat.{ℕ, _*_}
-use mathlib.Core.List.{List, [], _∷_}
+use mathlib.Core.Bool.{cond}
+use mathlib.Core.List.{List}
+use lib.Dec.{eqb}
 use lib.ListN.{length, take, replicate}
-use Rattle.refusal.specs.{Row, outcomeOf}
-use Rattle.table.specs.{Outcome, emptyRecord, addStrip}
-use Rattle.lloyd.specs.{RunOutcome, flagOf, runOf, runRows}
-use Rattle.p6.specs.{rasterOf}
+use Rattle.refusal.specs.{done}
 use Rattle.texts.specs.{linesOf, withText}
-use Rattle.listing.specs.Refusals.{listedZeros, countIn, pictureIn, inputRows}
-use Rattle.listing.specs.Texts.{mostText, refusedText, shadeLines}
+use Rattle.listing_lines.specs.{mostText, refusedText, linesFor}
+use Rattle.listing.specs.Works.{madeWork, workPicture, workInput}
 use Rattle.listing.specs.declared.Listing.{Listing}
+use Rattle.listing.specs.declared.Work.{Work}
 
--- the table of a picture, in slices of 8,192 places
-abbrev pub tableOf : List ℕ → Outcome
-tableOf p = addStrip emptyRecord listedZeros listedZeros (rasterOf p)
+-- the lines that tell what the calls left
+abbrev pub workLines : Work → List (List ℕ)
+workLines w = linesFor (w .summary) (take (3 * w .shades) (w .palette)) (take (w .pixels) (w .index))
 
--- the run on it, with limit 0
-abbrev pub runOn : List ℕ → ℕ → RunOutcome
-runOn p count =
-    runOf (tableOf p .answer .rec) (tableOf p .keys) (tableOf p .weights) count 0 listedZeros
-    (replicate 20 0)
-
--- line 1 gives table colours, pixels, rounds, settled as 1 or 0, final total, distances
-abbrev pub headFields : List ℕ → ℕ → List ℕ
-headFields p count =
-    let rec = tableOf p .answer .rec in
-    let r = runOn p count .answer in
-    rec .used ∷ rec .pixels ∷ r .rounds ∷ flagOf (r .settled) ∷ r .total ∷ r .distances ∷ []
+-- its text: these lines, or that of the refusal
+abbrev pub workText : Work → List ℕ
+workText w = cond (eqb (w .refusal) done) (linesOf (workLines w)) (refusedText (w .refusal))
 
 -- the lines of a picture and its shades
 abbrev pub listingLines : List ℕ → ℕ → List (List ℕ)
-listingLines p count = headFields p count ∷ shadeLines (rasterOf p) (take (3 * count) (runOn p count .answer .shades))
-
--- the run's tests, in their order
-abbrev pub runTests : List ℕ → ℕ → List Row
-runTests p count =
-    runRows (tableOf p .answer .rec) (tableOf p .keys) (tableOf p .weights) count 0 listedZeros (replicate 20 0)
+listingLines p count = workLines (madeWork p count)
 
 -- the text of a picture that is accepted: its lines, or the run's refusal
 unfoldable pub pictureText : List ℕ → ℕ → List ℕ
-pictureText p count = outcomeOf (runTests p count) (linesOf (listingLines p count)) refusedText
+pictureText p count = workText (workPicture p count)
 
 -- the text of an input
 unfoldable pub listingText : List ℕ → List ℕ
-listingText s = outcomeOf (inputRows s) (pictureText (pictureIn s) (countIn s)) refusedText
+listingText s = workText (workInput s)
 
 -- the room of a listing, zeros
 unfoldable pub textRoom : List ℕ

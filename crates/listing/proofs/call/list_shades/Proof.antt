@@ -1,25 +1,36 @@
--- `list_shades` meets its contract: the listing is what was written, and its length.
+-- `list_shades` meets its contract: the listing is what was written of the calls' work, and its length.
+use Prim.Native.Nat.{ℕ}
+use mathlib.Core.List.{List}
+use mathlib.Core.Path.{ap, sym, _∙_}
 use denote.Ref.{now}
-use Rattle.listing.specs.Listings.{textRoom}
-use Rattle.listing.proofs.Lengths.{text-within}
-use Rattle.listing.proofs.Inputs.{listing-is}
 use borrow.Author.Needs.{needs}
+use Rattle.listing.specs.Listings.{listingText, textRoom}
+use Rattle.listing.proofs.Works.{input-fits}
+use Rattle.listing.proofs.Texts.{listing-is, text-within}
 use Rattle.listing.proofs.call.list_shades.Statement.{statement}
 use Rattle.listing.proofs.call.list_shades.Tie as tie
 
-slice-aggregate-write-listing : tie.Need-slice-aggregate-write-listing
-slice-aggregate-write-listing c = search needs
+-- the input
+abbrev s : tie.After-work-input → List ℕ
+s c = now (c .before .before .args .input)
 
-write-listing-requires : tie.Need-write-listing-requires
-write-listing-requires c κs = search needs
+work-input-requires : tie.Need-work-input-requires
+work-input-requires c κs = search needs
+
+slice-aggregate-write-work : tie.Need-slice-aggregate-write-work
+slice-aggregate-write-work c = search needs
+
+write-work-requires : tie.Need-write-work-requires
+write-work-requires c κs = (rw (c .before .work-input .ensures) (input-fits (s (c .before))), search needs)
 
 returns : tie.Need-returns
-unfolding textRoom
+unfolding listingText textRoom
 returns c =
-    let put = c .before .write-listing .ensures in
-    let s = now (c .before .before .before .before .args .input) in
-    (listing-is s _ _ (put .ends) (put .text-is), text-within s _ _ (put .ends) (put .text-is))
+    let w = c .before in
+    let t = w .before .before in
+    let put = rw (t .work-input .ensures) at (w .write-work .ensures) in
+    (listing-is (s t) (put .ends) (put .text-is), text-within (s t) (put .ends) (put .text-is))
 
 pub list-shades-spec : {M : Type 1} → statement M
 list-shades-spec =
-    tie.close (tie.spec slice-aggregate-write-listing write-listing-requires returns)
+    tie.close (tie.spec work-input-requires slice-aggregate-write-work write-work-requires returns)
