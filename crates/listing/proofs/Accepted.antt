@@ -25,7 +25,7 @@ use Rattle.lloyd.specs.{shortMembers, shortTotals}
 use Rattle.lloyd.proofs.Promises.{short-members-exactly}
 use Rattle.number.proofs.Cases.{never}
 use Rattle.listing.proofs.Smalls.{small-raster, small-whole}
-use Rattle.listing.proofs.Works.{zeros-length}
+use Rattle.listing.proofs.Rooms.{zeros-length}
 
 -- a test joined by "and" with one that fails fails
 and-false : (a : Bool) → (a && false) ≡ false

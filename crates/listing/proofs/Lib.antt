@@ -6,6 +6,8 @@ pub mod Smalls
 pub mod Fronts
 -- What the calls leave of a picture and of an input.
 pub mod Works
+-- What they leave fits: shades, palette and index picture.
+pub mod Rooms
 -- The text of what they leave, and its length.
 pub mod Texts
 -- What is never refused in a listing.

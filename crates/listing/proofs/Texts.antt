@@ -28,7 +28,8 @@ use Rattle.listing.specs.Listings.{
 }
 use Rattle.listing.specs.declared.Listing.{Listing}
 use Rattle.listing.specs.declared.Work.{Work}
-use Rattle.listing.proofs.Works.{work-refuses, input-fits}
+use Rattle.listing.proofs.Works.{work-refuses}
+use Rattle.listing.proofs.Rooms.{input-fits}
 
 -- ---- which text it is
 

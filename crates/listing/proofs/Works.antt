@@ -2,29 +2,22 @@
 use Prim.Native.Nat.{ℕ, _*_, _/_, _≤_, _<_}
 use mathlib.Core.Bool.{true, false}
 use mathlib.Core.List.{List}
-use mathlib.Core.Logic.{inl, inr}
 use mathlib.Core.Path.{_≡_, refl, sym, ap, ap₂, _∙_}
-use native.Mathlib.Omega.{arith}
-use lib.ListN.{length, take, replicate, length-replicate}
+use lib.ListN.{length, take, replicate}
 use borrow.Author.Tests.{lt-ltb, le-ltb, ne-eqb}
-use Rattle.number.proofs.Fills.{fill-length}
-use Rattle.number.proofs.Parts.{from-length}
-use Rattle.refusal.specs.{Row, Refusal, numberOf, done, firstOf, outcomeOf, Refuses, BAD-COUNT, BAD-SIZE}
-use Rattle.refusal.proofs.Order.{none-of-first, first-of-none, done-or-refusal}
-use Rattle.refusal.proofs.Outcomes.{outcome-made, outcome-refused, refuses, refuses-all}
+use Rattle.refusal.specs.{Row, numberOf, done, firstOf, outcomeOf, Refuses, BAD-COUNT, BAD-SIZE}
+use Rattle.refusal.proofs.Order.{none-of-first}
+use Rattle.refusal.proofs.Outcomes.{outcome-made, outcome-refused, refuses}
 use Rattle.table.specs.{Record, Added, AddMeets, emptyRecord, addStrip}
-use Rattle.shades.specs.{mostShades, mostCoordinates}
+use Rattle.shades.specs.{mostShades}
 use Rattle.lloyd.specs.{Ran, RunMeets, flagOf, runOf}
 use Rattle.lloyd.proofs.Promises.{bad-count-exactly, shades-room}
 use Rattle.lloyd.proofs.Wholes.{run-refuses}
 use Rattle.palette.specs.{PaletteMeets, paletteFromShades}
-use Rattle.palette.proofs.Meaning.{palette-refuses}
 use Rattle.mapping.specs.{Mapped, MapMeets, mapStrip}
-use Rattle.mapping.proofs.Meaning.{map-refuses}
 use Rattle.p6.specs.{rasterOf}
 use Rattle.listing.specs.Refusals.{
   mostInput,
-  mostListed,
   listedZeros,
   badLine,
   countIn,
@@ -36,27 +29,19 @@ use Rattle.listing.specs.Works.{
   tableOf,
   runOn,
   runTests,
-  paletteBytes,
   refusedWork,
   workRun,
   madeWork,
   workPicture,
   workInput,
-  Fits,
 }
 use Rattle.listing.specs.declared.Work.{Work}
-use Rattle.listing.proofs.Smalls.{small-raster}
 use Rattle.listing.proofs.Fronts.{Line, line-good, count-is}
 
 -- where the rows refuse with this number, what is left is what a refusal with it leaves
 left-of-number : (rows : List Row) (made : Work) (n : ℕ) → firstOf rows ≡ n → ¬ (n ≡ done)
     → outcomeOf rows made refusedWork ≡ refusedWork n
 left-of-number rows made n e some = rw (e, ne-eqb n done some)
-
--- 8,192 zeros are as many
-pub zeros-length : length listedZeros ≡ mostListed
-unfolding listedZeros
-zeros-length = length-replicate {A = ℕ} mostListed 0
 
 -- ---- of a run
 
@@ -101,7 +86,7 @@ module _ (p : List ℕ) (count : ℕ) where
       .number-is
 
   -- where none of them holds the shades are at most 64
-  run-count : firstOf (runTests p count) ≡ done → count ≤ mostShades
+  pub run-count : firstOf (runTests p count) ≡ done → count ≤ mostShades
   run-count e = bad-count-exactly count .0 (none-of-first (runTests p count) e .1 .0) .1
 
   -- and their coordinates are there
@@ -118,7 +103,7 @@ pub record Ready (p : List ℕ) (count : ℕ) (rec : Record) (ran : Ran) : Type 
   pub rec-is : rec ≡ tableOf p .answer .rec
   pub ran-is : ran ≡ runOn p count .answer
 
--- it is, once the raster was added and the run made
+-- it is, once the raster is added and the run made
 pub ready : (p : List ℕ) (count : ℕ) {raster : List ℕ} {added : Added} {ks ws ms ts : List ℕ} {ran : Ran}
     → raster ≡ rasterOf p → AddMeets emptyRecord (replicate 8192 0) (replicate 8192 0) raster added ks ws
     → RunMeets (runOf (added .rec) ks ws count 0 (replicate 8192 0) (replicate 20 0)) ran ms ts
@@ -153,15 +138,18 @@ module _ {p : List ℕ} {count : ℕ} {rec : Record} {ran : Ran} (w : Ready p co
   ready-room ok = rw (w .ran-is) (run-room p count (sym ready-number ∙ ok))
 
   -- a refused run leaves its refusal
-  pub ready-refused : ¬ (ran .refusal ≡ done) → refusedWork (ran .refusal) ≡ workPicture p count
+  pub ready-refused : {left : Work} → left ≡ refusedWork (ran .refusal) → ¬ (ran .refusal ≡ done)
+      → left ≡ workPicture p count
   unfolding workPicture
-  ready-refused some = sym (left-of-number (runTests p count) (madeWork p count) (ran .refusal) (sym ready-number) some)
+  ready-refused e some =
+      e ∙ sym (left-of-number (runTests p count) (madeWork p count) (ran .refusal) (sym ready-number) some)
 
   -- an accepted one what is made of it
-  pub ready-made : {raster : List ℕ} → raster ≡ rasterOf p → ran .refusal ≡ done
-      → workRun raster rec ran count ≡ workPicture p count
-  ready-made is ok =
-      ap (λ s. workRun s rec ran count) is
+  pub ready-made : {left : Work} {raster : List ℕ} → left ≡ workRun raster rec ran count → raster ≡ rasterOf p
+      → ran .refusal ≡ done → left ≡ workPicture p count
+  ready-made e is ok =
+      e
+      ∙ ap (λ s. workRun s rec ran count) is
       ∙ ap₂ (λ c r. workRun (rasterOf p) c r count) (w .rec-is) (w .ran-is)
       ∙ sym (work-refuses p count .by-none (sym ready-number ∙ ok))
 
@@ -198,54 +186,3 @@ module _ {s : List ℕ} {value n : ℕ} (l : Line s value n) {p : List ℕ} {num
   input-left ok =
       ap₂ workPicture is (count-is (l .named))
       ∙ sym (outcome-made (inputRows s) (workPicture (pictureIn s) (countIn s)) refusedWork (past ∙ ok))
-
--- ---- the lines have room
-
--- the lent palette stays as long
-palette-length : (c d : List ℕ) → length (paletteFromShades c d .palette) ≡ length d
-palette-length c d =
-    refuses-all (palette-refuses c d) (λ o. length (o .palette) ≡ length d) (fill-length (length c) _ d) (λ n. refl)
-
--- and so does the index picture
-index-length : (s p d : List ℕ) (a : ℕ) → length (mapStrip s p d a .index) ≡ length d
-index-length s p d a =
-    refuses-all (map-refuses s p d a) (λ o. length (o .index) ≡ length d) (from-length a (length s / 3) _ d) (λ n. refl)
-
--- a refusal leaves no shade and no pixel
-refused-fits : (n : ℕ) → Fits (refusedWork n)
-refused-fits n = record { few = omega arith; palette = omega arith; index = omega arith }
-
--- an accepted run on a picture of at most 8,192 pixels leaves at most 64 shades, and slices that are as long as lent
-made-fits : (p : List ℕ) (count : ℕ) → firstOf (runTests p count) ≡ done → length (rasterOf p) / 3 ≤ mostListed
-    → Fits (madeWork p count)
-unfolding workRun
-made-fits p count ok small =
-    let ran = runOn p count .answer in
-    let few = run-count p count ok in
-    let bytes = palette-length (take (3 * count) (ran .shades)) (replicate mostCoordinates 0) in
-    let places = index-length (rasterOf p) (take (3 * count) (paletteBytes ran count)) listedZeros 0 in
-    record {
-      few = few;
-      palette = omega (arith, few, bytes, length-replicate {A = ℕ} mostCoordinates 0);
-      index = omega (arith, small, places, zeros-length);
-    }
-
--- a picture of at most 8,192 pixels
-picture-fits : (p : List ℕ) (count : ℕ) → length (rasterOf p) / 3 ≤ mostListed → Fits (workPicture p count)
-picture-fits p count small = elim (done-or-refusal (runTests p count)) [
-  | inl e ↦ rw (work-refuses p count .by-none e) (made-fits p count e small)
-  | inr g ↦ rw (work-refuses p count .by-refusal (g .0) (g .1)) (refused-fits (numberOf (g .0)))
-]
-
--- of every input: a picture that passes its tests has at most 8,192 pixels
-pub input-fits : (s : List ℕ) → Fits (workInput s)
-unfolding workInput
-input-fits s = elim (done-or-refusal (inputRows s)) [
-  | inl e ↦
-      let passed = first-of-none (smallRows (pictureIn s)) (none-of-first (inputRows s) e .1 .1) in
-      rw (outcome-made (inputRows s) (workPicture (pictureIn s) (countIn s)) refusedWork e)
-      (picture-fits (pictureIn s) (countIn s) (small-raster (pictureIn s) passed))
-  | inr g ↦
-      rw (outcome-refused (inputRows s) (workPicture (pictureIn s) (countIn s)) refusedWork (g .0) (g .1))
-      (refused-fits (numberOf (g .0)))
-]

@@ -7,8 +7,8 @@
 //                 picture's own, 12, 13 (also for more than 8,192 pixels), 14, 15, and the run's,
 //                 4 and 5.
 // First every call is made: the tests of the count line in call.rt, those of a picture in test.rt,
-// table, run, palette and mapping in picture.rt. What they leave is a Work: a refusal's number, or all
-// that the lines tell. Then the crate listing_lines writes it.
+// table, run, palette and mapping in picture.rt. What they leave is a Work: a refusal's number, or
+// all that the lines tell. Then the crate listing_lines writes it.
 //
 // Read next: specs/Lib.antt (what the words mean), proofs/Promises.antt (what is shown).
 use listing_lines::Summary;

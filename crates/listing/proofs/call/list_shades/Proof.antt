@@ -1,11 +1,10 @@
--- `list_shades` meets its contract: the listing is what was written of the calls' work, and its length.
+-- `list_shades` meets its contract: the listing is the text of what the calls left, and its length.
 use Prim.Native.Nat.{ℕ}
 use mathlib.Core.List.{List}
-use mathlib.Core.Path.{ap, sym, _∙_}
 use denote.Ref.{now}
 use borrow.Author.Needs.{needs}
 use Rattle.listing.specs.Listings.{listingText, textRoom}
-use Rattle.listing.proofs.Works.{input-fits}
+use Rattle.listing.proofs.Rooms.{input-fits}
 use Rattle.listing.proofs.Texts.{listing-is, text-within}
 use Rattle.listing.proofs.call.list_shades.Statement.{statement}
 use Rattle.listing.proofs.call.list_shades.Tie as tie

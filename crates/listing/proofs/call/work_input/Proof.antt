@@ -50,7 +50,7 @@ behind c = c .before .before
 abbrev passed : tie.After-picture-refusal → tie.Else3
 passed c = c .before .before
 
--- ---- what was read
+-- ---- what is read
 
 -- the line names the count
 named : (c : tie.After-known-told) → Named (s (asked c)) (value c) (next c)

@@ -1,7 +1,7 @@
 -- `work_picture` meets its contract: the calls give the picture's table and run, and the rest is made of these.
 use Prim.Native.Nat.{ℕ}
 use mathlib.Core.List.{List}
-use mathlib.Core.Path.{_≡_, _∙_}
+use mathlib.Core.Path.{_≡_}
 use denote.Ref.{now}
 use borrow.Author.Needs.{needs}
 use Rattle.p6.specs.{rasterOf}
@@ -78,7 +78,7 @@ refused-requires c κs = search needs
 returns : tie.Need-returns
 returns c =
     let t = c .before in
-    c .refused .ensures ∙ ready-refused (worked (ran-refused t)) (t .if1 .taken)
+    ready-refused (worked (ran-refused t)) (c .refused .ensures) (t .if1 .taken)
 
 work-run-requires : tie.Need-work-run-requires
 work-run-requires c κs =
@@ -88,7 +88,7 @@ work-run-requires c κs =
 returns-2 : tie.Need-returns-2
 returns-2 c =
     let e = c .before in
-    c .work-run .ensures ∙ ready-made (worked (ran e)) (raster-is (ran e)) (e .if1 .left)
+    ready-made (worked (ran e)) (c .work-run .ensures) (raster-is (ran e)) (e .if1 .left)
 
 pub work-picture-spec : {M : Type 1} → statement M
 work-picture-spec =

@@ -17,6 +17,10 @@ Inv-loop index q n count₀ i₀ count i = Counting n (λ j. eqb (getD index j 0
 abbrev μ-loop : tie.MeasureT-loop
 μ-loop index q n count₀ i₀ count i = n - i
 
+-- the turn in which a place is read
+abbrev turn : tie.After-shared-slice-known Inv-loop μ-loop → tie.In-loop Inv-loop μ-loop
+turn c = c .before
+
 loop-holds : tie.Need-loop-holds Inv-loop μ-loop
 loop-holds c = counting-start (length (now (c .args .index))) (λ j. eqb (getD (now (c .args .index)) j 0) (c .args .q))
 
@@ -24,10 +28,12 @@ shared-slice-read-if1 : tie.Need-shared-slice-read-if1 Inv-loop μ-loop
 shared-slice-read-if1 c = search needs
 
 cast-if1 : tie.Need-cast-if1 Inv-loop μ-loop
-cast-if1 c = omega (arith, c .shared-slice-known .given (c .before .before .loop .i))
+cast-if1 c = omega (arith, c .shared-slice-known .given (turn c .before .loop .i))
 
 add-count : tie.Need-add-count Inv-loop μ-loop
-add-count c = omega (arith, c .before .before .before .loop .inv .few, c .before .before .loop-test .taken)
+add-count c =
+    let t = turn (c .before) in
+    omega (arith, t .before .loop .inv .few, t .loop-test .taken)
 
 add-i : tie.Need-add-i Inv-loop μ-loop
 add-i c = search needs
@@ -37,10 +43,11 @@ loop-less c = omega arith
 
 loop-again : tie.Need-loop-again Inv-loop μ-loop
 loop-again c =
-    let l = c .before .before .before .loop in
-    let b = getD (now (c .before .before .before .before .args .index)) (l .i) 0 in
-    let q = c .before .before .before .before .args .q in
-    counting-next (l .inv) (c .before .before .loop-test .taken)
+    let t = turn (c .before) in
+    let l = t .before in
+    let b = getD (now (l .before .args .index)) (l .loop .i) 0 in
+    let q = l .before .args .q in
+    counting-next (l .loop .inv) (t .loop-test .taken)
     (⊎-elim (λ t. rw (eq-eqb b q (t .0 .taken)) (t .1)) (λ t. rw (ne-eqb b q (t .0 .left)) (t .1)) (c .if1 .came))
 
 returns : tie.Need-returns Inv-loop μ-loop

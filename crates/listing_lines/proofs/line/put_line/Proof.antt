@@ -3,7 +3,6 @@ use Prim.Native.Nat.{_-_}
 use native.Mathlib.Omega.{arith}
 use denote.Ref.{now}
 use borrow.Author.Needs.{needs}
-use Rattle.texts.proofs.Texts.{put-length}
 use Rattle.listing_lines.proofs.Lines.{Turn, turn-start, turn-step, turn-done}
 use Rattle.listing_lines.proofs.line.put_line.Statement.{statement}
 use Rattle.listing_lines.proofs.line.put_line.Tie as tie

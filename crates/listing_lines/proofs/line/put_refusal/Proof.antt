@@ -4,6 +4,10 @@ use Rattle.texts.proofs.Texts.{put-then}
 use Rattle.listing_lines.proofs.line.put_refusal.Statement.{statement}
 use Rattle.listing_lines.proofs.line.put_refusal.Tie as tie
 
+-- where the word is put
+abbrev word : tie.After-put-last → tie.After-put-word
+word c = c .before .before .before .before
+
 slice-aggregate-put-word : tie.Need-slice-aggregate-put-word
 slice-aggregate-put-word c = search needs
 
@@ -18,8 +22,8 @@ same-length c = search needs
 
 returns : tie.Need-returns
 returns c =
-    let p = c .before .before .before .before .before .before .put-word .ensures in
-    put-then p (c .before .before .put-last .ensures)
+    let last = c .before .before in
+    put-then (word last .put-word .ensures) (last .put-last .ensures)
 
 pub put-refusal-spec : {M : Type 1} → statement M
 put-refusal-spec =
