@@ -3,8 +3,9 @@ use Prim.Native.Nat.{ℕ}
 use mathlib.Core.List.{List, [], _∷_}
 use mathlib.Core.Path.{_≡_, ap, _∙_}
 use lib.Ieee.{Float}
+use Rattle.number.specs.{bit}
 use Rattle.table.specs.{Record, Added, Outcome, AddMeets, addStrip}
-use Rattle.lloyd.specs.{Rounded, RoundOutcome, RoundMeets, Ran, RunOutcome, RunMeets, flagOf}
+use Rattle.lloyd.specs.{Rounded, RoundOutcome, RoundMeets, Ran, RunOutcome, RunMeets}
 use Rattle.figures.specs.{meanNumber}
 use Rattle.mapping.specs.{Mapped, MapOutcome, MapMeets}
 use Rattle.p6.specs.{Picture}
@@ -46,7 +47,7 @@ round-crosses same meets = record {
 
 -- a run, settled told by a number
 pub run-crosses : {made o : RunOutcome} {a : Ran} {members totals : List ℕ} {flag : ℕ}
-    → made ≡ o → RunMeets made a members totals → flag ≡ flagOf (a .settled)
+    → made ≡ o → RunMeets made a members totals → flag ≡ bit (a .settled)
     → RunCrosses o (a .refusal) members totals (a .shades) (a .rounds ∷ flag ∷ a .distances ∷ a .total ∷ [])
 run-crosses {a = a} same meets told = record {
   number = ap (λ b. b .refusal) (meets .answer) ∙ ap (λ b. b .answer .refusal) same;

@@ -3,8 +3,9 @@ use Prim.Native.Nat.{ℕ}
 use mathlib.Core.List.{List, [], _∷_}
 use lib.Ieee.{Float}
 use lib.ListN.{getD}
+use Rattle.number.specs.{bit}
 use Rattle.table.specs.{Record}
-use Rattle.lloyd.specs.{Rounded, Ran, flagOf}
+use Rattle.lloyd.specs.{Rounded, Ran}
 use Rattle.figures.specs.declared.Mean.{Mean}
 use Rattle.figures.specs.declared.Mean.the-variants.{NoPixels, Value}
 use Rattle.figures.specs.{zeroFigure, meanNumber}
@@ -25,7 +26,7 @@ roundNumbers r = r .total ∷ r .moved ∷ r .distances ∷ []
 
 -- the answer of a run, its shades apart: rounds made, settled as 1 or 0, distances, final total
 abbrev pub runNumbers : Ran → List ℕ
-runNumbers r = r .rounds ∷ flagOf (r .settled) ∷ r .distances ∷ r .total ∷ []
+runNumbers r = r .rounds ∷ bit (r .settled) ∷ r .distances ∷ r .total ∷ []
 
 -- the errors of a mapping: the whole, R, G, B; then 1 where there is a mean, 0 for "no pixels"
 abbrev pub mapNumbers : Mapped → List ℕ

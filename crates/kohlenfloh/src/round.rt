@@ -73,7 +73,7 @@ pub extern "C" fn kf_run(
     let a = lloyd::run(record_in(rec), keys, weights, count, limit, members, totals);
     let made = a.shades;
     *shades = made;
-    let settled = lloyd::flag_of(a.settled);
+    let settled = bits::bit(a.settled) as u64;
     *answer = [a.rounds as u64, settled, a.distances, a.total];
     a.refusal as u32
 }

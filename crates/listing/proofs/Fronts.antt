@@ -10,9 +10,10 @@ use lib.Dec.{leb, eqb}
 use lib.ListN.{length, getD, take, drop, length-drop}
 use lib.Seq.{take-all}
 use borrow.Author.Tests.{lt-leb, le-leb, eq-eqb, ne-eqb}
-use Rattle.p6_header.specs.{byteAt, lineFeed, digitsAt, numberAt, readingNumber, readingValues, placeIn}
-use Rattle.p6_header.specs.declared.Reading.the-variants.{Number, Failed}
-use Rattle.p6_header.proofs.Spans.{kind-inside}
+use Rattle.grammar.specs.{byteAt, lineFeed, digitsAt, numberAt, placeIn}
+use Rattle.grammar.specs.declared.Reading.the-variants.{Number, Failed}
+use Rattle.grammar.proofs.Spans.{kind-inside}
+use Rattle.p6_header.specs.{readingNumber, readingValues}
 use Rattle.listing.specs.Refusals.{mostInput, badLine, countIn, pictureIn}
 
 -- ---- its number

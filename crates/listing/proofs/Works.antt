@@ -5,12 +5,13 @@ use mathlib.Core.List.{List}
 use mathlib.Core.Path.{_≡_, refl, sym, ap, ap₂, _∙_}
 use lib.ListN.{length, take, replicate}
 use borrow.Author.Tests.{lt-ltb, le-ltb, ne-eqb}
+use Rattle.number.specs.{bit}
 use Rattle.refusal.specs.{Row, numberOf, done, firstOf, outcomeOf, Refuses, BAD-COUNT, BAD-SIZE}
 use Rattle.refusal.proofs.Order.{none-of-first}
 use Rattle.refusal.proofs.Outcomes.{outcome-made, outcome-refused, refuses}
 use Rattle.table.specs.{Record, Added, AddMeets, emptyRecord, addStrip}
 use Rattle.shades.specs.{mostShades}
-use Rattle.lloyd.specs.{Ran, RunMeets, flagOf, runOf}
+use Rattle.lloyd.specs.{Ran, RunMeets, runOf}
 use Rattle.lloyd.proofs.Promises.{bad-count-exactly, shades-room}
 use Rattle.lloyd.proofs.Wholes.{run-refuses}
 use Rattle.palette.specs.{PaletteMeets, paletteFromShades}
@@ -48,7 +49,7 @@ left-of-number rows made n e some = rw (e, ne-eqb n done some)
 -- what palette and mapping answered is what is left of a run
 pub run-left : (raster : List ℕ) (rec : Record) (ran : Ran) (count : ℕ) {r flag : ℕ} {m : Mapped} {p i : List ℕ}
     → PaletteMeets (paletteFromShades (take (3 * count) (ran .shades)) (replicate 192 0)) r p
-    → MapMeets (mapStrip raster (take (3 * count) p) (replicate 8192 0) 0) m i → flag ≡ flagOf (ran .settled)
+    → MapMeets (mapStrip raster (take (3 * count) p) (replicate 8192 0) 0) m i → flag ≡ bit (ran .settled)
     → _≡_ {A = Work}
     (record {
       refusal = done;

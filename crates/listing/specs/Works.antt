@@ -2,10 +2,11 @@
 use Prim.Native.Nat.{ℕ, _*_, _/_, _≤_}
 use mathlib.Core.List.{List}
 use lib.ListN.{length, take, replicate}
+use Rattle.number.specs.{bit}
 use Rattle.refusal.specs.{Row, done, outcomeOf}
 use Rattle.table.specs.{Record, Outcome, emptyRecord, addStrip}
 use Rattle.shades.specs.{mostShades, mostCoordinates}
-use Rattle.lloyd.specs.{Ran, RunOutcome, flagOf, runOf, runRows}
+use Rattle.lloyd.specs.{Ran, RunOutcome, runOf, runRows}
 use Rattle.palette.specs.{paletteFromShades}
 use Rattle.mapping.specs.{MapOutcome, mapStrip}
 use Rattle.p6.specs.{rasterOf}
@@ -47,7 +48,7 @@ summaryOf rec ran error = record {
   used = rec .used;
   pixels = rec .pixels;
   rounds = ran .rounds;
-  settled = flagOf (ran .settled);
+  settled = bit (ran .settled);
   total = ran .total;
   distances = ran .distances;
   error = error;

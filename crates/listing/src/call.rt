@@ -12,7 +12,7 @@ use super::Work;
 use super::picture::refused;
 use super::picture::work_picture;
 use super::test::picture_refusal;
-use p6_header::Reading;
+use grammar::Reading;
 use refusal::BAD_COUNT;
 use refusal::BAD_SIZE;
 use refusal::DONE;
@@ -22,14 +22,14 @@ use refusal::DONE;
 fn work_input(input: &[u8]) -> Work
     ensures { λ r. ⌜ r ≡ workInput (now (input .entry)) ⌝ }
 {
-    let reading = p6_header::number(input, 0);
+    let reading = grammar::number(input, 0);
     let Reading::Number { value: count, next } = reading else {
         return refused(BAD_COUNT);
     };
     if 2 < next {
         return refused(BAD_COUNT);
     }
-    if p6_header::byte_at(input, next) != b'\n' {
+    if grammar::byte_at(input, next) != b'\n' {
         return refused(BAD_COUNT);
     }
     if MOST_INPUT < input.len() {

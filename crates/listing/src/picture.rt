@@ -49,7 +49,7 @@ fn work_run(raster: &[u8], rec: Record, ran: Ran, count: usize) -> Work
         used: rec.used as u64,
         pixels: rec.pixels,
         rounds: ran.rounds as u64,
-        settled: lloyd::flag_of(ran.settled),
+        settled: bits::bit(ran.settled) as u64,
         total: ran.total,
         distances: ran.distances,
         error: mapped.error,

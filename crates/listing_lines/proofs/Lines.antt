@@ -6,7 +6,7 @@ use native.Mathlib.Numerals.{add-one}
 use native.Mathlib.Omega.{arith}
 use lib.ListN.{getD, length, drop, length-append}
 use lib.Seq.{append-snoc}
-use Rattle.p6_header.specs.{blank, lineFeed}
+use Rattle.grammar.specs.{blank, lineFeed}
 use Rattle.texts.specs.{decimalText, lineOf, linesOf, PutMeets}
 use Rattle.texts.proofs.Texts.{put-then, put-length, decimal-length}
 use Rattle.listing_lines.specs.Texts.{mostField}

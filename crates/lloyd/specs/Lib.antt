@@ -2,7 +2,6 @@
 --   Ran                    the answer of a run
 --   runRows                the tests of a run in their order, with their refusals
 --   RunOutcome             the answer and both lent slices at exit
---   flagOf                 settled as 1 or 0
 --   refusedRun             the answer of a refusal: its number and zeros
 --   keptRun                that answer, and no slice changes
 --   madeRun rule           the outcome where nothing is refused, by a rule
@@ -41,5 +40,5 @@ unfoldable pub use Rattle.lloyd_rounds.specs.{
 pub use declared.Ran.{Ran}
 unfoldable pub use Refusals.{runRows}
 pub use Outcomes.{RunOutcome, RunMeets, AcceptedBy, AcceptedRun}
-unfoldable pub use Outcomes.{flagOf, refusedRun, keptRun, madeRun, runBy, runOf, left}
+unfoldable pub use Outcomes.{refusedRun, keptRun, madeRun, runBy, runOf, left}
 pub use Beginning.{FarthestColour}

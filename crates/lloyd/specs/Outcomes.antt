@@ -1,6 +1,6 @@
 -- What a run leaves: the answer, and both lent slices, on every input.
 use Prim.Native.Nat.{ℕ}
-use mathlib.Core.Bool.{Bool, false, cond}
+use mathlib.Core.Bool.{false}
 use mathlib.Core.List.{List}
 use mathlib.Core.Path.{_≡_}
 use lib.Dec.{ltb}
@@ -28,10 +28,6 @@ use Rattle.method.specs.{
 use Rattle.lloyd_tests.specs.{limitOf}
 use Rattle.lloyd.specs.Refusals.{runRows}
 use Rattle.lloyd.specs.declared.Ran.{Ran}
-
--- settled as 1 or 0
-abbrev pub flagOf : Bool → ℕ
-flagOf settled = cond settled 1 0
 
 -- the answer, and the lent members and totals at exit
 pub record RunOutcome : Type 0 where

@@ -5,8 +5,6 @@
 //                 Refuses 2 BAD TABLE, 4 BAD COUNT, 5 FEW COLOURS, 6 BAD LIMIT, 7 SHORT ROOM, in
 //                 this order.
 //   plain_round, short_round   one round: those of the crate lloyd_rounds
-// For the crates above
-//   flag_of       settled as 1 or 0
 // A refusal answers its number and zeros and writes nothing. The tests stand in table_test
 // and lloyd_tests; the work is done by the crate rounds.
 //
@@ -18,7 +16,6 @@ pub use lloyd_rounds::Rounded;
 pub use lloyd_rounds::plain_round;
 pub use lloyd_rounds::short_round;
 pub use lloyd_tests::USUAL_LIMIT;
-pub use runs::flag_of;
 pub use runs::run;
 
 // The most rounds of a run.

@@ -1,6 +1,6 @@
 // The run.
 ghost use mathlib.Core.Path.{_≡_};
-ghost use Rattle.lloyd.specs.Outcomes.{flagOf, runOf, refusedRun, RunMeets};
+ghost use Rattle.lloyd.specs.Outcomes.{runOf, refusedRun, RunMeets};
 use super::MOST_ROUNDS;
 use super::Ran;
 use lloyd_tests::bad_count;
@@ -13,13 +13,6 @@ use refusal::FEW_COLOURS;
 use refusal::SHORT_ROOM;
 use rounds::Whole;
 use table_test::Record;
-
-// 1 where a run is settled, else 0.
-pub fn flag_of(settled: bool) -> u64
-    ensures { λ r. ⌜ r ≡ flagOf settled ⌝ }
-{
-    if settled { 1 } else { 0 }
-}
 
 // The answer of a refusal: its number and zeros.
 fn refused(number: u8) -> Ran

@@ -1,5 +1,5 @@
 -- `kf_run` meets its contract: what `run` answers and leaves crosses, from the record that `record_in` read, settled as
--- the number that `flag_of` gave.
+-- the number that `bit` gave.
 use borrow.Author.Needs.{needs}
 use Rattle.kohlenfloh.proofs.Arrays.{run-crosses}
 use mathlib.Core.Path.{ap}
@@ -13,8 +13,8 @@ record-in-requires c κs = search needs
 run-requires : tie.Need-run-requires
 run-requires c κs = search needs
 
-flag-of-requires : tie.Need-flag-of-requires
-flag-of-requires c κs = search needs
+bit-requires : tie.Need-bit-requires
+bit-requires c κs = search needs
 
 cast-result : tie.Need-cast-result
 cast-result c = search needs
@@ -33,7 +33,7 @@ returns c =
     run-crosses
     (ap (λ rec. runOf rec (s .keys .now) (s .weights .now) (s .count) (s .limit) (s .members .now) (s .totals .now))
     (q .record-in .ensures))
-    (p .run .ensures) (c .before .before .flag-of .ensures)
+    (p .run .ensures) (c .before .before .bit .ensures .0)
 
 pub kf-run-spec : {M : Type 1} → statement M
 kf-run-spec =
@@ -41,7 +41,7 @@ kf-run-spec =
     (tie.spec
     record-in-requires
     run-requires
-    flag-of-requires
+    bit-requires
     cast-result
     same-length
     same-length-2

@@ -5,7 +5,7 @@ use mathlib.Core.Path.{_≡_, sym, _∙_}
 use native.Mathlib.Omega.{arith}
 use denote.Ref.{now}
 use borrow.Author.Needs.{needs}
-use Rattle.p6_header.specs.{byteAt, lineFeed}
+use Rattle.grammar.specs.{byteAt, lineFeed}
 use Rattle.listing.proofs.Fronts.{
   Named,
   Line,

@@ -48,15 +48,15 @@ slice-aggregate-map-strip-2 c = search needs
 map-strip-requires : tie.Need-map-strip-requires
 map-strip-requires c κs = search needs
 
-flag-of-requires : tie.Need-flag-of-requires
-flag-of-requires c κs = search needs
+bit-requires : tie.Need-bit-requires
+bit-requires c κs = search needs
 
 returns : tie.Need-returns
 returns c =
     let m = c .before .before in
     let a = st (made m) .args in
     run-left (now (a .raster)) (a .rec) (a .ran) (a .count) (made m .palette-from-shades .ensures)
-    (m .map-strip .ensures) (c .flag-of .ensures)
+    (m .map-strip .ensures) (c .bit .ensures .0)
 
 pub work-run-spec : {M : Type 1} → statement M
 work-run-spec =
@@ -71,5 +71,5 @@ work-run-spec =
     slice-aggregate-map-strip
     slice-aggregate-map-strip-2
     map-strip-requires
-    flag-of-requires
+    bit-requires
     returns)

@@ -10,8 +10,8 @@ use Rattle.number.proofs.Fills.{fill-at}
 use Rattle.texts.proofs.Texts.{put-length}
 use Rattle.listing_lines.specs.Texts.{mappedTo}
 use Rattle.listing_lines.proofs.Rows.{lines-put, rows-length, head-length}
-use Rattle.listing_lines.proofs.whole.put_lines.Statement.{statement}
-use Rattle.listing_lines.proofs.whole.put_lines.Tie as tie
+use Rattle.listing_lines.proofs.text.put_lines.Statement.{statement}
+use Rattle.listing_lines.proofs.text.put_lines.Tie as tie
 
 -- ---- where things are done
 

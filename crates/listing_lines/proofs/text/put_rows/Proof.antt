@@ -8,8 +8,8 @@ use Rattle.texts.specs.{linesOf, PutMeets}
 use Rattle.texts.proofs.Texts.{put-length}
 use Rattle.listing_lines.specs.Texts.{shadeRows}
 use Rattle.listing_lines.proofs.Rows.{rows-start, rows-step, rows-done, rows-length}
-use Rattle.listing_lines.proofs.whole.put_rows.Statement.{statement}
-use Rattle.listing_lines.proofs.whole.put_rows.Tie as tie
+use Rattle.listing_lines.proofs.text.put_rows.Statement.{statement}
+use Rattle.listing_lines.proofs.text.put_rows.Tie as tie
 
 abbrev Inv-loop : tie.InvT-loop
 Inv-loop out₀ at palette counts k a₀ q₀ out a q =
