@@ -6,9 +6,10 @@ use native.Mathlib.Numerals.{add-one}
 use native.Mathlib.Omega.{arith}
 use lib.ListN.{getD, length, drop, length-append}
 use lib.Seq.{append-snoc}
-use Rattle.grammar.specs.{blank, lineFeed}
-use Rattle.texts.specs.{decimalText, lineOf, linesOf, PutMeets}
-use Rattle.texts.proofs.Texts.{put-then, put-length, decimal-length}
+use Rattle.grammar.specs.{blank, lineFeed, decimalText}
+use Rattle.grammar.proofs.Texts.{decimal-length}
+use Rattle.texts.specs.{lineOf, linesOf, PutMeets}
+use Rattle.texts.proofs.Texts.{put-then, put-length}
 use Rattle.listing_lines.specs.Texts.{mostField}
 
 -- ---- the rest of a line, from a field on
