@@ -1,7 +1,7 @@
 -- What a grouping asks, and what it leaves and answers: one definition for the plain and the shortened search.
 use Prim.Native.Nat.{ℕ, _≤_, _<_}
 use mathlib.Core.Path.{_≡_}
-use mathlib.Core.Bool.{Bool, true, false, cond}
+use mathlib.Core.Bool.{Bool, true, false}
 use mathlib.Core.List.{List}
 use lib.ListN.{getD, length}
 use Rattle.shades.specs.{Shades}
@@ -29,8 +29,3 @@ pub record Grouped (used : ℕ) (ks ws s : List ℕ) (k : ℕ) (before after : L
   pub members : after ≡ grouped (coloursOf used ks ws) k (stateOf s before)
   pub total-is : total ≡ totalOf (coloursOf used ks ws) k (stateOf s before)
   pub sums : Summed (joins (coloursOf used ks ws) k s) ks ws used t
-
--- how many entries the groups' sums are over, once the first i have joined: those, where the sums are taken anew, and all
--- where they go on from the former groups
-abbrev pub covered : Bool → ℕ → ℕ → ℕ
-covered anew used i = cond anew i used

@@ -6,7 +6,8 @@ ghost use lib.ListN.{length};
 ghost use Rattle.shades.specs.{mostShades, Shades};
 ghost use Rattle.method.specs.{stateOf, coloursOf, shortDistances};
 ghost use Rattle.group_sums.specs.{Summed, memberAt};
-ghost use Rattle.groups.specs.Grouping.{Groupable, Tracks, Grouped, covered};
+ghost use Rattle.group_join.specs.{covered};
+ghost use Rattle.groups.specs.Grouping.{Groupable, Tracks, Grouped};
 use super::Regrouped;
 use super::short::group_short;
 

@@ -1,7 +1,7 @@
 // One round: the grouping, by either search, and then the move.
 ghost use Rattle.method.specs.{stateOf, coloursOf, toMean, plainDistances, shortDistances};
 ghost use Rattle.group_sums.specs.{Summed, memberAt};
-ghost use Rattle.groups.specs.{covered};
+ghost use Rattle.group_join.specs.{covered};
 ghost use Rattle.rounds.specs.Meeting.{Steppable, Walkable, StepMeets};
 use super::Stepped;
 use groups::Regrouped;

@@ -7,7 +7,7 @@ use lib.ListN.{getD}
 use denote.Ref.{now}
 use borrow.Author.Needs.{needs}
 use Rattle.group_sums.specs.{Summed, memberAt}
-use Rattle.groups.specs.Grouping.{covered}
+use Rattle.group_join.specs.{covered}
 use Rattle.groups.proofs.Turns.{
   Turned,
   Finds,

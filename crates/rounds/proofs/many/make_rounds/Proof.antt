@@ -10,7 +10,7 @@ use Rattle.method.proofs.Costs.{to-mean-good}
 use Rattle.method.proofs.Sizes.{fair-of-table}
 use Rattle.group_sums.specs.{Summed, memberAt}
 use Rattle.group_sums.proofs.Summing.{summed-none}
-use Rattle.groups.specs.{covered}
+use Rattle.group_join.specs.{covered}
 use Rattle.rounds.proofs.Turns.{
   Going,
   after-walkable,

@@ -1,7 +1,7 @@
 -- `join` meets its contract: the sums are over the entries before, or over all, and the way for that is taken.
 use borrow.Author.Needs.{needs}
-use Rattle.groups.proofs.short.join.Statement.{statement}
-use Rattle.groups.proofs.short.join.Tie as tie
+use Rattle.group_join.proofs.entry.join.Statement.{statement}
+use Rattle.group_join.proofs.entry.join.Tie as tie
 
 enter-requires : tie.Need-enter-requires
 enter-requires c κs =

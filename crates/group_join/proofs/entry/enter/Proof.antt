@@ -9,9 +9,9 @@ use Rattle.group_sums.specs.{Summed, memberAt}
 use Rattle.level_sums.proofs.Bounds.{weight-at-most}
 use Rattle.group_sums.proofs.Bounds.{raises-fit}
 use Rattle.group_sums.proofs.Summing.{summed-more}
-use Rattle.groups.proofs.short.Joining.{joined-at, joined-before}
-use Rattle.groups.proofs.short.enter.Statement.{statement}
-use Rattle.groups.proofs.short.enter.Tie as tie
+use Rattle.group_join.proofs.entry.Joining.{joined-at, joined-before}
+use Rattle.group_join.proofs.entry.enter.Statement.{statement}
+use Rattle.group_join.proofs.entry.enter.Tie as tie
 
 -- the group of each entry, once the member is set
 abbrev groups : tie.Start → ℕ → ℕ

@@ -8,9 +8,9 @@ use borrow.Author.Needs.{needs}
 use Rattle.group_sums.specs.{memberAt}
 use Rattle.level_sums.proofs.Bounds.{weight-at-most}
 use Rattle.group_sums.proofs.Moving.{Goes, leaves-fit, joins-fit, summed-moved}
-use Rattle.groups.proofs.short.Joining.{joined-at, joined-goes, joined-same}
-use Rattle.groups.proofs.short.go_over.Statement.{statement}
-use Rattle.groups.proofs.short.go_over.Tie as tie
+use Rattle.group_join.proofs.entry.Joining.{joined-at, joined-goes, joined-same}
+use Rattle.group_join.proofs.entry.go_over.Statement.{statement}
+use Rattle.group_join.proofs.entry.go_over.Tie as tie
 
 -- the entry's place is one of the members
 inside : (st : tie.Start) → st .args .i < length (now (st .args .members))

@@ -1,0 +1,2 @@
+-- The sums are over all entries at the end of a grouping.
+pub mod Covering
