@@ -10,3 +10,9 @@
 mod entry;
 
 pub use entry::join;
+
+// The total of a grouping, and the distances worked out.
+pub struct Regrouped {
+    pub total: u64,
+    pub count: u64,
+}

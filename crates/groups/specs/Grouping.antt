@@ -1,14 +1,11 @@
--- What a grouping asks, and what it leaves and answers: one definition for the plain and the shortened search.
+-- What a grouping from the former shades asks.
 use Prim.Native.Nat.{ℕ, _≤_, _<_}
-use mathlib.Core.Path.{_≡_}
 use mathlib.Core.Bool.{Bool, true, false}
 use mathlib.Core.List.{List}
 use lib.ListN.{getD, length}
 use Rattle.shades.specs.{Shades}
 use Rattle.table_entries.specs.{Tabled}
-use Rattle.method.specs.{stateOf, coloursOf, joins, grouped, totalOf}
 use Rattle.search_near.specs.{Rows, Gaps}
-use Rattle.group_sums.specs.{Summed}
 
 -- a table, some shades, and a former shade for each entry
 pub record Groupable (used : ℕ) (ks ws s : List ℕ) (k : ℕ) (members : List ℕ) : Type 0 where
@@ -22,10 +19,3 @@ pub record Groupable (used : ℕ) (ks ws s : List ℕ) (k : ℕ) (members : List
 abbrev pub Tracks : Bool → List ℕ → ℕ → List ℕ → Type 0
 Tracks true s k g = Gaps s k g
 Tracks false s k g = Rows s k g
-
--- the grouping in the members, its total, and the groups' sums
-pub record Grouped (used : ℕ) (ks ws s : List ℕ) (k : ℕ) (before after : List ℕ) (total : ℕ) (t : List ℕ)
-    : Type 0 where
-  pub members : after ≡ grouped (coloursOf used ks ws) k (stateOf s before)
-  pub total-is : total ≡ totalOf (coloursOf used ks ws) k (stateOf s before)
-  pub sums : Summed (joins (coloursOf used ks ws) k s) ks ws used t

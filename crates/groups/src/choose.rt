@@ -6,10 +6,10 @@ ghost use lib.ListN.{length};
 ghost use Rattle.shades.specs.{mostShades, Shades};
 ghost use Rattle.method.specs.{stateOf, coloursOf, shortDistances};
 ghost use Rattle.group_sums.specs.{Summed, memberAt};
-ghost use Rattle.group_join.specs.{covered};
-ghost use Rattle.groups.specs.Grouping.{Groupable, Tracks, Grouped};
-use super::Regrouped;
+ghost use Rattle.group_join.specs.{covered, Grouped};
+ghost use Rattle.groups.specs.Grouping.{Groupable, Tracks};
 use super::short::group_short;
+use group_join::Regrouped;
 
 // Fills the rows of the shades, for a small table or not. Requires shades on the grid and room.
 fn track(s: &[u32], k: usize, few: bool, g: &mut [u32])

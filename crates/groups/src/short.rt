@@ -5,9 +5,9 @@ ghost use lib.ListN.{getD};
 ghost use Rattle.shades.specs.{colourAt, toShade, nearestShade, worked};
 ghost use Rattle.method.specs.{stateOf, coloursOf, shortDistances};
 ghost use Rattle.group_sums.specs.{Summed, memberAt};
-ghost use Rattle.group_join.specs.{covered};
-ghost use Rattle.groups.specs.Grouping.{Groupable, Tracks, Grouped};
-use super::Regrouped;
+ghost use Rattle.group_join.specs.{covered, Grouped};
+ghost use Rattle.groups.specs.Grouping.{Groupable, Tracks};
+use group_join::Regrouped;
 use group_join::join;
 use search_near::Met;
 

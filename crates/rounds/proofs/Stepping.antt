@@ -11,7 +11,7 @@ use Rattle.shades.specs.{mostShades}
 use Rattle.method.specs.{State, stateOf, coloursOf, toMean, joins}
 use Rattle.group_sums.specs.{Summed, memberAt}
 use Rattle.group_sums.proofs.Moving.{summed-same}
-use Rattle.groups.specs.{Grouped}
+use Rattle.group_join.specs.{Grouped}
 use Rattle.moves.specs.{Measured, goes, stays}
 use Rattle.moves.proofs.Moving.{measured, moves-laid, movers-are}
 use Rattle.rounds.specs.Meeting.{Steppable, Walkable, StepMeets}

@@ -4,7 +4,7 @@ ghost use Rattle.group_sums.specs.{Summed, memberAt};
 ghost use Rattle.group_join.specs.{covered};
 ghost use Rattle.rounds.specs.Meeting.{Steppable, Walkable, StepMeets};
 use super::Stepped;
-use groups::Regrouped;
+use group_join::Regrouped;
 
 // One round by the plain search. Requires a table, shades on the grid and a member for each entry.
 pub fn plain_step(
@@ -24,7 +24,7 @@ pub fn plain_step(
         (r .total) (r .moved) (r .count) ⌝ }
 {
     let mut t = [0u64; 128];
-    let a = groups::group_plain(keys, weights, used, s, k, members, &mut t);
+    let a = group_all::group_plain(keys, weights, used, s, k, members, &mut t);
     let moved = moves::count_movers(&t, k, s);
     moves::move_shades(&t, k, s);
     Stepped {

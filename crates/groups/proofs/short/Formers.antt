@@ -11,7 +11,7 @@ use Rattle.shades.proofs.Nearest.{nearest-below, worked-at-most}
 use Rattle.method.specs.{coloursOf, joins}
 use Rattle.group_sums.specs.{Assigned}
 use Rattle.groups.specs.Grouping.{Groupable}
-use Rattle.groups.proofs.Turns.{Fitted, Turned, turned-length, turned-kept}
+use Rattle.group_join.proofs.Turns.{Fitted, Turned, turned-length, turned-kept}
 
 -- the distances that the shortened search of entry j works out, from its former shade
 abbrev pub shortWorks : List ℕ → List ℕ → ℕ → List ℕ → ℕ → ℕ

@@ -9,7 +9,7 @@ use Rattle.group_sums.specs.{Summed, memberAt}
 use Rattle.group_sums.proofs.Moving.{summed-same}
 use Rattle.group_join.specs.{covered}
 use Rattle.group_join.proofs.Covering.{covered-all}
-use Rattle.groups.proofs.Turns.{Turned}
+use Rattle.group_join.proofs.Turns.{Turned}
 
 -- once every entry has joined, the sums of the groups that the members tell are those of the nearest shades
 pub joined-sums : {used : ℕ} {ks ws s : List ℕ} {k : ℕ} {works : ℕ → ℕ} {before members : List ℕ}

@@ -8,7 +8,7 @@ use denote.Ref.{now}
 use borrow.Author.Needs.{needs}
 use Rattle.group_sums.specs.{Summed, memberAt}
 use Rattle.group_join.specs.{covered}
-use Rattle.groups.proofs.Turns.{
+use Rattle.group_join.proofs.Turns.{
   Turned,
   Finds,
   turned-start,

@@ -12,7 +12,7 @@ use Rattle.level_sums.specs.{redGreen, bluePixels, weighed}
 use Rattle.group_sums.specs.{raised, Summed}
 use Rattle.group_sums.proofs.Bounds.{raises-fit}
 use Rattle.group_sums.proofs.Summing.{summed-more}
-use Rattle.groups.proofs.Turns.{Turned, Finds, turned-some, turned-low, number-below}
+use Rattle.group_join.proofs.Turns.{Turned, Finds, turned-some, turned-low, number-below}
 
 module _ {used : ℕ} {ks ws s : List ℕ} {k : ℕ} {works : ℕ → ℕ} {before members : List ℕ} {total count i : ℕ}
     (x : Turned used ks ws s k works before members total count i) (l : i < used) where

@@ -8,7 +8,7 @@ use Rattle.number.specs.{fill}
 use Rattle.number.proofs.Fills.{fill-at, fill-length}
 use Rattle.shades.specs.{colourAt, Shades, packedNearest}
 use Rattle.table_entries.specs.{Tabled}
-use Rattle.groups.proofs.Turns.{Fitted, Turned, turned-length, turned-kept}
+use Rattle.group_join.proofs.Turns.{Fitted, Turned, turned-length, turned-kept}
 
 -- distance and number of the nearest shade of entry j, in one
 abbrev pub foundAt : List ℕ → List ℕ → ℕ → ℕ → ℕ

@@ -5,8 +5,8 @@ ghost use lib.ListN.{length, replicate};
 ghost use Rattle.shades.specs.{Shades};
 ghost use Rattle.table_entries.specs.{Tabled};
 ghost use Rattle.method.specs.{stateOf, coloursOf, plainDistances};
-ghost use Rattle.groups.specs.Grouping.{Grouped};
-use super::Regrouped;
+ghost use Rattle.group_join.specs.{Grouped};
+use group_join::Regrouped;
 use group_sums::gift_of;
 use group_sums::raise;
 

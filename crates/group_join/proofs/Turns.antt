@@ -18,7 +18,7 @@ use Rattle.method.specs.{coloursOf, joins, remote}
 use Rattle.method.proofs.Sizes.{fair-of-table, spent-at-most}
 use Rattle.group_sums.specs.{Summed}
 use Rattle.level_sums.proofs.Bounds.{weight-at-most}
-use Rattle.groups.specs.Grouping.{Grouped}
+use Rattle.group_join.specs.Answer.{Grouped}
 
 -- what both loops ask: a table, some shades where it has entries, a member for each entry, and at most 65 distances
 -- worked out for one

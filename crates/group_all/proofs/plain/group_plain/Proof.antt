@@ -9,7 +9,7 @@ use borrow.Author.Needs.{needs}
 use Rattle.method.specs.{coloursOf, joins}
 use Rattle.group_sums.specs.{Summed}
 use Rattle.group_sums.proofs.Summing.{summed-none}
-use Rattle.groups.proofs.Turns.{
+use Rattle.group_join.proofs.Turns.{
   Turned,
   Finds,
   turned-start,
@@ -21,10 +21,10 @@ use Rattle.groups.proofs.Turns.{
   count-fits,
   grouped-again,
 }
-use Rattle.groups.proofs.plain.Founds.{foundAt, plain-fitted, plain-length, plain-found}
-use Rattle.groups.proofs.plain.Raising.{raised-low, raised-finds, raised-fit, raised-step}
-use Rattle.groups.proofs.plain.group_plain.Statement.{statement}
-use Rattle.groups.proofs.plain.group_plain.Tie as tie
+use Rattle.group_all.proofs.plain.Founds.{foundAt, plain-fitted, plain-length, plain-found}
+use Rattle.group_all.proofs.plain.Raising.{raised-low, raised-finds, raised-fit, raised-step}
+use Rattle.group_all.proofs.plain.group_plain.Statement.{statement}
+use Rattle.group_all.proofs.plain.group_plain.Tie as tie
 
 abbrev Inv-loop : tie.InvT-loop
 Inv-loop keys weights used s k members₀ t₀ total₀ count₀ i₀ members t total count i =
