@@ -26,22 +26,22 @@ pub fn group_plain(
         × (used ≤ length (now members)) × (now t ≡ replicate 128 0) ⌝ }
     ensures grouped { λ r. ⌜ Grouped used (now (keys .entry)) (now (weights .entry))
         (now (s .entry)) k (now (members .entry)) (now (members .exit)) (r .total) (now (t .exit)) ⌝ }
-    ensures count { λ r. ⌜ r .count
+    ensures distances { λ r. ⌜ r .distances
         ≡ plainDistances (coloursOf used (now (keys .entry)) (now (weights .entry))) k
         (stateOf (now (s .entry)) (now (members .entry))) ⌝ }
 {
     search_all::search_all(keys, used, s, k, members);
     let mut total: u64 = 0;
-    let mut count: u64 = 0;
+    let mut distances: u64 = 0;
     let mut i = 0;
     while i < used {
         let a = gift_of(weights[i], keys[i], members[i]);
         let q = a.number;
         members[i] = q;
         total += a.cost;
-        count += k as u64;
+        distances += k as u64;
         raise(t, q as usize, a.first, a.second);
         i += 1;
     }
-    Regrouped { total, count }
+    Regrouped { total, distances }
 }

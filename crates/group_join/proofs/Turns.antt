@@ -34,13 +34,13 @@ abbrev pub costs : List ℕ → List ℕ → List ℕ → ℕ → ℕ → ℕ
 costs ks ws s k i = getD ws i 0 * remote s k (colourAt ks i)
 
 -- the first i entries have joined their shades, from the members before; works j distances are counted for entry j
-pub record Turned (used : ℕ) (ks ws s : List ℕ) (k : ℕ) (works : ℕ → ℕ) (before members : List ℕ) (total count i : ℕ)
-    : Type 0 where
+pub record Turned (used : ℕ) (ks ws s : List ℕ) (k : ℕ) (works : ℕ → ℕ) (before members : List ℕ)
+    (total distances i : ℕ) : Type 0 where
   pub fitted : Fitted used ks ws s k works before
   pub within : i ≤ used
   pub filled : members ≡ fill i (joins (coloursOf used ks ws) k s) before
   pub total-is : total ≡ sum i (costs ks ws s k)
-  pub count-is : count ≡ sum i works
+  pub distances-is : distances ≡ sum i works
 
 -- what entry i is found to have: its shade, and its cost
 pub record Finds (ks ws s : List ℕ) (k i number cost : ℕ) : Type 0 where
@@ -51,10 +51,10 @@ pub record Finds (ks ws s : List ℕ) (k i number cost : ℕ) : Type 0 where
 pub turned-start : {used : ℕ} {ks ws s : List ℕ} {k : ℕ} {works : ℕ → ℕ} {before : List ℕ}
     → Fitted used ks ws s k works before → Turned used ks ws s k works before before 0 0 0
 unfolding fill sum
-turned-start f = record { fitted = f; within = omega arith; filled = refl; total-is = refl; count-is = refl }
+turned-start f = record { fitted = f; within = omega arith; filled = refl; total-is = refl; distances-is = refl }
 
-module _ {used : ℕ} {ks ws s : List ℕ} {k : ℕ} {works : ℕ → ℕ} {before members : List ℕ} {total count i : ℕ}
-    (x : Turned used ks ws s k works before members total count i) where
+module _ {used : ℕ} {ks ws s : List ℕ} {k : ℕ} {works : ℕ → ℕ} {before members : List ℕ} {total distances i : ℕ}
+    (x : Turned used ks ws s k works before members total distances i) where
   -- there are as many members as before
   pub turned-length : length members ≡ length before
   turned-length = rw (x .filled) (fill-length i _ before)
@@ -71,8 +71,8 @@ module _ {used : ℕ} {ks ws s : List ℕ} {k : ℕ} {works : ℕ → ℕ} {befo
       record { members = rw e at (x .filled); total-is = rw e at (x .total-is); sums = sums }
 
   -- and is counted
-  pub turned-counted : used ≤ i → count ≡ sum used works
-  turned-counted l = let e : i ≡ used = omega (arith, x .within) in rw e at (x .count-is)
+  pub turned-distances : used ≤ i → distances ≡ sum used works
+  turned-distances l = let e : i ≡ used = omega (arith, x .within) in rw e at (x .distances-is)
 
   module _ (l : i < used) where
     -- there are shades
@@ -90,12 +90,12 @@ module _ {used : ℕ} {ks ws s : List ℕ} {k : ℕ} {works : ℕ → ℕ} {befo
       rw e (to-shade-most s (colourAt ks i) _ (x .fitted .shades .low) (colour-within (getD ks i 0))),
     )
 
-    -- the count stays below 2^64
-    pub count-fits : (n : ℕ) → n ≡ works i → count + n ≤ 18446744073709551615
-    count-fits n e =
+    -- the distances stay below 2^64
+    pub distances-fit : (n : ℕ) → n ≡ works i → distances + n ≤ 18446744073709551615
+    distances-fit n e =
         omega (
           arith,
-          x .count-is,
+          x .distances-is,
           sum-more i works,
           sum-bound (i + 1) (mostShades + 1) works (λ j h. x .fitted .few j),
           x .fitted .table .few,
@@ -116,13 +116,13 @@ module _ {used : ℕ} {ks ws s : List ℕ} {k : ℕ} {works : ℕ → ℕ} {befo
 
       -- entry i has joined
       pub turned-step : (n : ℕ) → n ≡ works i
-          → Turned used ks ws s k works before (set members i number) (total + cost) (count + n) (i + 1)
+          → Turned used ks ws s k works before (set members i number) (total + cost) (distances + n) (i + 1)
       turned-step n e = record {
         fitted = x .fitted;
         within = omega arith;
         filled = rw (x .filled, g .number-is) (fill-more i _ before (omega (arith, x .fitted .room)));
         total-is = rw (x .total-is, g .cost-is) (sym (sum-more i (costs ks ws s k)));
-        count-is = rw (x .count-is, e) (sym (sum-more i works));
+        distances-is = rw (x .distances-is, e) (sym (sum-more i works));
       }
 
 -- a grouping from members that were overwritten is one from the members before that

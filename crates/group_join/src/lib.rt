@@ -14,5 +14,5 @@ pub use entry::join;
 // The total of a grouping, and the distances worked out.
 pub struct Regrouped {
     pub total: u64,
-    pub count: u64,
+    pub distances: u64,
 }

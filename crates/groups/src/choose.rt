@@ -43,7 +43,7 @@ pub fn regroup(
         × Summed (memberAt (now members)) (now keys) (now weights) (covered anew used 0) (now t) ⌝ }
     ensures grouped { λ r. ⌜ Grouped used (now (keys .entry)) (now (weights .entry))
         (now (s .entry)) k (now (members .entry)) (now (members .exit)) (r .total) (now (t .exit)) ⌝ }
-    ensures count { λ r. ⌜ r .count
+    ensures distances { λ r. ⌜ r .distances
         ≡ shortDistances (coloursOf used (now (keys .entry)) (now (weights .entry))) k
         (stateOf (now (s .entry)) (now (members .entry))) ⌝ }
 {

@@ -30,7 +30,7 @@ fn rejoin(
     ensures distance { λ r. ⌜ r .distance
         ≡ toShade (now (s .entry)) (colourAt (now (keys .entry)) i)
         (nearestShade (now (s .entry)) k (colourAt (now (keys .entry)) i)) ⌝ }
-    ensures count { λ r. ⌜ r .count
+    ensures distances { λ r. ⌜ r .count
         ≡ worked (now (s .entry)) k (colourAt (now (keys .entry)) i)
         (getD (now (members .entry)) i 0) ⌝ }
 {
@@ -62,19 +62,19 @@ pub fn group_short(
         × Summed (memberAt (now members)) (now keys) (now weights) (covered anew used 0) (now t) ⌝ }
     ensures grouped { λ r. ⌜ Grouped used (now (keys .entry)) (now (weights .entry))
         (now (s .entry)) k (now (members .entry)) (now (members .exit)) (r .total) (now (t .exit)) ⌝ }
-    ensures count { λ r. ⌜ r .count
+    ensures distances { λ r. ⌜ r .distances
         ≡ shortDistances (coloursOf used (now (keys .entry)) (now (weights .entry))) k
         (stateOf (now (s .entry)) (now (members .entry))) ⌝ }
 {
     let mut total: u64 = 0;
-    let mut count: u64 = 0;
+    let mut distances: u64 = 0;
     let mut i = 0;
     while i < used {
         let met = rejoin(keys, weights, used, s, g, k, few, members, i);
         total += shades::cost(weights[i], met.distance);
-        count += met.count;
+        distances += met.count;
         join(keys, weights, used, members, anew, t, i, met.number);
         i += 1;
     }
-    Regrouped { total, count }
+    Regrouped { total, distances }
 }

@@ -30,7 +30,7 @@ pub fn plain_step(
     Stepped {
         total: a.total,
         moved,
-        count: a.count,
+        count: a.distances,
     }
 }
 
@@ -65,7 +65,7 @@ pub fn next_step(
     Stepped {
         total: a.total,
         moved,
-        count: a.count,
+        count: a.distances,
     }
 }
 

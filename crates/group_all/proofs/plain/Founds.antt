@@ -25,8 +25,8 @@ plain-fitted {used} {ks} {s = s} {k} before d table shades some room e = record 
   few = λ j. omega (arith, shades .few);
 }
 
-module _ {used : ℕ} {ks ws s : List ℕ} {k : ℕ} {works : ℕ → ℕ} {before members : List ℕ} {total count i : ℕ}
-    (x : Turned used ks ws s k works before members total count i) (d : List ℕ)
+module _ {used : ℕ} {ks ws s : List ℕ} {k : ℕ} {works : ℕ → ℕ} {before members : List ℕ} {total distances i : ℕ}
+    (x : Turned used ks ws s k works before members total distances i) (d : List ℕ)
     (e : before ≡ fill used (foundAt ks s k) d) where
   -- there are as many members as before the search
   pub plain-length : length members ≡ length d

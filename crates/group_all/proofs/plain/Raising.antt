@@ -14,8 +14,8 @@ use Rattle.group_sums.proofs.Bounds.{raises-fit}
 use Rattle.group_sums.proofs.Summing.{summed-more}
 use Rattle.group_join.proofs.Turns.{Turned, Finds, turned-some, turned-low, number-below}
 
-module _ {used : ℕ} {ks ws s : List ℕ} {k : ℕ} {works : ℕ → ℕ} {before members : List ℕ} {total count i : ℕ}
-    (x : Turned used ks ws s k works before members total count i) (l : i < used) where
+module _ {used : ℕ} {ks ws s : List ℕ} {k : ℕ} {works : ℕ → ℕ} {before members : List ℕ} {total distances i : ℕ}
+    (x : Turned used ks ws s k works before members total distances i) (l : i < used) where
   -- weight and distance are those of a table
   pub raised-low : (best : ℕ) → best ≡ packedNearest s k (colourAt ks i)
       → (getD ws i 0 ≤ mostPixels) × (best / mostShades ≤ mostDistance)

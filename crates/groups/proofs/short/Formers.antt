@@ -28,8 +28,8 @@ module _ {used : ℕ} {ks ws s : List ℕ} {k : ℕ} {before : List ℕ} (y : Gr
     few = λ j. omega (arith, worked-at-most s k (colourAt ks j) (getD before j 0), y .shades .few);
   }
 
-  module _ {members : List ℕ} {total count i : ℕ}
-      (x : Turned used ks ws s k (shortWorks ks s k before) before members total count i) where
+  module _ {members : List ℕ} {total distances i : ℕ}
+      (x : Turned used ks ws s k (shortWorks ks s k before) before members total distances i) where
     -- each member is the number of a shade, before its turn and after
     short-joined : (j : ℕ) → j < used → getD members j 0 < k
     short-joined j h =

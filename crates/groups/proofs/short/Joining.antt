@@ -13,7 +13,8 @@ use Rattle.group_join.proofs.Turns.{Turned}
 
 -- once every entry has joined, the sums of the groups that the members tell are those of the nearest shades
 pub joined-sums : {used : ℕ} {ks ws s : List ℕ} {k : ℕ} {works : ℕ → ℕ} {before members : List ℕ}
-    {total count i : ℕ} {t : List ℕ} (anew : Bool) → Turned used ks ws s k works before members total count i → used ≤ i
+    {total distances i : ℕ} {t : List ℕ} (anew : Bool)
+    → Turned used ks ws s k works before members total distances i → used ≤ i
     → Summed (memberAt members) ks ws (covered anew used i) t → Summed (joins (coloursOf used ks ws) k s) ks ws used t
 joined-sums {used} {ks} {ws} {s} {k} {before = before} {members} {i = i} {t} anew x l sums =
     let m = joins (coloursOf used ks ws) k s in

@@ -16,9 +16,9 @@ use Rattle.group_join.proofs.Turns.{
   turned-length,
   turned-step,
   turned-done,
-  turned-counted,
+  turned-distances,
   total-fits,
-  count-fits,
+  distances-fit,
   grouped-again,
 }
 use Rattle.group_all.proofs.plain.Founds.{foundAt, plain-fitted, plain-length, plain-found}
@@ -27,12 +27,12 @@ use Rattle.group_all.proofs.plain.group_plain.Statement.{statement}
 use Rattle.group_all.proofs.plain.group_plain.Tie as tie
 
 abbrev Inv-loop : tie.InvT-loop
-Inv-loop keys weights used s k members₀ t₀ total₀ count₀ i₀ members t total count i =
-    Turned used keys weights s k (λ j. k) members₀ members total count i
+Inv-loop keys weights used s k members₀ t₀ total₀ distances₀ i₀ members t total distances i =
+    Turned used keys weights s k (λ j. k) members₀ members total distances i
     × Summed (joins (coloursOf used keys weights) k s) keys weights i t
 
 abbrev μ-loop : tie.MeasureT-loop
-μ-loop keys weights used s k members₀ t₀ total₀ count₀ i₀ members t total count i = used - i
+μ-loop keys weights used s k members₀ t₀ total₀ distances₀ i₀ members t total distances i = used - i
 
 -- where the plain search is done, and where the grouping begins
 abbrev searched : tie.At-loop Inv-loop μ-loop → tie.After-search-all Inv-loop μ-loop
@@ -103,8 +103,8 @@ slice-write-members c = let x = c .before .before .before .before .before .loop 
 add-total : tie.Need-add-total Inv-loop μ-loop
 add-total c = omega (arith, total-fits (c .before .before .before .before .before .before .loop .inv .0) (c .before .before .before .before .before .loop-test .taken) (finds-at (c .before)))
 
-add-count : tie.Need-add-count Inv-loop μ-loop
-add-count c = omega (arith, count-fits (c .before .before .before .before .before .before .loop .inv .0) (c .before .before .before .before .before .loop-test .taken) (st (c .before .before .before .before .before .before) .args .k) refl)
+add-distances : tie.Need-add-distances Inv-loop μ-loop
+add-distances c = omega (arith, distances-fit (c .before .before .before .before .before .before .loop .inv .0) (c .before .before .before .before .before .loop-test .taken) (st (c .before .before .before .before .before .before) .args .k) refl)
 
 cast-raise : tie.Need-cast-raise Inv-loop μ-loop
 cast-raise c = search needs
@@ -139,7 +139,7 @@ returns c =
     let h = c .loop-test .left in
     let e : c .before .loop .i ≡ st (c .before) .args .used = omega (arith, x .0 .within) in (
       grouped-again _ _ (searched (c .before) .search-all .ensures) (turned-done (x .0) h (rw e at (x .1))),
-      turned-counted (x .0) h,
+      turned-distances (x .0) h,
     )
 
 pub group-plain-spec : {M : Type 1} → statement M
@@ -160,7 +160,7 @@ group-plain-spec =
     mul-members
     slice-write-members
     add-total
-    add-count
+    add-distances
     cast-raise
     raise-requires
     add-i

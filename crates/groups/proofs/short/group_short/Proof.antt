@@ -16,10 +16,10 @@ use Rattle.group_join.proofs.Turns.{
   turned-low,
   turned-step,
   turned-done,
-  turned-counted,
+  turned-distances,
   number-below,
   total-fits,
-  count-fits,
+  distances-fit,
 }
 use Rattle.groups.proofs.short.Formers.{shortWorks, short-fitted, short-again, short-worked, short-assigned}
 use Rattle.groups.proofs.short.Joining.{joined-sums}
@@ -27,12 +27,12 @@ use Rattle.groups.proofs.short.group_short.Statement.{statement}
 use Rattle.groups.proofs.short.group_short.Tie as tie
 
 abbrev Inv-loop : tie.InvT-loop
-Inv-loop keys weights used s g k few members₀ anew t₀ total₀ count₀ i₀ members t total count i =
-    Turned used keys weights s k (shortWorks keys s k members₀) members₀ members total count i
+Inv-loop keys weights used s g k few members₀ anew t₀ total₀ distances₀ i₀ members t total distances i =
+    Turned used keys weights s k (shortWorks keys s k members₀) members₀ members total distances i
     × Summed (memberAt members) keys weights (covered anew used i) t
 
 abbrev μ-loop : tie.MeasureT-loop
-μ-loop keys weights used s g k few members₀ anew t₀ total₀ count₀ i₀ members t total count i = used - i
+μ-loop keys weights used s g k few members₀ anew t₀ total₀ distances₀ i₀ members t total distances i = used - i
 
 -- where the grouping begins
 abbrev st : tie.At-loop Inv-loop μ-loop → tie.Start Inv-loop μ-loop
@@ -70,12 +70,12 @@ cost-requires c κs = turned-low (c .before .before .before .before .loop .inv .
 add-total : tie.Need-add-total Inv-loop μ-loop
 add-total c = omega (arith, total-fits (c .before .before .before .before .before .loop .inv .0) (c .before .before .before .before .loop-test .taken) (finds-at c))
 
-add-count : tie.Need-add-count Inv-loop μ-loop
-add-count c =
+add-distances : tie.Need-add-distances Inv-loop μ-loop
+add-distances c =
     let x = c .before .before .before .before .before .before .loop .inv .0 in
     omega (
       arith,
-      count-fits x (c .before .before .before .before .before .loop-test .taken) (c .before .before .before .rejoin .result .count)
+      distances-fit x (c .before .before .before .before .before .loop-test .taken) (c .before .before .before .rejoin .result .count)
           (short-worked (st (c .before .before .before .before .before .before) .pre .0) x _ (c .before .before .before .rejoin .ensures .1 .1)),
     )
 
@@ -112,7 +112,7 @@ returns : tie.Need-returns Inv-loop μ-loop
 returns c =
     let x = c .before .loop .inv .0 in
     let h = c .loop-test .left in
-    (turned-done x h (joined-sums (st (c .before) .args .anew) x h (c .before .loop .inv .1)), turned-counted x h)
+    (turned-done x h (joined-sums (st (c .before) .args .anew) x h (c .before .loop .inv .1)), turned-distances x h)
 
 pub group-short-spec : {M : Type 1} → statement M
 group-short-spec =
@@ -126,7 +126,7 @@ group-short-spec =
     shared-slice-read-cost
     cost-requires
     add-total
-    add-count
+    add-distances
     join-requires
     add-i
     loop-less
