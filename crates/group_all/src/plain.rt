@@ -11,26 +11,27 @@ use group_sums::gift_of;
 use group_sums::raise;
 
 // Groups the table by the plain search and leaves the grouping in the members, which stay past the
-// used entries, and the groups' sums in `t`. Requires a table, some shades, a member for each entry,
-// and sums that are 0.
+// used entries, and the groups' sums in `sums`. Requires a table, some shades, a member for each
+// entry, and sums that are 0.
 pub fn group_plain(
     keys: &[u32],
     weights: &[u32],
     used: usize,
-    s: &[u32],
-    k: usize,
+    shades: &[u32],
+    count: usize,
     members: &mut [u32],
-    t: &mut [u64; 128],
+    sums: &mut [u64; 128],
 ) -> Regrouped
-    requires { ⌜ Tabled used (now keys) (now weights) × Shades k (now s) × (0 < k)
-        × (used ≤ length (now members)) × (now t ≡ replicate 128 0) ⌝ }
+    requires { ⌜ Tabled used (now keys) (now weights) × Shades count (now shades) × (0 < count)
+        × (used ≤ length (now members)) × (now sums ≡ replicate 128 0) ⌝ }
     ensures grouped { λ r. ⌜ Grouped used (now (keys .entry)) (now (weights .entry))
-        (now (s .entry)) k (now (members .entry)) (now (members .exit)) (r .total) (now (t .exit)) ⌝ }
+        (now (shades .entry)) count (now (members .entry)) (now (members .exit))
+        (r .total) (now (sums .exit)) ⌝ }
     ensures distances { λ r. ⌜ r .distances
-        ≡ plainDistances (coloursOf used (now (keys .entry)) (now (weights .entry))) k
-        (stateOf (now (s .entry)) (now (members .entry))) ⌝ }
+        ≡ plainDistances (coloursOf used (now (keys .entry)) (now (weights .entry))) count
+        (stateOf (now (shades .entry)) (now (members .entry))) ⌝ }
 {
-    search_all::search_all(keys, used, s, k, members);
+    search_all::search_all(keys, used, shades, count, members);
     let mut total: u64 = 0;
     let mut distances: u64 = 0;
     let mut i = 0;
@@ -39,8 +40,8 @@ pub fn group_plain(
         let q = a.number;
         members[i] = q;
         total += a.cost;
-        distances += k as u64;
-        raise(t, q as usize, a.first, a.second);
+        distances += count as u64;
+        raise(sums, q as usize, a.first, a.second);
         i += 1;
     }
     Regrouped { total, distances }

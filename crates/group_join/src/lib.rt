@@ -2,8 +2,10 @@
 // numbers that are lent, at 2q and 2q + 1 those of group q.
 //
 // Calls; none refuses, and what one requires stands above it
-//   join   entry i to group q: the sums over the entries before it become those over it too, or, where
-//          they are over all entries, what it gives goes along from its former group   entry.rt
+//   join   entry i joins group q, and the sums follow   entry.rt
+// Sums that are taken anew are over the entries before i, and then over i too; those that go on from
+// the former groups are over all entries, and what entry i gives goes along.
+// What a grouping answers, whichever search finds the shades, is `Regrouped`.
 //
 // Read next: specs/Lib.antt (what the words mean), proofs/Lib.antt (what is shown).
 

@@ -96,9 +96,9 @@ summed-moved {m} {m′} ks ws {n} {i} {t} s g h few few′ =
     record {
       long = simp length-set (s .long);
       red-green =
-          given-moved g h (weighed redGreen ks ws) (λ q. getD t (2 * q) 0) (λ q. getD u (2 * q) 0) (λ q. getD v (2 * q) 0)
-          (s .red-green) few few′ (placed-first t (m i) _ _ (s .long) few) (placed-other-first t (m i) _ _)
-          (placed-first u (m′ i) _ _ long few′) (placed-other-first u (m′ i) _ _);
+          given-moved g h (weighed redGreen ks ws) (λ q. getD t (2 * q) 0) (λ q. getD u (2 * q) 0)
+          (λ q. getD v (2 * q) 0) (s .red-green) few few′ (placed-first t (m i) _ _ (s .long) few)
+          (placed-other-first t (m i) _ _) (placed-first u (m′ i) _ _ long few′) (placed-other-first u (m′ i) _ _);
       blue-pixels =
           given-moved g h (weighed bluePixels ks ws) (λ q. getD t (2 * q + 1) 0) (λ q. getD u (2 * q + 1) 0)
           (λ q. getD v (2 * q + 1) 0) (s .blue-pixels) few few′ (placed-second t (m i) _ _ (s .long) few)

@@ -84,6 +84,6 @@ summed-more m ks ws i t s few =
           given-more m (weighed redGreen ks ws) (λ q. getD t (2 * q) 0) (λ q. getD u (2 * q) 0) i (s .red-green)
           (placed-first t (m i) _ _ (s .long) few) (placed-other-first t (m i) _ _);
       blue-pixels =
-          given-more m (weighed bluePixels ks ws) (λ q. getD t (2 * q + 1) 0) (λ q. getD u (2 * q + 1) 0) i (s .blue-pixels)
-          (placed-second t (m i) _ _ (s .long) few) (placed-other-second t (m i) _ _);
+          given-more m (weighed bluePixels ks ws) (λ q. getD t (2 * q + 1) 0) (λ q. getD u (2 * q + 1) 0) i
+          (s .blue-pixels) (placed-second t (m i) _ _ (s .long) few) (placed-other-second t (m i) _ _);
     }

@@ -27,36 +27,36 @@ pub fn gift_of(weight: u32, key: u32, best: u32) -> Gift
     }
 }
 
-// Puts `x` and `y` in the places of the two sums of group `q`.
-fn put(t: &mut [u64; 128], q: usize, x: u64, y: u64)
+// Puts `first` and `second` in the places of the two sums of group `q`.
+fn put(sums: &mut [u64; 128], q: usize, first: u64, second: u64)
     requires { ⌜ q < mostShades ⌝ }
-    ensures { λ _. ⌜ now (t .exit) ≡ placed (now (t .entry)) q x y ⌝ }
+    ensures { λ _. ⌜ now (sums .exit) ≡ placed (now (sums .entry)) q first second ⌝ }
 {
     let a = 2 * q;
-    t[a] = x;
-    t[a + 1] = y;
+    sums[a] = first;
+    sums[a + 1] = second;
 }
 
-// Adds `x` and `y` to the two sums of group `q`. Requires that the sums stay below 2^64.
-pub fn raise(t: &mut [u64; 128], q: usize, x: u64, y: u64)
-    requires { ⌜ (q < mostShades) × (getD (now t) (2 * q) 0 + x ≤ 18446744073709551615)
-        × (getD (now t) (2 * q + 1) 0 + y ≤ 18446744073709551615) ⌝ }
-    ensures { λ _. ⌜ now (t .exit) ≡ raised (now (t .entry)) q x y ⌝ }
+// Adds `first` and `second` to the two sums of group `q`. Requires that the sums stay below 2^64.
+pub fn raise(sums: &mut [u64; 128], q: usize, first: u64, second: u64)
+    requires { ⌜ (q < mostShades) × (getD (now sums) (2 * q) 0 + first ≤ 18446744073709551615)
+        × (getD (now sums) (2 * q + 1) 0 + second ≤ 18446744073709551615) ⌝ }
+    ensures { λ _. ⌜ now (sums .exit) ≡ raised (now (sums .entry)) q first second ⌝ }
 {
     let a = 2 * q;
-    let red_green = t[a] + x;
-    let blue_pixels = t[a + 1] + y;
-    put(t, q, red_green, blue_pixels);
+    let red_green = sums[a] + first;
+    let blue_pixels = sums[a + 1] + second;
+    put(sums, q, red_green, blue_pixels);
 }
 
-// Takes `x` and `y` from the two sums of group `q`. Requires that they are in them.
-pub fn lower(t: &mut [u64; 128], q: usize, x: u64, y: u64)
-    requires { ⌜ (q < mostShades) × (x ≤ getD (now t) (2 * q) 0)
-        × (y ≤ getD (now t) (2 * q + 1) 0) ⌝ }
-    ensures { λ _. ⌜ now (t .exit) ≡ lowered (now (t .entry)) q x y ⌝ }
+// Takes `first` and `second` from the two sums of group `q`. Requires that they are in them.
+pub fn lower(sums: &mut [u64; 128], q: usize, first: u64, second: u64)
+    requires { ⌜ (q < mostShades) × (first ≤ getD (now sums) (2 * q) 0)
+        × (second ≤ getD (now sums) (2 * q + 1) 0) ⌝ }
+    ensures { λ _. ⌜ now (sums .exit) ≡ lowered (now (sums .entry)) q first second ⌝ }
 {
     let a = 2 * q;
-    let red_green = t[a] - x;
-    let blue_pixels = t[a + 1] - y;
-    put(t, q, red_green, blue_pixels);
+    let red_green = sums[a] - first;
+    let blue_pixels = sums[a + 1] - second;
+    put(sums, q, red_green, blue_pixels);
 }

@@ -1,5 +1,5 @@
-// Each colour of a table joins its nearest shade, found by the shortened search from its former one.
-// The groups' sums stand in 128 numbers that are lent, at 2q and 2q + 1 those of group q.
+// Each colour of a table joins its nearest shade, found by the shortened search from its former
+// one. The groups' sums stand in 128 numbers that are lent, at 2q and 2q + 1 those of group q.
 //
 // Calls; none refuses, and what one requires stands above it
 //   regroup   by the shortened search, with the rows that are quicker for the table   choose.rt

@@ -11,69 +11,72 @@ use group_join::Regrouped;
 use group_join::join;
 use search_near::Met;
 
-// The nearest shade of entry `i`, from its member, by the rows that `g` has.
+// The nearest shade of entry `i`, from its member, by the rows in `rows`.
 fn rejoin(
     keys: &[u32],
     weights: &[u32],
     used: usize,
-    s: &[u32],
-    g: &[u32],
-    k: usize,
+    shades: &[u32],
+    count: usize,
+    rows: &[u32],
     few: bool,
     members: &[u32],
     i: usize,
 ) -> Met
-    requires { ⌜ Groupable used (now keys) (now weights) (now s) k (now members)
-        × Tracks few (now s) k (now g) × (i < used) ⌝ }
+    requires { ⌜ Groupable used (now keys) (now weights) (now shades) count (now members)
+        × Tracks few (now shades) count (now rows) × (i < used) ⌝ }
     ensures number { λ r. ⌜ r .number
-        ≡ nearestShade (now (s .entry)) k (colourAt (now (keys .entry)) i) ⌝ }
+        ≡ nearestShade (now (shades .entry)) count (colourAt (now (keys .entry)) i) ⌝ }
     ensures distance { λ r. ⌜ r .distance
-        ≡ toShade (now (s .entry)) (colourAt (now (keys .entry)) i)
-        (nearestShade (now (s .entry)) k (colourAt (now (keys .entry)) i)) ⌝ }
+        ≡ toShade (now (shades .entry)) (colourAt (now (keys .entry)) i)
+        (nearestShade (now (shades .entry)) count (colourAt (now (keys .entry)) i)) ⌝ }
     ensures distances { λ r. ⌜ r .count
-        ≡ worked (now (s .entry)) k (colourAt (now (keys .entry)) i)
+        ≡ worked (now (shades .entry)) count (colourAt (now (keys .entry)) i)
         (getD (now (members .entry)) i 0) ⌝ }
 {
     let p = members[i] as usize;
     let c = colour::colour_of(keys[i]);
     if few {
-        return search_near::walk_gaps(s, g, k, c, p);
+        return search_near::walk_gaps(shades, rows, count, c, p);
     }
-    search_near::walk(s, g, k, c, p)
+    search_near::walk(shades, rows, count, c, p)
 }
 
 // Groups the table by the shortened search and leaves the grouping in the members, which stay past
-// the used entries, and the groups' sums in `t`. Requires a table, shades with their rows, a former
-// shade for each entry, and in `t` the sums of the former groups, or zeros where they are taken anew.
+// the used entries, and the groups' sums in `sums`. Requires a table, shades with their rows, a
+// former shade for each entry, and in `sums` those of the former groups, or zeros where they are
+// taken anew.
 pub fn group_short(
     keys: &[u32],
     weights: &[u32],
     used: usize,
-    s: &[u32],
-    g: &[u32],
-    k: usize,
+    shades: &[u32],
+    count: usize,
+    rows: &[u32],
     few: bool,
     members: &mut [u32],
     anew: bool,
-    t: &mut [u64; 128],
+    sums: &mut [u64; 128],
 ) -> Regrouped
-    requires { ⌜ Groupable used (now keys) (now weights) (now s) k (now members)
-        × Tracks few (now s) k (now g)
-        × Summed (memberAt (now members)) (now keys) (now weights) (covered anew used 0) (now t) ⌝ }
+    requires { ⌜ Groupable used (now keys) (now weights) (now shades) count (now members)
+        × Tracks few (now shades) count (now rows)
+        × Summed (memberAt (now members)) (now keys) (now weights)
+        (covered anew used 0) (now sums) ⌝ }
     ensures grouped { λ r. ⌜ Grouped used (now (keys .entry)) (now (weights .entry))
-        (now (s .entry)) k (now (members .entry)) (now (members .exit)) (r .total) (now (t .exit)) ⌝ }
+        (now (shades .entry)) count (now (members .entry)) (now (members .exit))
+        (r .total) (now (sums .exit)) ⌝ }
     ensures distances { λ r. ⌜ r .distances
-        ≡ shortDistances (coloursOf used (now (keys .entry)) (now (weights .entry))) k
-        (stateOf (now (s .entry)) (now (members .entry))) ⌝ }
+        ≡ shortDistances (coloursOf used (now (keys .entry)) (now (weights .entry))) count
+        (stateOf (now (shades .entry)) (now (members .entry))) ⌝ }
 {
     let mut total: u64 = 0;
     let mut distances: u64 = 0;
     let mut i = 0;
     while i < used {
-        let met = rejoin(keys, weights, used, s, g, k, few, members, i);
+        let met = rejoin(keys, weights, used, shades, count, rows, few, members, i);
         total += shades::cost(weights[i], met.distance);
         distances += met.count;
-        join(keys, weights, used, members, anew, t, i, met.number);
+        join(keys, weights, used, members, anew, sums, i, met.number);
         i += 1;
     }
     Regrouped { total, distances }

@@ -1,5 +1,5 @@
--- The levels of a colour, two in one number, so that a table's sums of both are taken at once: each sum is below 2^32, as
--- a table has at most 2^24 pixels.
+-- The levels of a colour, two in one number, so that a table's sums of both are taken at once: each sum is below 2^32,
+-- as a table has at most 2^24 pixels.
 use Prim.Native.Nat.{ℕ, _+_, _*_}
 use mathlib.Core.List.{List}
 use lib.ListN.{getD}

@@ -1,5 +1,5 @@
-// Sums of levels, two in one number of 64 bits: what an entry of a table has of red and green, and of
-// blue and pixels; both over all entries; and the two sums taken apart.
+// Sums of levels, two in one number of 64 bits: what an entry of a table has of red and green, and
+// of blue and pixels; both over all entries; and the two sums taken apart.
 //
 // Calls; none refuses, and what one requires stands above it
 //   red_green     weight times red and green level, in one    pair.rt

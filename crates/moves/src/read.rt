@@ -6,17 +6,17 @@ ghost use Rattle.moves.specs.Reading.{sumIn};
 use level_sums::high;
 use level_sums::low;
 
-// The sum of coordinate `e` over group `q`. Requires one of three coordinates and of 64 groups.
-pub fn sum_in(t: &[u64; 128], e: usize, q: usize) -> u64
-    requires { ⌜ (e < 3) × (q < mostShades) ⌝ }
-    ensures { λ r. ⌜ r ≡ sumIn (now (t .entry)) e q ⌝ }
+// The sum of coordinate `axis` over group `q`. Requires one of three coordinates and of 64 groups.
+pub fn sum_in(sums: &[u64; 128], axis: usize, q: usize) -> u64
+    requires { ⌜ (axis < 3) × (q < mostShades) ⌝ }
+    ensures { λ r. ⌜ r ≡ sumIn (now (sums .entry)) axis q ⌝ }
 {
     let a = 2 * q;
-    if e == 0 {
-        return high(t[a]);
+    if axis == 0 {
+        return high(sums[a]);
     }
-    if e == 1 {
-        return low(t[a]);
+    if axis == 1 {
+        return low(sums[a]);
     }
-    high(t[a + 1])
+    high(sums[a + 1])
 }

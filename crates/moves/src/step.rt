@@ -8,63 +8,65 @@ ghost use Rattle.shades.specs.{mostShades, mostCoordinates};
 ghost use Rattle.moves.specs.Reading.{goes, stays, Measured};
 use super::read::sum_in;
 
-// Where coordinate `n` goes. Requires sums of a table's groups, and that the coordinate is there.
-fn new_coordinate(t: &[u64; 128], s: &[u32], n: usize) -> u32
-    requires { ⌜ Measured (now t) × (n < mostCoordinates) × (n < length (now s)) ⌝ }
-    ensures { λ r. ⌜ r ≡ goes (now (t .entry)) (now (s .entry)) n ⌝ }
+// Where coordinate `i` goes. Requires sums of a table's groups, and that the coordinate is there.
+fn new_coordinate(sums: &[u64; 128], shades: &[u32], i: usize) -> u32
+    requires { ⌜ Measured (now sums) × (i < mostCoordinates) × (i < length (now shades)) ⌝ }
+    ensures { λ r. ⌜ r ≡ goes (now (sums .entry)) (now (shades .entry)) i ⌝ }
 {
-    let q = n / 3;
-    let pixels = t[2 * q + 1] % 4294967296;
+    let q = i / 3;
+    let pixels = sums[2 * q + 1] % 4294967296;
     if pixels == 0 {
-        return s[n];
+        return shades[i];
     }
-    colour::rounded_mean(pixels, sum_in(t, n % 3, q))
+    colour::rounded_mean(pixels, sum_in(sums, i % 3, q))
 }
 
-// Moves the first `k` shades. Requires sums of a table's groups, and that the shades are there.
-pub fn move_shades(t: &[u64; 128], k: usize, s: &mut [u32])
-    requires { ⌜ Measured (now t) × (k ≤ mostShades) × (3 * k ≤ length (now s)) ⌝ }
-    ensures { λ _. ⌜ now (s .exit)
-        ≡ fill (3 * k) (goes (now (t .entry)) (now (s .entry))) (now (s .entry)) ⌝ }
+// Moves the first `count` shades. Requires sums of a table's groups, and that the shades are there.
+pub fn move_shades(sums: &[u64; 128], shades: &mut [u32], count: usize)
+    requires { ⌜ Measured (now sums) × (count ≤ mostShades) × (3 * count ≤ length (now shades)) ⌝ }
+    ensures { λ _. ⌜ now (shades .exit)
+        ≡ fill (3 * count) (goes (now (sums .entry)) (now (shades .entry)))
+        (now (shades .entry)) ⌝ }
 {
-    let end = 3 * k;
-    let mut n = 0;
-    while n < end {
-        s[n] = new_coordinate(t, s, n);
-        n += 1;
+    let end = 3 * count;
+    let mut i = 0;
+    while i < end {
+        shades[i] = new_coordinate(sums, shades, i);
+        i += 1;
     }
 }
 
-// `count`, and one more where shade `q` moves.
-fn count_mover(t: &[u64; 128], s: &[u32], q: usize, count: u32) -> u32
-    requires { ⌜ Measured (now t) × (q < mostShades) × (3 * q + 2 < length (now s))
-        × (count ≤ q) ⌝ }
+// `moved`, and one more where shade `q` moves.
+fn count_mover(sums: &[u64; 128], shades: &[u32], q: usize, moved: u32) -> u32
+    requires { ⌜ Measured (now sums) × (q < mostShades) × (3 * q + 2 < length (now shades))
+        × (moved ≤ q) ⌝ }
     ensures { λ r. ⌜ r
-        ≡ cond (not (stays (now (t .entry)) (now (s .entry)) q)) (count + 1) count ⌝ }
+        ≡ cond (not (stays (now (sums .entry)) (now (shades .entry)) q)) (moved + 1) moved ⌝ }
 {
     let i = 3 * q;
-    if new_coordinate(t, s, i) != s[i] {
-        return count + 1;
+    if new_coordinate(sums, shades, i) != shades[i] {
+        return moved + 1;
     }
-    if new_coordinate(t, s, i + 1) != s[i + 1] {
-        return count + 1;
+    if new_coordinate(sums, shades, i + 1) != shades[i + 1] {
+        return moved + 1;
     }
-    if new_coordinate(t, s, i + 2) != s[i + 2] {
-        return count + 1;
+    if new_coordinate(sums, shades, i + 2) != shades[i + 2] {
+        return moved + 1;
     }
-    count
+    moved
 }
 
-// How many of the first `k` shades move. Requires what move_shades does.
-pub fn count_movers(t: &[u64; 128], k: usize, s: &[u32]) -> u32
-    requires { ⌜ Measured (now t) × (k ≤ mostShades) × (3 * k ≤ length (now s)) ⌝ }
-    ensures { λ r. ⌜ r ≡ howMany k (λ q. not (stays (now (t .entry)) (now (s .entry)) q)) ⌝ }
+// How many of the first `count` shades move. Requires what move_shades does.
+pub fn count_movers(sums: &[u64; 128], shades: &[u32], count: usize) -> u32
+    requires { ⌜ Measured (now sums) × (count ≤ mostShades) × (3 * count ≤ length (now shades)) ⌝ }
+    ensures { λ r. ⌜ r
+        ≡ howMany count (λ q. not (stays (now (sums .entry)) (now (shades .entry)) q)) ⌝ }
 {
-    let mut count: u32 = 0;
+    let mut moved: u32 = 0;
     let mut q = 0;
-    while q < k {
-        count = count_mover(t, s, q, count);
+    while q < count {
+        moved = count_mover(sums, shades, q, moved);
         q += 1;
     }
-    count
+    moved
 }

@@ -25,8 +25,8 @@ pub fn plain_step(
 {
     let mut t = [0u64; 128];
     let a = group_all::group_plain(keys, weights, used, s, k, members, &mut t);
-    let moved = moves::count_movers(&t, k, s);
-    moves::move_shades(&t, k, s);
+    let moved = moves::count_movers(&t, s, k);
+    moves::move_shades(&t, s, k);
     Stepped {
         total: a.total,
         moved,
@@ -60,8 +60,8 @@ pub fn next_step(
 {
     let mut g = [0u32; 4096];
     let a = groups::regroup(keys, weights, used, s, k, &mut g, members, anew, t);
-    let moved = moves::count_movers(t, k, s);
-    moves::move_shades(t, k, s);
+    let moved = moves::count_movers(t, s, k);
+    moves::move_shades(t, s, k);
     Stepped {
         total: a.total,
         moved,

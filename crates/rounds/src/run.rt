@@ -45,7 +45,7 @@ pub fn run_from(
         ≡ finalOf (coloursOf used (now (keys .entry)) (now (weights .entry)))
         (stateOf (now (s .exit)) (now (members .exit))) ⌝ }
 {
-    starts::fill_starts(keys, used, base, k, s, members);
+    starts::fill_starts(keys, used, base, s, k, members);
     let a = make_rounds(keys, weights, used, k, limit, s, members, totals);
     let total = final_total(keys, weights, used, k, s, members);
     Whole {

@@ -29,14 +29,14 @@ pub fn lower(keys: &[u32], used: usize, p: Point, d: &mut [u32]) -> u32
     far
 }
 
-// What no kept distance from place `a` up to place `e` is above. Requires that they are there.
-fn block_peak(d: &[u32], a: usize, e: usize) -> u32
-    requires { ⌜ (a ≤ e) × (e ≤ length (now d)) ⌝ }
-    ensures { λ r. ⌜ ((j : ℕ) → a ≤ j → j < e → getD (now (d .entry)) j 0 ≤ r) ⌝ }
+// What no kept distance from place `from` up to place `end` is above. Requires that they are there.
+fn block_peak(d: &[u32], from: usize, end: usize) -> u32
+    requires { ⌜ (from ≤ end) × (end ≤ length (now d)) ⌝ }
+    ensures { λ r. ⌜ ((j : ℕ) → from ≤ j → j < end → getD (now (d .entry)) j 0 ≤ r) ⌝ }
 {
     let mut far: u32 = 0;
-    let mut i = a;
-    while i < e {
+    let mut i = from;
+    while i < end {
         far = greater(far, d[i]);
         i += 1;
     }
@@ -50,11 +50,11 @@ fn skip_blocks(d: &[u32], used: usize, far: u32) -> usize
 {
     let mut i = 0;
     while 512 <= used - i {
-        let e = i + 512;
-        if far <= block_peak(d, i, e) {
+        let end = i + 512;
+        if far <= block_peak(d, i, end) {
             return i;
         }
-        i = e;
+        i = end;
     }
     i
 }

@@ -1,5 +1,6 @@
-// Maximin starting shades, and the mean of a table, from which they begin. The members are the scratch in which each entry's distance to its
-// nearest shade so far is kept: one distance is worked out for each colour and shade.
+// Maximin starting shades, and the mean of a table, from which they begin. The members are the
+// scratch in which each entry's distance to its nearest shade so far is kept: one distance is
+// worked out for each colour and shade.
 //
 // Calls; none refuses, and what one requires stands above it
 //   fill_starts   the starting shades from given ones               fill.rt

@@ -1,5 +1,5 @@
--- The turn of a plain grouping: what the search left gives the shade and the cost, and the sums of the shade's group are
--- raised.
+-- The turn of a plain grouping: what the search left gives the shade and the cost, and the sums of the shade's group
+-- are raised.
 use Prim.Native.Nat.{ℕ, _+_, _*_, _/_, _%_, _≤_, _<_}
 use mathlib.Core.List.{List}
 use mathlib.Core.Path.{_≡_, ap, _∙_}
@@ -29,16 +29,18 @@ module _ {used : ℕ} {ks ws s : List ℕ} {k : ℕ} {works : ℕ → ℕ} {befo
       let f = packed-found s k (colourAt ks i) (turned-some x l) (x .fitted .shades .few) best e in
       record { number-is = n ∙ f .0; cost-is = c ∙ ap (λ d. getD ws i 0 * d) (f .1) }
 
-  module _ {t : List ℕ} (sums : Summed (joins (coloursOf used ks ws) k s) ks ws i t) {number cost two one : ℕ}
-      (g : Finds ks ws s k i number cost) (p : two ≡ weighed redGreen ks ws i) (q : one ≡ weighed bluePixels ks ws i) where
+  module _ {t : List ℕ} (sums : Summed (joins (coloursOf used ks ws) k s) ks ws i t) {number cost first second : ℕ}
+      (g : Finds ks ws s k i number cost) (p : first ≡ weighed redGreen ks ws i)
+      (q : second ≡ weighed bluePixels ks ws i) where
     -- the sums of the entry's group are there and stay below 2^64
-    pub raised-fit : (number < mostShades) × (getD t (2 * number) 0 + two ≤ 18446744073709551615)
-        × (getD t (2 * number + 1) 0 + one ≤ 18446744073709551615)
+    pub raised-fit : (number < mostShades) × (getD t (2 * number) 0 + first ≤ 18446744073709551615)
+        × (getD t (2 * number + 1) 0 + second ≤ 18446744073709551615)
     raised-fit =
-        let f = raises-fit used ks ws (x .fitted .table) (joins (coloursOf used ks ws) k s) i l (number-below x l) sums in
+        let m = joins (coloursOf used ks ws) k s in
+        let f = raises-fit used ks ws (x .fitted .table) m i l (number-below x l) sums in
         rw (g .number-is, p, q) (number-below x l, f .0, f .1)
 
     -- and are raised
-    pub raised-step : (after : List ℕ) → after ≡ raised t number two one
+    pub raised-step : (after : List ℕ) → after ≡ raised t number first second
         → Summed (joins (coloursOf used ks ws) k s) ks ws (i + 1) after
     raised-step after r = rw (r, g .number-is, p, q) (summed-more _ ks ws i t sums (number-below x l))

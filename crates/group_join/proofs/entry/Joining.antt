@@ -14,7 +14,8 @@ module _ (members : List ℕ) (i q : ℕ) where
   joined-at l = getD-set-same members i q 0 l
 
   -- the sums over the entries before it stay
-  pub joined-before : {ks ws t : List ℕ} → Summed (memberAt members) ks ws i t → Summed (memberAt (set members i q)) ks ws i t
+  pub joined-before : {ks ws t : List ℕ} → Summed (memberAt members) ks ws i t
+      → Summed (memberAt (set members i q)) ks ws i t
   joined-before {ks} {ws} {t} sums =
       summed-same (memberAt members) (memberAt (set members i q)) ks ws i t
       (λ j l. sym (getD-set-other members i j q 0 (λ z. omega arith))) sums

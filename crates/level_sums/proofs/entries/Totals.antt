@@ -19,8 +19,9 @@ unfolding sum
 totalling-start ks ws used = record { within = omega arith; red-green = refl; blue-pixels = refl }
 
 -- the entry of place i is added
-pub totalling-step : {ks ws : List ℕ} {used first second i : ℕ} → Totalling ks ws used first second i → i < used → (x y : ℕ)
-    → x ≡ weighed redGreen ks ws i → y ≡ weighed bluePixels ks ws i → Totalling ks ws used (first + x) (second + y) (i + 1)
+pub totalling-step : {ks ws : List ℕ} {used first second i : ℕ} → Totalling ks ws used first second i → i < used
+    → (x y : ℕ) → x ≡ weighed redGreen ks ws i → y ≡ weighed bluePixels ks ws i
+    → Totalling ks ws used (first + x) (second + y) (i + 1)
 totalling-step {ks} {ws} {used} {first} {second} {i} t l x y e f = record {
   within = omega arith;
   red-green = omega (arith, t .red-green, sum-more i (weighed redGreen ks ws));

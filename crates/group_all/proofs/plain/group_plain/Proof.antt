@@ -27,12 +27,12 @@ use Rattle.group_all.proofs.plain.group_plain.Statement.{statement}
 use Rattle.group_all.proofs.plain.group_plain.Tie as tie
 
 abbrev Inv-loop : tie.InvT-loop
-Inv-loop keys weights used s k members₀ t₀ total₀ distances₀ i₀ members t total distances i =
-    Turned used keys weights s k (λ j. k) members₀ members total distances i
-    × Summed (joins (coloursOf used keys weights) k s) keys weights i t
+Inv-loop keys weights used shades count members₀ sums₀ total₀ distances₀ i₀ members sums total distances i =
+    Turned used keys weights shades count (λ j. count) members₀ members total distances i
+    × Summed (joins (coloursOf used keys weights) count shades) keys weights i sums
 
 abbrev μ-loop : tie.MeasureT-loop
-μ-loop keys weights used s k members₀ t₀ total₀ distances₀ i₀ members t total distances i = used - i
+μ-loop keys weights used shades count members₀ sums₀ total₀ distances₀ i₀ members sums total distances i = used - i
 
 -- where the plain search is done, and where the grouping begins
 abbrev searched : tie.At-loop Inv-loop μ-loop → tie.After-search-all Inv-loop μ-loop
@@ -45,7 +45,7 @@ st c = c .before .before .before .before .before .before .before .before .before
 abbrev found-at : (c : tie.After-slice-known3 Inv-loop μ-loop)
     → let l = c .before .before .before .before .loop in
     let a = st (c .before .before .before .before) .args in
-    getD (l .members) (l .i) 0 ≡ foundAt (now (a .keys)) (now (a .s)) (a .k) (l .i)
+    getD (l .members) (l .i) 0 ≡ foundAt (now (a .keys)) (now (a .shades)) (a .count) (l .i)
 found-at c =
     plain-found (c .before .before .before .before .loop .inv .0) (now (st (c .before .before .before .before) .args .members)) (searched (c .before .before .before .before) .search-all .ensures)
     (c .before .before .before .loop-test .taken) (st (c .before .before .before .before) .pre .3)
@@ -54,7 +54,7 @@ found-at c =
 abbrev finds-at : (c : tie.After-gift-of Inv-loop μ-loop)
     → let a = st (c .before .before .before .before .before) .args in
     let r = c .gift-of .result in
-    Finds (now (a .keys)) (now (a .weights)) (now (a .s)) (a .k) (c .before .before .before .before .before .loop .i) (r .number) (r .cost)
+    Finds (now (a .keys)) (now (a .weights)) (now (a .shades)) (a .count) (c .before .before .before .before .before .loop .i) (r .number) (r .cost)
 finds-at c =
     let e = c .gift-of .ensures in
     raised-finds (c .before .before .before .before .before .loop .inv .0) (c .before .before .before .before .loop-test .taken) _ _ _ (found-at (c .before)) (e .0) (e .1 .0)
@@ -104,7 +104,7 @@ add-total : tie.Need-add-total Inv-loop μ-loop
 add-total c = omega (arith, total-fits (c .before .before .before .before .before .before .loop .inv .0) (c .before .before .before .before .before .loop-test .taken) (finds-at (c .before)))
 
 add-distances : tie.Need-add-distances Inv-loop μ-loop
-add-distances c = omega (arith, distances-fit (c .before .before .before .before .before .before .loop .inv .0) (c .before .before .before .before .before .loop-test .taken) (st (c .before .before .before .before .before .before) .args .k) refl)
+add-distances c = omega (arith, distances-fit (c .before .before .before .before .before .before .loop .inv .0) (c .before .before .before .before .before .loop-test .taken) (st (c .before .before .before .before .before .before) .args .count) refl)
 
 cast-raise : tie.Need-cast-raise Inv-loop μ-loop
 cast-raise c = search needs

@@ -24,7 +24,7 @@ there st =
 
 -- the sums before are those of these groups
 before : (st : tie.Start)
-    → Summed (groups st) (now (st .args .keys)) (now (st .args .weights)) (st .args .i) (now (st .args .t))
+    → Summed (groups st) (now (st .args .keys)) (now (st .args .weights)) (st .args .i) (now (st .args .sums))
 before st = joined-before (now (st .args .members)) (st .args .i) (st .args .q) (st .pre .2)
 
 mul-red-green : tie.Need-mul-red-green

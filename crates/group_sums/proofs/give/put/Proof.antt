@@ -6,20 +6,20 @@ use Rattle.group_sums.proofs.give.put.Tie as tie
 mul-a : tie.Need-mul-a
 mul-a c = search needs
 
-mul-t : tie.Need-mul-t
-mul-t c = search needs
+mul-sums : tie.Need-mul-sums
+mul-sums c = search needs
 
-element-write-t : tie.Need-element-write-t
-element-write-t c = search needs
+element-write-sums : tie.Need-element-write-sums
+element-write-sums c = search needs
 
-add-t : tie.Need-add-t
-add-t c = search needs
+add-sums : tie.Need-add-sums
+add-sums c = search needs
 
-mul-t-2 : tie.Need-mul-t-2
-mul-t-2 c = search needs
+mul-sums-2 : tie.Need-mul-sums-2
+mul-sums-2 c = search needs
 
-element-write-t-2 : tie.Need-element-write-t-2
-element-write-t-2 c = search needs
+element-write-sums-2 : tie.Need-element-write-sums-2
+element-write-sums-2 c = search needs
 
 returns : tie.Need-returns
 returns c = search needs
@@ -29,9 +29,9 @@ put-spec =
     tie.close
     (tie.spec
     mul-a
-    mul-t
-    element-write-t
-    add-t
-    mul-t-2
-    element-write-t-2
+    mul-sums
+    element-write-sums
+    add-sums
+    mul-sums-2
+    element-write-sums-2
     returns)

@@ -27,12 +27,13 @@ use Rattle.groups.proofs.short.group_short.Statement.{statement}
 use Rattle.groups.proofs.short.group_short.Tie as tie
 
 abbrev Inv-loop : tie.InvT-loop
-Inv-loop keys weights used s g k few members₀ anew t₀ total₀ distances₀ i₀ members t total distances i =
-    Turned used keys weights s k (shortWorks keys s k members₀) members₀ members total distances i
-    × Summed (memberAt members) keys weights (covered anew used i) t
+Inv-loop keys weights used shades count rows few members₀ anew sums₀ total₀ distances₀ i₀ members sums total distances i =
+    Turned used keys weights shades count (shortWorks keys shades count members₀) members₀ members total distances i
+    × Summed (memberAt members) keys weights (covered anew used i) sums
 
 abbrev μ-loop : tie.MeasureT-loop
-μ-loop keys weights used s g k few members₀ anew t₀ total₀ distances₀ i₀ members t total distances i = used - i
+μ-loop keys weights used shades count rows few members₀ anew sums₀ total₀ distances₀ i₀ members sums total distances i =
+    used - i
 
 -- where the grouping begins
 abbrev st : tie.At-loop Inv-loop μ-loop → tie.Start Inv-loop μ-loop
@@ -41,7 +42,7 @@ st c = c .before .before .before .before .before .before
 -- what is found for the entry, once it is worked out
 abbrev finds-at : (c : tie.After-cost Inv-loop μ-loop)
     → let a = st (c .before .before .before .before .before) .args in
-    Finds (now (a .keys)) (now (a .weights)) (now (a .s)) (a .k) (c .before .before .before .before .before .loop .i) (c .before .before .rejoin .result .number)
+    Finds (now (a .keys)) (now (a .weights)) (now (a .shades)) (a .count) (c .before .before .before .before .before .loop .i) (c .before .before .rejoin .result .number)
     (c .cost .result)
 finds-at c = record {
   number-is = c .before .before .rejoin .ensures .0;

@@ -46,7 +46,7 @@ high-requires-2 c κs = search needs
 
 returns-3 : tie.Need-returns-3
 returns-3 c =
-    let e : c .before .before .before .before .args .e ≡ 2 = omega arith in
+    let e : c .before .before .before .before .args .axis ≡ 2 = omega arith in
     rw e (c .high2 .ensures)
 
 pub sum-in-spec : {M : Type 1} → statement M

@@ -8,10 +8,10 @@ use Rattle.moves.proofs.step.count_movers.Statement.{statement}
 use Rattle.moves.proofs.step.count_movers.Tie as tie
 
 abbrev Inv-loop : tie.InvT-loop
-Inv-loop t k s count₀ q₀ count q = Counting k (λ j. not (stays t s j)) count q
+Inv-loop sums shades count moved₀ q₀ moved q = Counting count (λ j. not (stays sums shades j)) moved q
 
 abbrev μ-loop : tie.MeasureT-loop
-μ-loop t k s count₀ q₀ count q = k - q
+μ-loop sums shades count moved₀ q₀ moved q = count - q
 
 loop-holds : tie.Need-loop-holds Inv-loop μ-loop
 loop-holds c = counting-start _ _

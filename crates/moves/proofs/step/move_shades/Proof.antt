@@ -11,10 +11,10 @@ use Rattle.moves.proofs.step.move_shades.Statement.{statement}
 use Rattle.moves.proofs.step.move_shades.Tie as tie
 
 abbrev Inv-loop : tie.InvT-loop
-Inv-loop t k s₀ end n₀ s n = (n ≤ end) × (s ≡ fill n (goes t s₀) s₀)
+Inv-loop sums shades₀ count end i₀ shades i = (i ≤ end) × (shades ≡ fill i (goes sums shades₀) shades₀)
 
 abbrev μ-loop : tie.MeasureT-loop
-μ-loop t k s₀ end n₀ s n = end - n
+μ-loop sums shades₀ count end i₀ shades i = end - i
 
 mul-end : tie.Need-mul-end Inv-loop μ-loop
 mul-end c = omega arith
@@ -28,14 +28,14 @@ new-coordinate-requires c κs =
     let p = c .before .before .before .before .pre in
     (p .0, omega arith, rw (c .before .before .loop .inv .1, fill-length) (omega arith))
 
-mul-s : tie.Need-mul-s Inv-loop μ-loop
-mul-s c = omega arith
+mul-shades : tie.Need-mul-shades Inv-loop μ-loop
+mul-shades c = omega arith
 
-slice-write-s : tie.Need-slice-write-s Inv-loop μ-loop
-slice-write-s c = rw (c .before .before .before .loop .inv .1, fill-length) (omega arith)
+slice-write-shades : tie.Need-slice-write-shades Inv-loop μ-loop
+slice-write-shades c = rw (c .before .before .before .loop .inv .1, fill-length) (omega arith)
 
-add-n : tie.Need-add-n Inv-loop μ-loop
-add-n c = omega arith
+add-i : tie.Need-add-i Inv-loop μ-loop
+add-i c = omega arith
 
 loop-less : tie.Need-loop-less Inv-loop μ-loop
 loop-less c = omega arith
@@ -44,8 +44,8 @@ loop-again : tie.Need-loop-again Inv-loop μ-loop
 loop-again c =
     let l = c .before .before .before .loop in (
       omega arith,
-      rw (c .new-coordinate .ensures, l .inv .1, fill-kept (l .n) _ _ _ (le-refl _))
-          (fill-more (l .n) _ _ (omega arith)),
+      rw (c .new-coordinate .ensures, l .inv .1, fill-kept (l .i) _ _ _ (le-refl _))
+          (fill-more (l .i) _ _ (omega arith)),
     )
 
 same-length : tie.Need-same-length Inv-loop μ-loop
@@ -53,7 +53,7 @@ same-length c = ap length (c .before .loop .inv .1) ∙ fill-length _ _ _
 
 returns : tie.Need-returns Inv-loop μ-loop
 returns c =
-    let e : c .before .loop .n ≡ 3 * c .before .before .before .args .k = omega arith in
+    let e : c .before .loop .i ≡ 3 * c .before .before .before .args .count = omega arith in
     rw e at (c .before .loop .inv .1)
 
 pub move-shades-spec : {M : Type 1} → statement M
@@ -65,9 +65,9 @@ move-shades-spec =
     mul-end
     loop-holds
     new-coordinate-requires
-    mul-s
-    slice-write-s
-    add-n
+    mul-shades
+    slice-write-shades
+    add-i
     loop-less
     loop-again
     same-length

@@ -33,10 +33,10 @@ sum-in-requires c κs = search needs
 rounded-mean-requires : tie.Need-rounded-mean-requires
 rounded-mean-requires c κs =
     let st = c .before .before .before .before in
-    let n = st .args .n in
+    let i = st .args .i in
     let sums = st .pre .0 in
     rw (c .sum-in .ensures)
-    (omega arith, sums .few (n / 3) (omega arith), sums .low (n % 3) (n / 3) (omega arith))
+    (omega arith, sums .few (i / 3) (omega arith), sums .low (i % 3) (i / 3) (omega arith))
 
 returns-2 : tie.Need-returns-2
 returns-2 c =

@@ -20,7 +20,7 @@ st c = c .before .before .before .before .before .before .before .before .before
 
 -- after the starting shades it has begun
 has-begun : (c : tie.After-fill-starts)
-    → stateOf (c .fill-starts .last .1 .1 .1 .1 .0) (c .fill-starts .last .1 .1 .1 .1 .1 .0)
+    → stateOf (c .fill-starts .last .1 .1 .1 .0) (c .fill-starts .last .1 .1 .1 .1 .1 .0)
     ≡ beginFrom (listed (now (st c .args .base)))
     (coloursOf (st c .args .used) (now (st c .args .keys)) (now (st c .args .weights))) (st c .args .k)
     (now (st c .args .members))

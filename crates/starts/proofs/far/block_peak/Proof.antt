@@ -8,13 +8,13 @@ use Rattle.starts.proofs.far.block_peak.Statement.{statement}
 use Rattle.starts.proofs.far.block_peak.Tie as tie
 
 abbrev Inv-loop : tie.InvT-loop
-Inv-loop d a e far₀ i₀ far i = Bounding d a e far i
+Inv-loop d from end far₀ i₀ far i = Bounding d from end far i
 
 abbrev μ-loop : tie.MeasureT-loop
-μ-loop d a e far₀ i₀ far i = e - i
+μ-loop d from end far₀ i₀ far i = end - i
 
 loop-holds : tie.Need-loop-holds Inv-loop μ-loop
-loop-holds c = let s = c .before in bounding-start (now (s .args .d)) (s .args .a) (s .args .e) (s .pre .0)
+loop-holds c = let s = c .before in bounding-start (now (s .args .d)) (s .args .from) (s .args .end) (s .pre .0)
 
 mul-greater : tie.Need-mul-greater Inv-loop μ-loop
 mul-greater c = omega arith

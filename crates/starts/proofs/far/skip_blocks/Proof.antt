@@ -18,8 +18,8 @@ loop-holds c = (omega arith, λ j l. absurd (omega arith))
 sub-loop : tie.Need-sub-loop Inv-loop μ-loop
 sub-loop c = omega arith
 
-add-e : tie.Need-add-e Inv-loop μ-loop
-add-e c = omega arith
+add-end : tie.Need-add-end Inv-loop μ-loop
+add-end c = omega arith
 
 block-peak-requires : tie.Need-block-peak-requires Inv-loop μ-loop
 block-peak-requires c κs = (omega arith, omega arith)
@@ -51,7 +51,7 @@ skip-blocks-spec =
     μ-loop
     loop-holds
     sub-loop
-    add-e
+    add-end
     block-peak-requires
     returns
     loop-less

@@ -20,10 +20,11 @@ use Rattle.starts.proofs.fill.fill_starts.Statement.{statement}
 use Rattle.starts.proofs.fill.fill_starts.Tie as tie
 
 abbrev Inv-loop : tie.InvT-loop
-Inv-loop keys used base k s₀ members₀ p₀ c₀ s members p c = Storing keys used (listed base) k s₀ members₀ s members p c
+Inv-loop keys used base shades₀ count members₀ p₀ q₀ shades members p q =
+    Storing keys used (listed base) count shades₀ members₀ shades members p q
 
 abbrev μ-loop : tie.MeasureT-loop
-μ-loop keys used base k s₀ members₀ p₀ c₀ s members p c = k - c
+μ-loop keys used base shades₀ count members₀ p₀ q₀ shades members p q = count - q
 
 -- where the call began
 abbrev start : tie.After-set-all Inv-loop μ-loop → tie.Start Inv-loop μ-loop
@@ -42,7 +43,7 @@ loop-holds c =
     let set = c .before .before .before in
     let s = start set in
     let a = s .args in
-    storing-start (now (a .keys)) (a .used) (listed (now (a .base))) (a .k) (now (a .s)) _ (now (a .members))
+    storing-start (now (a .keys)) (a .used) (listed (now (a .base))) (a .count) (now (a .shades)) _ (now (a .members))
     (c .shade-at .result) (set .set-all .ensures) (s .pre .5) (omega (arith, s .pre .2)) (c .shade-at .ensures)
 
 turn-requires : tie.Need-turn-requires Inv-loop μ-loop
@@ -57,8 +58,8 @@ put-shade-requires c κs =
     let p = start (l .before .before .before .before) .pre in
     rw (storing-coordinates (l .loop .inv)) (omega (arith, p .4))
 
-add-c : tie.Need-add-c Inv-loop μ-loop
-add-c c = omega arith
+add-q : tie.Need-add-q Inv-loop μ-loop
+add-q c = omega arith
 
 loop-less : tie.Need-loop-less Inv-loop μ-loop
 loop-less c = omega arith
@@ -108,7 +109,7 @@ fill-starts-spec =
     loop-holds
     turn-requires
     put-shade-requires
-    add-c
+    add-q
     loop-less
     loop-again
     set-all-requires-2

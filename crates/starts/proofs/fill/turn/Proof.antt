@@ -24,7 +24,7 @@ use Rattle.starts.proofs.fill.turn.Tie as tie
 
 -- what the call is given
 given : (s : tie.Start)
-    → let a = s .args in Choosing (now (a .keys)) (a .used) (listed (now (a .base))) (a .c) (a .p) (now (a .d))
+    → let a = s .args in Choosing (now (a .keys)) (a .used) (listed (now (a .base))) (a .q) (a .p) (now (a .d))
 given s = record {
   low = listed-within (now (s .args .base)) (s .pre .1);
   room = s .pre .3;
