@@ -54,7 +54,7 @@ module _ (ks : List ℕ) (n : ℕ) (B : Base) where
           ∙ to-shade-is-to-start (suc k) _ (first-below ltb (suc k) toStart (omega arith))
 
       -- the kept distance is that to the nearest start so far
-      pub kept-is-remote : (k : ℕ)
+      kept-is-remote : (k : ℕ)
           → kept ks n B (suc k) i ≡ remote (startsFrom B n (colourAt ks) (suc k)) (suc k) (colourAt ks i)
       kept-is-remote k =
           lowest-is-least mostKept (suc k) toStart (omega arith) (λ q l. to-start-low q) ∙ sym (remote-is-least k)

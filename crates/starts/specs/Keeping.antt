@@ -11,9 +11,9 @@ use Rattle.method.specs.{Base, nextShade, startsFrom}
 abbrev pub shadeFrom : Base → ℕ → (ℕ → Point) → ℕ → Point
 shadeFrom B n c k = nextShade B n c k (startsFrom B n c k)
 
--- entry i's distance, given in d, lowered to that to p
-abbrev pub lowered : List ℕ → Point → List ℕ → ℕ → ℕ
-lowered ks p d i = lesserOf (getD d i 0) (distance (colourAt ks i) p)
+-- entry i's distance, kept in d, lowered to that to p
+abbrev pub lowerKept : List ℕ → Point → List ℕ → ℕ → ℕ
+lowerKept ks p d i = lesserOf (getD d i 0) (distance (colourAt ks i) p)
 
 -- what is kept before the first start: above every distance
 abbrev pub mostKept : ℕ

@@ -1,21 +1,21 @@
-// The farthest entry: kept distances are lowered, and the first place of the greatest is found.
+// The farthest entry: kept distances are lowerKept, and the first place of the greatest is found.
 ghost use mathlib.Core.Path.{_≡_};
 ghost use Prim.Native.Nat.{ℕ, _<_, _≤_};
 ghost use lib.ListN.{length, getD};
 ghost use Rattle.number.specs.{fill, peak, most};
 ghost use Rattle.colour.specs.{Within, mostCoordinate};
-ghost use Rattle.starts.specs.Keeping.{lowered, Keyed};
+ghost use Rattle.starts.specs.Keeping.{lowerKept, Keyed};
 use colour::Point;
 use shades::greater;
 use shades::lesser;
 
 // Lowers the kept distances to those to `p`; the greatest that is left. Requires entries, a point
 // on the grid, and a kept distance for each entry.
-pub fn lower(keys: &[u32], used: usize, p: Point, d: &mut [u32]) -> u32
+pub fn lower_kept(keys: &[u32], used: usize, p: Point, d: &mut [u32]) -> u32
     requires { ⌜ Keyed used (now keys) × Within mostCoordinate p × (used ≤ length (now d)) ⌝ }
     ensures distances { λ _. ⌜ now (d .exit)
-        ≡ fill used (lowered (now (keys .entry)) p (now (d .entry))) (now (d .entry)) ⌝ }
-    ensures greatest { λ r. ⌜ r ≡ peak used (lowered (now (keys .entry)) p (now (d .entry))) ⌝ }
+        ≡ fill used (lowerKept (now (keys .entry)) p (now (d .entry))) (now (d .entry)) ⌝ }
+    ensures greatest { λ r. ⌜ r ≡ peak used (lowerKept (now (keys .entry)) p (now (d .entry))) ⌝ }
 {
     let mut far: u32 = 0;
     let mut i = 0;

@@ -7,7 +7,7 @@ ghost use Rattle.shades.specs.{mostShades, colourAt, OnGrid};
 ghost use Rattle.method.specs.{listed, startsFrom, over};
 ghost use Rattle.starts.specs.Keeping.{shadeFrom, kept, Keyed};
 use super::far::first_of;
-use super::far::lower;
+use super::far::lower_kept;
 use colour::Point;
 
 // Start number `q`, after start number q - 1, which is required to be `p`, with the distances kept
@@ -27,7 +27,7 @@ fn turn(keys: &[u32], used: usize, base: &[u32], q: usize, p: Point, d: &mut [u3
     if q == 0 {
         return shades::shade_at(base, q);
     }
-    let far = lower(keys, used, p, d);
+    let far = lower_kept(keys, used, p, d);
     if q < base.len() / 3 {
         return shades::shade_at(base, q);
     }

@@ -12,15 +12,15 @@ use Rattle.number.proofs.Peaks.{peak-more, greater-at-least}
 use Rattle.number.proofs.Searches.{below-or-last}
 use Rattle.colour.specs.{Point, distance}
 use Rattle.shades.specs.{colourAt}
-use Rattle.starts.specs.Keeping.{lowered}
+use Rattle.starts.specs.Keeping.{lowerKept}
 
 -- ---- the loop that lowers them
 
 -- the distances before place i, of those that were d₀, are lowered to those to p, and far is the greatest of them
 pub record Lowering (ks : List ℕ) (n : ℕ) (p : Point) (d₀ d : List ℕ) (far i : ℕ) : Type 0 where
   pub within : i ≤ n
-  pub distances : d ≡ fill i (lowered ks p d₀) d₀
-  pub greatest : far ≡ peak i (lowered ks p d₀)
+  pub distances : d ≡ fill i (lowerKept ks p d₀) d₀
+  pub greatest : far ≡ peak i (lowerKept ks p d₀)
 
 -- none is lowered
 pub lowering-start : (ks : List ℕ) (n : ℕ) (p : Point) (d : List ℕ) → Lowering ks n p d d 0 0
@@ -36,7 +36,7 @@ module _ {ks : List ℕ} {n : ℕ} {p : Point} {d₀ d : List ℕ} {far i : ℕ}
   pub lowering-step : i < n → n ≤ length d₀ → (x y z : ℕ) → x ≡ distance (colourAt ks i) p
       → y ≡ lesserOf (getD d i 0) x → z ≡ greaterOf far y → Lowering ks n p d₀ (set d i y) z (i + 1)
   lowering-step l room x y z ex ey ez =
-      let f = lowered ks p d₀ in
+      let f = lowerKept ks p d₀ in
       let old : getD d i 0 ≡ getD d₀ i 0 = ap (λ s. getD s i 0) (t .distances) ∙ fill-kept i i f d₀ (le-refl i) in
       let e : y ≡ f i = rw (← ex, ← old) ey in
       record {
@@ -46,7 +46,7 @@ module _ {ks : List ℕ} {n : ℕ} {p : Point} {d₀ d : List ℕ} {far i : ℕ}
       }
 
   -- all are lowered
-  pub lowering-done : n ≤ i → (d ≡ fill n (lowered ks p d₀) d₀) × (far ≡ peak n (lowered ks p d₀))
+  pub lowering-done : n ≤ i → (d ≡ fill n (lowerKept ks p d₀) d₀) × (far ≡ peak n (lowerKept ks p d₀))
   lowering-done l = let e : i ≡ n = omega (arith, t .within) in (rw e at (t .distances), rw e at (t .greatest))
 
 -- ---- the loop that bounds a block

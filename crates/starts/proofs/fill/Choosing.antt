@@ -11,7 +11,7 @@ use Rattle.colour.specs.{Point, Within, mostCoordinate, distance}
 use Rattle.shades.specs.{colourAt, putShade}
 use Rattle.method.specs.{Base, startsFrom, over}
 use Rattle.method.proofs.Startings.{over-length, starts-more, next-given}
-use Rattle.starts.specs.Keeping.{shadeFrom, lowered, kept}
+use Rattle.starts.specs.Keeping.{shadeFrom, lowerKept, kept}
 use Rattle.starts.proofs.Keeping.{kept-start, kept-more, start-within, farthest-is-next}
 
 -- ---- choosing a start
@@ -40,24 +40,24 @@ module _ {ks : List ℕ} {n : ℕ} {B : Base} {c : ℕ} {p : Point} {d : List �
   choosing-given h = sym (next-given B n (colourAt ks) c (startsFrom B n (colourAt ks) c) h)
 
   -- from there on, the distances lowered to those to p are the ones kept with it
-  lowered-is-kept : ¬ (c ≡ 0) → (i : ℕ) → i < n → lowered ks p d i ≡ kept ks n B c i
+  lowered-is-kept : ¬ (c ≡ 0) → (i : ℕ) → i < n → lowerKept ks p d i ≡ kept ks n B c i
   lowered-is-kept some i l =
       let e : suc (c - 1) ≡ c = omega arith in
       rw (t .last)
       (ap (λ x. lesserOf x (distance (colourAt ks i) (shadeFrom B n (colourAt ks) (c - 1)))) (t .same i l)
       ∙ sym (kept-more ks n B (c - 1) i) ∙ ap (λ k. kept ks n B k i) e)
 
-  module _ (d′ : List ℕ) (e : d′ ≡ fill n (lowered ks p d) d) where
+  module _ (d′ : List ℕ) (e : d′ ≡ fill n (lowerKept ks p d) d) where
     -- where they are stored, each stands at its place
-    lowered-stored : (i : ℕ) → i < n → lowered ks p d i ≡ getD d′ i 0
-    lowered-stored i l = rw e (sym (fill-at n i (lowered ks p d) d l (omega (arith, t .room))))
+    lowered-stored : (i : ℕ) → i < n → lowerKept ks p d i ≡ getD d′ i 0
+    lowered-stored i l = rw e (sym (fill-at n i (lowerKept ks p d) d l (omega (arith, t .room))))
 
     -- there is one for each entry
     pub choosing-room : n ≤ length d′
     choosing-room = rw (e, fill-length) (t .room)
 
     -- the greatest of them is the greatest of those stored
-    pub choosing-greatest : peak n (lowered ks p d) ≡ peak n (λ i. getD d′ i 0)
+    pub choosing-greatest : peak n (lowerKept ks p d) ≡ peak n (λ i. getD d′ i 0)
     choosing-greatest = peak-same n _ _ lowered-stored
 
     -- they are the distances kept with p

@@ -33,7 +33,7 @@ given s = record {
 }
 
 -- where the call began
-abbrev st : tie.After-lower → tie.Start
+abbrev st : tie.After-lower-kept → tie.Start
 st c = c .before .before .before .before .before .before
 
 -- the place found is that of an entry
@@ -55,8 +55,8 @@ returns c =
       choosing-first (given s) first,
     )
 
-lower-requires : tie.Need-lower-requires
-lower-requires c κs =
+lower-kept-requires : tie.Need-lower-kept-requires
+lower-kept-requires c κs =
     let s = c .before .before .before .before .before in
     (s .pre .0, choosing-within (given s), s .pre .3)
 
@@ -71,17 +71,17 @@ returns-2 c =
     let l = c .before .before .before .before in
     let s = st l in (
       c .shade-at2 .ensures ∙ choosing-given (given s) (c .before .if2 .taken),
-      choosing-distances (given s) _ (l .lower .ensures .0) (l .before .before .if1 .left),
+      choosing-distances (given s) _ (l .lower-kept .ensures .0) (l .before .before .if1 .left),
     )
 
 first-of-requires : tie.Need-first-of-requires
 first-of-requires c κs =
     let l = c .before .before .before .before in
     let s = st l in
-    let e = l .lower .ensures .0 in (
+    let e = l .lower-kept .ensures .0 in (
       s .pre .0 .some,
       choosing-room (given s) _ e,
-      l .lower .ensures .1 ∙ choosing-greatest (given s) _ e,
+      l .lower-kept .ensures .1 ∙ choosing-greatest (given s) _ e,
     )
 
 mul-colour-of : tie.Need-mul-colour-of
@@ -106,7 +106,7 @@ returns-3 c =
     let l = f .before .before .before .before .before in
     let some = l .before .before .if1 .left in
     let s = st l in
-    let e = l .lower .ensures .0 in (
+    let e = l .lower-kept .ensures .0 in (
       c .colour-of .ensures .0 ∙ ap (colourAt (now (s .args .keys))) (f .first-of .ensures)
           ∙ choosing-shade (given s) _ e some (f .before .before .if2 .left),
       choosing-distances (given s) _ e some,
@@ -118,7 +118,7 @@ turn-spec =
     (tie.spec
     shade-at-requires
     returns
-    lower-requires
+    lower-kept-requires
     shade-at-requires-2
     same-length
     returns-2

@@ -1,4 +1,4 @@
--- `lower` meets its contract: the loop's invariant is `Lowering`.
+-- `lower_kept` meets its contract: the loop's invariant is `Lowering`.
 use Prim.Native.Nat.{_-_}
 use mathlib.Core.Path.{ap, _∙_}
 use native.Mathlib.Omega.{arith}
@@ -6,8 +6,8 @@ use denote.Ref.{now}
 use borrow.Author.Needs.{needs}
 use Rattle.colour.specs.{distance}
 use Rattle.starts.proofs.far.Loops.{Lowering, lowering-start, lowering-room, lowering-step, lowering-done}
-use Rattle.starts.proofs.far.lower.Statement.{statement}
-use Rattle.starts.proofs.far.lower.Tie as tie
+use Rattle.starts.proofs.far.lower_kept.Statement.{statement}
+use Rattle.starts.proofs.far.lower_kept.Tie as tie
 
 abbrev Inv-loop : tie.InvT-loop
 Inv-loop keys used p d₀ far₀ i₀ d far i = Lowering keys used p d₀ d far i
@@ -71,8 +71,8 @@ same-length c = lowering-room (c .before .loop .inv)
 returns : tie.Need-returns Inv-loop μ-loop
 returns c = lowering-done (c .before .loop .inv) (c .loop-test .left)
 
-pub lower-spec : {M : Type 1} → statement M
-lower-spec =
+pub lower-kept-spec : {M : Type 1} → statement M
+lower-kept-spec =
     tie.close
     (tie.spec
     Inv-loop
