@@ -3,8 +3,8 @@
 //
 // Calls; none refuses, and what one requires stands above it
 //   join   entry i joins group q, and the sums follow   entry.rt
-// Sums that are taken anew are over the entries before i, and then over i too; those that go on from
-// the former groups are over all entries, and what entry i gives goes along.
+// Sums that are taken anew are over the entries before i, and then over i too; those that go on
+// from the former groups are over all entries, and what entry i gives goes along.
 // What a grouping answers, whichever search finds the shades, is `Regrouped`.
 //
 // Read next: specs/Lib.antt (what the words mean), proofs/Lib.antt (what is shown).

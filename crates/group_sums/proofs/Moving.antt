@@ -34,7 +34,7 @@ module _ {m m′ : ℕ → ℕ} {n i : ℕ} (g : Goes m m′ i) (h : i < n) (f :
   both-sums q = sum-change n i (given m′ f q) (given m f q) h (λ j d. rw (g .stay j d))
 
   -- the sum of the group that it leaves
-  pub left-sum : sum n (given m f (m i)) ≡ sum n (given m′ f (m i)) + f i
+  left-sum : sum n (given m f (m i)) ≡ sum n (given m′ f (m i)) + f i
   left-sum =
       omega (
         arith,
@@ -44,7 +44,7 @@ module _ {m m′ : ℕ → ℕ} {n i : ℕ} (g : Goes m m′ i) (h : i < n) (f :
       )
 
   -- the sum of the group that it joins
-  pub joined-sum : sum n (given m′ f (m′ i)) ≡ sum n (given m f (m′ i)) + f i
+  joined-sum : sum n (given m′ f (m′ i)) ≡ sum n (given m f (m′ i)) + f i
   joined-sum = omega (arith, both-sums (m′ i), given-own m′ f (m′ i) i refl, given-other m f (m′ i) i (g .other))
 
   -- the sum of every other group

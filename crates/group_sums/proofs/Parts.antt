@@ -11,11 +11,11 @@ use Rattle.shades.specs.{axis}
 use Rattle.method.specs.{Colours, pixelsIn, sumsOf}
 
 -- two numbers of 64 bits hold the pixel count and the coordinate sums of the colours, which are a table's
-pub record Parts (C : Colours) (two one : ℕ) : Type 0 where
-  pub count : one % 4294967296 ≡ pixelsIn C
-  pub red : 16 * (two / 4294967296) ≡ sumsOf C .r
-  pub green : 16 * (two % 4294967296) ≡ sumsOf C .g
-  pub blue : 16 * (one / 4294967296) ≡ sumsOf C .b
+pub record Parts (C : Colours) (first second : ℕ) : Type 0 where
+  pub pixels : second % 4294967296 ≡ pixelsIn C
+  pub red : 16 * (first / 4294967296) ≡ sumsOf C .r
+  pub green : 16 * (first % 4294967296) ≡ sumsOf C .g
+  pub blue : 16 * (second / 4294967296) ≡ sumsOf C .b
   pub few : pixelsIn C ≤ mostPixels
   pub low : (e : ℕ) → axis e (sumsOf C) ≤ pixelsIn C * mostCoordinate
 
@@ -54,15 +54,15 @@ module _ (n : ℕ) (w key : ℕ → ℕ) where
   keyed = record { n = n; w = w; c = λ i. colourOf (key i) }
 
   -- the sums of two levels in one, and of the third and 1 in one, are the parts of the colours
-  pub parts : (two one : ℕ) → sum n w ≤ mostPixels → two ≡ sum n (λ i. w i * redGreen (key i))
-      → one ≡ sum n (λ i. w i * bluePixels (key i)) → Parts keyed two one
-  parts two one few e f =
+  pub parts : (first second : ℕ) → sum n w ≤ mostPixels → first ≡ sum n (λ i. w i * redGreen (key i))
+      → second ≡ sum n (λ i. w i * bluePixels (key i)) → Parts keyed first second
+  parts first second few e f =
       let pair = level-pair redOf greenOf in
       let last = level-pair blueOf (λ k. 1) in
       let ones : level (λ k. 1) ≡ sum n w = sum-eq n _ w (λ i l. omega arith) in
       let under = level-low greenOf (λ k. omega arith) in
       record {
-        count = omega arith;
+        pixels = omega arith;
         red = omega (arith, level-sixteenths redOf);
         green = omega (arith, level-sixteenths greenOf);
         blue = omega (arith, level-sixteenths blueOf);
@@ -75,13 +75,13 @@ module _ (n : ℕ) (w key : ℕ → ℕ) where
       low (suc zero) = sixteenths-low greenOf (λ k. omega arith)
       low (suc (suc e)) = sixteenths-low blueOf (λ k. omega arith)
 
-module _ {C : Colours} {two one : ℕ} (p : Parts C two one) (e coords : ℕ) (is : coords ≡ axis e (sumsOf C)) where
+module _ {C : Colours} {first second : ℕ} (p : Parts C first second) (e coords : ℕ) (is : coords ≡ axis e (sumsOf C)) where
   -- what is asked for the mean of colours with a pixel, on one coordinate
   pub mean-asked : 0 < pixelsIn C
-      → (0 < one % 4294967296) × (one % 4294967296 ≤ mostPixels) × (coords ≤ one % 4294967296 * mostCoordinate)
-  mean-asked some = rw (p .count, is) (some, p .few, p .low e)
+      → (0 < second % 4294967296) × (second % 4294967296 ≤ mostPixels) × (coords ≤ second % 4294967296 * mostCoordinate)
+  mean-asked some = rw (p .pixels, is) (some, p .few, p .low e)
 
   -- the mean of the parts is that of the colours
-  pub mean-of-parts : (r : ℕ) → r ≡ roundedMean (one % 4294967296) coords
+  pub mean-of-parts : (r : ℕ) → r ≡ roundedMean (second % 4294967296) coords
       → r ≡ roundedMean (pixelsIn C) (axis e (sumsOf C))
-  mean-of-parts r f = rw (p .count, is) at f
+  mean-of-parts r f = rw (p .pixels, is) at f

@@ -82,8 +82,8 @@ module _ (used : ℕ) (ks ws : List ℕ) (t : Tabled used ks ws)
   -- the sums of a grouping are those of a table's groups
   pub measured : Measured sums
   measured = record {
-    few = λ q l. rw (group-parts q l .count) (group-parts q l .few);
-    low = λ e q l. rw (sum-is e q l, group-parts q l .count) (group-parts q l .low e);
+    few = λ q l. rw (group-parts q l .pixels) (group-parts q l .few);
+    low = λ e q l. rw (sum-is e q l, group-parts q l .pixels) (group-parts q l .low e);
   }
 
   -- where shade q moves: to the rounded mean of its group, and it stays where the group is empty
@@ -91,13 +91,13 @@ module _ (used : ℕ) (ks ws : List ℕ) (t : Tabled used ks ws)
   moved s q = toMean q (group q) (shadeAt s q)
 
   -- coordinate n goes where Lloyd's rule has it
-  pub goes-moved : (s : List ℕ) (n : ℕ) → n < mostCoordinates
+  goes-moved : (s : List ℕ) (n : ℕ) → n < mostCoordinates
       → goes sums s n ≡ coordinateOf (λ q. toMean q (groupOf (coloursOf used ks ws) m q) (shadeAt s q)) n
   goes-moved s n l =
       let below : n / 3 < mostShades = omega arith in
       let place : 3 * (n / 3) + n % 3 ≡ n = omega arith in
       sym (to-mean-axis (group (n / 3)) s (n / 3) (n % 3) (omega arith)
-      ∙ rw (place, group-parts (n / 3) below .count, sum-is (n % 3) (n / 3) below))
+      ∙ rw (place, group-parts (n / 3) below .pixels, sum-is (n % 3) (n / 3) below))
 
   -- the shades that the moves leave
   pub moves-laid : (s : List ℕ) (k : ℕ) → k ≤ mostShades

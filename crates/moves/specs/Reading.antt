@@ -9,8 +9,8 @@ use Rattle.colour.specs.{mostCoordinate, mostPixels}
 use Rattle.shades.specs.{mostShades}
 
 -- the pixel count of group q
-abbrev pub countIn : List ℕ → ℕ → ℕ
-countIn t q = getD t (2 * q + 1) 0 % 4294967296
+abbrev pub groupPixels : List ℕ → ℕ → ℕ
+groupPixels t q = getD t (2 * q + 1) 0 % 4294967296
 
 -- its sum of coordinate e, in sixteenths
 abbrev pub sumIn : List ℕ → ℕ → ℕ → ℕ
@@ -21,7 +21,7 @@ sumIn t (suc (suc e)) q = 16 * (getD t (2 * q + 1) 0 / 4294967296)
 -- where coordinate n goes, which is one of shade n / 3: to the rounded mean; with no group it stays
 abbrev pub goes : List ℕ → List ℕ → ℕ → ℕ
 goes t s n =
-    cond (eqb (countIn t (n / 3)) 0) (getD s n 0) (roundedMean (countIn t (n / 3)) (sumIn t (n % 3) (n / 3)))
+    cond (eqb (groupPixels t (n / 3)) 0) (getD s n 0) (roundedMean (groupPixels t (n / 3)) (sumIn t (n % 3) (n / 3)))
 
 -- do the three coordinates of shade q stay?
 abbrev pub stays : List ℕ → List ℕ → ℕ → Bool
@@ -31,5 +31,5 @@ stays t s q =
 
 -- no group has more pixels than a table, nor more than 4080 for each of them in a sum
 pub record Measured (t : List ℕ) : Type 0 where
-  pub few : (q : ℕ) → q < mostShades → countIn t q ≤ mostPixels
-  pub low : (e q : ℕ) → q < mostShades → sumIn t e q ≤ countIn t q * mostCoordinate
+  pub few : (q : ℕ) → q < mostShades → groupPixels t q ≤ mostPixels
+  pub low : (e q : ℕ) → q < mostShades → sumIn t e q ≤ groupPixels t q * mostCoordinate
