@@ -75,7 +75,8 @@ module _ (n : ℕ) (w key : ℕ → ℕ) where
       low (suc zero) = sixteenths-low greenOf (λ k. omega arith)
       low (suc (suc e)) = sixteenths-low blueOf (λ k. omega arith)
 
-module _ {C : Colours} {first second : ℕ} (p : Parts C first second) (e coords : ℕ) (is : coords ≡ axis e (sumsOf C)) where
+module _ {C : Colours} {first second : ℕ} (p : Parts C first second)
+    (e coords : ℕ) (is : coords ≡ axis e (sumsOf C)) where
   -- what is asked for the mean of colours with a pixel, on one coordinate
   pub mean-asked : 0 < pixelsIn C
       → (0 < second % 4294967296) × (second % 4294967296 ≤ mostPixels) × (coords ≤ second % 4294967296 * mostCoordinate)

@@ -34,42 +34,56 @@ Inv-loop keys weights used shades count members₀ sums₀ total₀ distances₀
 abbrev μ-loop : tie.MeasureT-loop
 μ-loop keys weights used shades count members₀ sums₀ total₀ distances₀ i₀ members sums total distances i = used - i
 
--- where the plain search is done, and where the grouping begins
+-- where the grouping begins, from where the plain search is called
+abbrev start : tie.After-search-all-arg Inv-loop μ-loop → tie.Start Inv-loop μ-loop
+start c = c .before .before .before .before .before
+
+-- where the search is done, from where the loop is
 abbrev searched : tie.At-loop Inv-loop μ-loop → tie.After-search-all Inv-loop μ-loop
 searched c = c .before .before .before
 
+-- where the grouping begins, from there
 abbrev st : tie.At-loop Inv-loop μ-loop → tie.Start Inv-loop μ-loop
-st c = c .before .before .before .before .before .before .before .before .before
+st c = start (searched c .before)
+
+-- the turn in which the entry is read
+abbrev turn : tie.After-slice-known3 Inv-loop μ-loop → tie.In-loop Inv-loop μ-loop
+turn c = c .before .before .before
+
+-- the turn in which it is worked out what the entry gives
+abbrev giving : tie.After-gift-of Inv-loop μ-loop → tie.In-loop Inv-loop μ-loop
+giving c = turn (c .before)
 
 -- the member that the turn reads is what the search has found
 abbrev found-at : (c : tie.After-slice-known3 Inv-loop μ-loop)
-    → let l = c .before .before .before .before .loop in
-    let a = st (c .before .before .before .before) .args in
-    getD (l .members) (l .i) 0 ≡ foundAt (now (a .keys)) (now (a .shades)) (a .count) (l .i)
+    → let l = turn c .before in
+    let a = st l .args in
+    getD (l .loop .members) (l .loop .i) 0 ≡ foundAt (now (a .keys)) (now (a .shades)) (a .count) (l .loop .i)
 found-at c =
-    plain-found (c .before .before .before .before .loop .inv .0) (now (st (c .before .before .before .before) .args .members)) (searched (c .before .before .before .before) .search-all .ensures)
-    (c .before .before .before .loop-test .taken) (st (c .before .before .before .before) .pre .3)
+    let l = turn c .before in
+    plain-found (l .loop .inv .0) (now (st l .args .members)) (searched l .search-all .ensures)
+    (turn c .loop-test .taken) (st l .pre .3)
 
 -- what is found for the entry, once it is worked out
 abbrev finds-at : (c : tie.After-gift-of Inv-loop μ-loop)
-    → let a = st (c .before .before .before .before .before) .args in
+    → let l = giving c .before in
+    let a = st l .args in
     let r = c .gift-of .result in
-    Finds (now (a .keys)) (now (a .weights)) (now (a .shades)) (a .count) (c .before .before .before .before .before .loop .i) (r .number) (r .cost)
+    Finds (now (a .keys)) (now (a .weights)) (now (a .shades)) (a .count) (l .loop .i) (r .number) (r .cost)
 finds-at c =
     let e = c .gift-of .ensures in
-    raised-finds (c .before .before .before .before .before .loop .inv .0) (c .before .before .before .before .loop-test .taken) _ _ _ (found-at (c .before)) (e .0) (e .1 .0)
+    let t = giving c in
+    raised-finds (t .before .loop .inv .0) (t .loop-test .taken) _ _ _ (found-at (c .before)) (e .0) (e .1 .0)
 
 search-all-requires : tie.Need-search-all-requires Inv-loop μ-loop
-search-all-requires c κs =
-    let p = c .before .before .before .before .before .pre in
-    (p .0 .keys-room, p .3, p .1, p .2)
+search-all-requires c κs = let p = start c .pre in (p .0 .keys-room, p .3, p .1, p .2)
 
 loop-holds : tie.Need-loop-holds Inv-loop μ-loop
 loop-holds c =
-    let start = c .before .before .before .before .before .before .before .before in
-    let p = start .pre in (
-      turned-start
-          (plain-fitted _ (now (start .args .members)) (p .0) (p .1) (p .2) (p .3) (c .before .before .search-all .ensures)),
+    let s = c .before .before in
+    let p = start (s .before) .pre in
+    let members = now (start (s .before) .args .members) in (
+      turned-start (plain-fitted _ members (p .0) (p .1) (p .2) (p .3) (s .search-all .ensures)),
       rw (p .4) (summed-none _ _ _),
     )
 
@@ -89,31 +103,37 @@ mul-gift-of-3 : tie.Need-mul-gift-of-3 Inv-loop μ-loop
 mul-gift-of-3 c = omega arith
 
 slice-read-gift-of : tie.Need-slice-read-gift-of Inv-loop μ-loop
-slice-read-gift-of c = let x = c .before .before .before .before .loop .inv .0 in omega (arith, turned-length x, x .fitted .room)
+slice-read-gift-of c = let x = turn c .before .loop .inv .0 in omega (arith, turned-length x, x .fitted .room)
 
 gift-of-requires : tie.Need-gift-of-requires Inv-loop μ-loop
-gift-of-requires c κs = raised-low (c .before .before .before .before .loop .inv .0) (c .before .before .before .loop-test .taken) _ (found-at c)
+gift-of-requires c κs = raised-low (turn c .before .loop .inv .0) (turn c .loop-test .taken) _ (found-at c)
 
 mul-members : tie.Need-mul-members Inv-loop μ-loop
 mul-members c = omega arith
 
 slice-write-members : tie.Need-slice-write-members Inv-loop μ-loop
-slice-write-members c = let x = c .before .before .before .before .before .loop .inv .0 in omega (arith, turned-length x, x .fitted .room)
+slice-write-members c = let x = giving c .before .loop .inv .0 in omega (arith, turned-length x, x .fitted .room)
 
 add-total : tie.Need-add-total Inv-loop μ-loop
-add-total c = omega (arith, total-fits (c .before .before .before .before .before .before .loop .inv .0) (c .before .before .before .before .before .loop-test .taken) (finds-at (c .before)))
+add-total c =
+    let t = giving (c .before) in
+    omega (arith, total-fits (t .before .loop .inv .0) (t .loop-test .taken) (finds-at (c .before)))
 
 add-distances : tie.Need-add-distances Inv-loop μ-loop
-add-distances c = omega (arith, distances-fit (c .before .before .before .before .before .before .loop .inv .0) (c .before .before .before .before .before .loop-test .taken) (st (c .before .before .before .before .before .before) .args .count) refl)
+add-distances c =
+    let t = giving (c .before) in
+    omega (arith, distances-fit (t .before .loop .inv .0) (t .loop-test .taken) (st (t .before) .args .count) refl)
 
 cast-raise : tie.Need-cast-raise Inv-loop μ-loop
 cast-raise c = search needs
 
 raise-requires : tie.Need-raise-requires Inv-loop μ-loop
 raise-requires c κs =
-    let l = c .before .before .before .before .before .before .before .loop .inv in
-    let e = c .before .before .gift-of .ensures in
-    raised-fit (l .0) (c .before .before .before .before .before .before .loop-test .taken) (l .1) (finds-at (c .before .before)) (e .1 .1 .0) (e .1 .1 .1)
+    let g = c .before .before in
+    let t = giving g in
+    let l = t .before .loop .inv in
+    let e = g .gift-of .ensures .1 .1 in
+    raised-fit (l .0) (t .loop-test .taken) (l .1) (finds-at g) (e .0) (e .1)
 
 add-i : tie.Need-add-i Inv-loop μ-loop
 add-i c = omega arith
@@ -123,15 +143,17 @@ loop-less c = omega arith
 
 loop-again : tie.Need-loop-again Inv-loop μ-loop
 loop-again c =
-    let l = c .before .before .before .before .before .before .before .before .loop .inv in
-    let h = c .before .before .before .before .before .before .before .loop-test .taken in
-    let f = finds-at (c .before .before .before) in
-    let e = c .before .before .before .gift-of .ensures in
-    (turned-step (l .0) h f _ refl, raised-step (l .0) h (l .1) f (e .1 .1 .0) (e .1 .1 .1) _ (c .raise .ensures))
+    let g = c .before .before .before in
+    let l = giving g .before .loop .inv in
+    let h = giving g .loop-test .taken in
+    let f = finds-at g in
+    let e = g .gift-of .ensures .1 .1 in
+    (turned-step (l .0) h f _ refl, raised-step (l .0) h (l .1) f (e .0) (e .1) _ (c .raise .ensures))
 
 same-length : tie.Need-same-length Inv-loop μ-loop
 same-length c =
-    plain-length (c .before .loop .inv .0) (now (st (c .before) .args .members)) (searched (c .before) .search-all .ensures)
+    let l = c .before in
+    plain-length (l .loop .inv .0) (now (st l .args .members)) (searched l .search-all .ensures)
 
 returns : tie.Need-returns Inv-loop μ-loop
 returns c =

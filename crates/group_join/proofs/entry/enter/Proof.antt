@@ -13,19 +13,30 @@ use Rattle.group_join.proofs.entry.Joining.{joined-at, joined-before}
 use Rattle.group_join.proofs.entry.enter.Statement.{statement}
 use Rattle.group_join.proofs.entry.enter.Tie as tie
 
+-- where the function begins, from where the entry is read
+abbrev start : tie.After-shared-slice-known4 → tie.Start
+start c = c .before .before .before .before .before
+
+-- where the first of what it gives is worked out
+abbrev first : tie.After-blue-pixels → tie.After-red-green
+first c = c .before .before .before
+
+-- where the function begins, from where both are
+abbrev st : tie.After-blue-pixels → tie.Start
+st c = start (first c .before)
+
 -- the group of each entry, once the member is set
 abbrev groups : tie.Start → ℕ → ℕ
-groups st = memberAt (set (now (st .args .members)) (st .args .i) (st .args .q))
+groups s = memberAt (set (now (s .args .members)) (s .args .i) (s .args .q))
 
 -- that of the entry is the one that it joins
-there : (st : tie.Start) → groups st (st .args .i) ≡ st .args .q
-there st =
-    joined-at (now (st .args .members)) (st .args .i) (st .args .q) (omega (arith, st .pre .1, st .pre .3))
+there : (s : tie.Start) → groups s (s .args .i) ≡ s .args .q
+there s = joined-at (now (s .args .members)) (s .args .i) (s .args .q) (omega (arith, s .pre .1, s .pre .3))
 
 -- the sums before are those of these groups
-before : (st : tie.Start)
-    → Summed (groups st) (now (st .args .keys)) (now (st .args .weights)) (st .args .i) (now (st .args .sums))
-before st = joined-before (now (st .args .members)) (st .args .i) (st .args .q) (st .pre .2)
+before : (s : tie.Start)
+    → Summed (groups s) (now (s .args .keys)) (now (s .args .weights)) (s .args .i) (now (s .args .sums))
+before s = joined-before (now (s .args .members)) (s .args .i) (s .args .q) (s .pre .2)
 
 mul-red-green : tie.Need-mul-red-green
 mul-red-green c = search needs
@@ -40,7 +51,7 @@ shared-slice-read-red-green-2 : tie.Need-shared-slice-read-red-green-2
 shared-slice-read-red-green-2 c = search needs
 
 red-green-requires : tie.Need-red-green-requires
-red-green-requires c κs = let p = c .before .before .before .before .before .pre in weight-at-most _ _ _ (p .0) _ (p .3)
+red-green-requires c κs = let p = start c .pre in weight-at-most _ _ _ (p .0) _ (p .3)
 
 mul-blue-pixels : tie.Need-mul-blue-pixels
 mul-blue-pixels c = search needs
@@ -55,15 +66,18 @@ shared-slice-read-blue-pixels-2 : tie.Need-shared-slice-read-blue-pixels-2
 shared-slice-read-blue-pixels-2 c = search needs
 
 blue-pixels-requires : tie.Need-blue-pixels-requires
-blue-pixels-requires c κs = let p = c .before .before .before .before .before .before .before .before .pre in weight-at-most _ _ _ (p .0) _ (p .3)
+blue-pixels-requires c κs =
+    let p = start (c .before .before .before) .pre in
+    weight-at-most _ _ _ (p .0) _ (p .3)
 
 raise-requires : tie.Need-raise-requires
 raise-requires c κs =
-    let st = c .before .before .before .before .before .before .before .before .before .before in
-    let p = st .pre in
-    let e = there st in
-    let f = raises-fit _ _ _ (p .0) (groups st) (st .args .i) (p .3) (rw e (p .4)) (before st) in
-    rw (c .before .before .before .before .red-green .ensures, c .before .blue-pixels .ensures) (p .4, rw e at (f .0), rw e at (f .1))
+    let b = c .before in
+    let s = st b in
+    let p = s .pre in
+    let e = there s in
+    let f = raises-fit _ _ _ (p .0) (groups s) (s .args .i) (p .3) (rw e (p .4)) (before s) in
+    rw (b .blue-pixels .ensures, first b .red-green .ensures) (p .4, rw e at (f .0), rw e at (f .1))
 
 mul-members : tie.Need-mul-members
 mul-members c = search needs
@@ -76,10 +90,11 @@ same-length c = search needs
 
 returns : tie.Need-returns
 returns c =
-    let st = c .before .before .before .before .before .before .before .before .before .before .before in
-    let e = there st in
-    let f = summed-more (groups st) _ _ (st .args .i) _ (before st) (rw e (st .pre .4)) in
-    (refl, rw (c .raise .ensures, c .before .before .before .before .before .red-green .ensures, c .before .before .blue-pixels .ensures) (rw e at f))
+    let b = c .before .before in
+    let s = st b in
+    let e = there s in
+    let f = summed-more (groups s) _ _ (s .args .i) _ (before s) (rw e (s .pre .4)) in
+    (refl, rw (c .raise .ensures, b .blue-pixels .ensures, first b .red-green .ensures) (rw e at f))
 
 pub enter-spec : {M : Type 1} → statement M
 enter-spec =

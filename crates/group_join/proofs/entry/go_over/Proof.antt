@@ -1,5 +1,6 @@
 -- `go_over` meets its contract: an entry that stays leaves all as it was, and one that goes takes what it gives along.
-use Prim.Native.Nat.{_<_}
+use Prim.Native.Nat.{ℕ, _<_}
+use mathlib.Core.List.{List}
 use mathlib.Core.Path.{_≡_, refl}
 use native.Mathlib.Omega.{arith}
 use denote.Ref.{now}
@@ -12,19 +13,43 @@ use Rattle.group_join.proofs.entry.Joining.{joined-at, joined-goes, joi
 use Rattle.group_join.proofs.entry.go_over.Statement.{statement}
 use Rattle.group_join.proofs.entry.go_over.Tie as tie
 
+-- where the function begins, from where its member is read
+abbrev start : tie.After-slice-known2 → tie.Start
+start c = c .before .before .before .before
+
+-- where the entry is found to go to another group
+abbrev leaves : tie.After-red-green → tie.Else1
+leaves c = c .before .before .before
+
+-- where the first of what it gives is worked out
+abbrev first : tie.After-blue-pixels → tie.After-red-green
+first c = c .before .before .before
+
+-- where the function begins, from where both are
+abbrev st : tie.After-blue-pixels → tie.Start
+st c = start (leaves (first c) .before)
+
+-- the members, before and once the entry's is set
+abbrev members : tie.Start → List ℕ
+members s = now (s .args .members)
+
+abbrev after : tie.Start → List ℕ
+after s = set (members s) (s .args .i) (s .args .q)
+
 -- the entry's place is one of the members
-inside : (st : tie.Start) → st .args .i < length (now (st .args .members))
-inside st = omega (arith, st .pre .1 .room, st .pre .3)
+inside : (s : tie.Start) → s .args .i < length (members s)
+inside s = omega (arith, s .pre .1 .room, s .pre .3)
 
 -- the entry is in the group that it joins, once its member is set
-there : (st : tie.Start) → memberAt (set (now (st .args .members)) (st .args .i) (st .args .q)) (st .args .i) ≡ st .args .q
-there st = joined-at (now (st .args .members)) (st .args .i) (st .args .q) (inside st)
+there : (s : tie.Start) → memberAt (after s) (s .args .i) ≡ s .args .q
+there s = joined-at (members s) (s .args .i) (s .args .q) (inside s)
 
 -- and goes there from another
-goes-there : (st : tie.Start) → (memberAt (now (st .args .members)) (st .args .i) ≡ st .args .q → ⊥)
-    → Goes (memberAt (now (st .args .members)))
-    (memberAt (set (now (st .args .members)) (st .args .i) (st .args .q))) (st .args .i)
-goes-there st d = joined-goes (now (st .args .members)) (st .args .i) (st .args .q) (inside st) d
+goes-there : (c : tie.After-blue-pixels)
+    → (let s = st c in Goes (memberAt (members s)) (memberAt (after s)) (s .args .i))
+goes-there c =
+    let s = st c in
+    joined-goes (members s) (s .args .i) (s .args .q) (inside s) (leaves (first c) .if1 .left)
 
 mul-p : tie.Need-mul-p
 mul-p c = search needs
@@ -34,12 +59,12 @@ slice-read-p c = search needs
 
 returns : tie.Need-returns
 returns c =
-    let st = c .before .before .before .before .before in
-    let e = joined-same (now (st .args .members)) (st .args .i) (st .args .q) (c .if1 .taken) in
-    (e, st .pre .2)
+    let s = start (c .before) in
+    let e = joined-same (members s) (s .args .i) (s .args .q) (c .if1 .taken) in
+    (e, s .pre .2)
 
 cast-from : tie.Need-cast-from
-cast-from c = let p = c .before .before .before .before .before .pre in omega (arith, p .1 .below _ (p .3))
+cast-from c = let p = start (c .before) .pre in omega (arith, p .1 .below _ (p .3))
 
 mul-red-green : tie.Need-mul-red-green
 mul-red-green c = search needs
@@ -54,7 +79,9 @@ shared-slice-read-red-green-2 : tie.Need-shared-slice-read-red-green-2
 shared-slice-read-red-green-2 c = search needs
 
 red-green-requires : tie.Need-red-green-requires
-red-green-requires c κs = let p = c .before .before .before .before .before .before .before .pre in weight-at-most _ _ _ (p .0) _ (p .3)
+red-green-requires c κs =
+    let p = start (c .before .before .before) .pre in
+    weight-at-most _ _ _ (p .0) _ (p .3)
 
 mul-blue-pixels : tie.Need-mul-blue-pixels
 mul-blue-pixels c = search needs
@@ -69,23 +96,27 @@ shared-slice-read-blue-pixels-2 : tie.Need-shared-slice-read-blue-pixels-2
 shared-slice-read-blue-pixels-2 c = search needs
 
 blue-pixels-requires : tie.Need-blue-pixels-requires
-blue-pixels-requires c κs = let p = c .before .before .before .before .before .before .before .before .before .before .pre in weight-at-most _ _ _ (p .0) _ (p .3)
+blue-pixels-requires c κs =
+    let p = start (leaves (c .before .before) .before) .pre in
+    weight-at-most _ _ _ (p .0) _ (p .3)
 
 lower-requires : tie.Need-lower-requires
 lower-requires c κs =
-    let st = c .before .before .before .before .before .before .before .before .before .before .before .before in
-    let p = st .pre in
+    let b = c .before in
+    let s = st b in
+    let p = s .pre in
     let few = p .1 .below _ (p .3) in
-    let f = leaves-fit (now (st .args .keys)) (now (st .args .weights)) (p .2) (goes-there st (c .before .before .before .before .before .before .before .if1 .left)) (p .3) few in
-    rw (c .before .before .before .before .red-green .ensures, c .before .blue-pixels .ensures) (few, f .0, f .1)
+    let f = leaves-fit (now (s .args .keys)) (now (s .args .weights)) (p .2) (goes-there b) (p .3) few in
+    rw (b .blue-pixels .ensures, first b .red-green .ensures) (few, f .0, f .1)
 
 raise-requires : tie.Need-raise-requires
 raise-requires c κs =
-    let st = c .before .before .before .before .before .before .before .before .before .before .before .before .before .before in
-    let p = st .pre in
-    let e = there st in
-    let f = joins-fit (p .0) (p .2) (goes-there st (c .before .before .before .before .before .before .before .before .before .if1 .left)) (p .3) (rw e (p .4)) in
-    rw (c .before .lower .ensures, c .before .before .before .before .before .before .red-green .ensures, c .before .before .before .blue-pixels .ensures) (p .4, rw e at (f .0), rw e at (f .1))
+    let l = c .before in
+    let b = l .before .before in
+    let p = st b .pre in
+    let e = there (st b) in
+    let f = joins-fit (p .0) (p .2) (goes-there b) (p .3) (rw e (p .4)) in
+    rw (l .lower .ensures, b .blue-pixels .ensures, first b .red-green .ensures) (p .4, rw e at (f .0), rw e at (f .1))
 
 mul-members : tie.Need-mul-members
 mul-members c = search needs
@@ -98,12 +129,14 @@ same-length c = search needs
 
 returns-2 : tie.Need-returns-2
 returns-2 c =
-    let st = c .before .before .before .before .before .before .before .before .before .before .before .before .before .before .before in
-    let p = st .pre in
-    let e = there st in
-    let f = summed-moved (now (st .args .keys)) (now (st .args .weights)) (p .2) (goes-there st (c .before .before .before .before .before .before .before .before .before .before .if1 .left)) (p .3)
+    let l = c .before .before in
+    let b = l .before .before in
+    let s = st b in
+    let p = s .pre in
+    let e = there s in
+    let f = summed-moved (now (s .args .keys)) (now (s .args .weights)) (p .2) (goes-there b) (p .3)
     (p .1 .below _ (p .3)) (rw e (p .4)) in
-    (refl, rw (c .raise .ensures, c .before .before .lower .ensures, c .before .before .before .before .before .before .before .red-green .ensures, c .before .before .before .before .blue-pixels .ensures) (rw e at f))
+    (refl, rw (c .raise .ensures, l .lower .ensures, b .blue-pixels .ensures, first b .red-green .ensures) (rw e at f))
 
 pub go-over-spec : {M : Type 1} → statement M
 go-over-spec =

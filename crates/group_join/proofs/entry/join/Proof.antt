@@ -5,25 +5,31 @@ use Rattle.group_join.proofs.entry.join.Tie as tie
 
 enter-requires : tie.Need-enter-requires
 enter-requires c κs =
-    let p = c .before .before .before .before .before .before .pre in
-    (p .0, p .1 .room, rw (c .before .before .if1 .taken) at (p .2), p .3, p .4)
+    let i = c .before .before in
+    let p = i .before .before .before .before .pre in
+    (p .0, p .1 .room, rw (i .if1 .taken) at (p .2), p .3, p .4)
 
 same-length : tie.Need-same-length
 same-length c = search needs
 
 returns : tie.Need-returns
-returns c = let f = c .before .before .enter .ensures in (f .0, rw (c .before .before .before .before .before .if1 .taken) (f .1))
+returns c =
+    let e = c .before .before in
+    (e .enter .ensures .0, rw (e .before .before .before .if1 .taken) (e .enter .ensures .1))
 
 go-over-requires : tie.Need-go-over-requires
 go-over-requires c κs =
-    let p = c .before .before .before .before .before .before .pre in
-    (p .0, p .1, rw (c .before .before .if1 .left) at (p .2), p .3, p .4)
+    let i = c .before .before in
+    let p = i .before .before .before .before .pre in
+    (p .0, p .1, rw (i .if1 .left) at (p .2), p .3, p .4)
 
 same-length-2 : tie.Need-same-length-2
 same-length-2 c = search needs
 
 returns-2 : tie.Need-returns-2
-returns-2 c = let f = c .before .before .go-over .ensures in (f .0, rw (c .before .before .before .before .before .if1 .left) (f .1))
+returns-2 c =
+    let g = c .before .before in
+    (g .go-over .ensures .0, rw (g .before .before .before .if1 .left) (g .go-over .ensures .1))
 
 pub join-spec : {M : Type 1} → statement M
 join-spec =

@@ -11,7 +11,9 @@ same-length : tie.Need-same-length
 same-length c = search needs
 
 returns : tie.Need-returns
-returns c = gaps-tracked _ _ _ _ (c .before .before .before .before .if1 .taken) (c .before .before .fill-gaps .ensures)
+returns c =
+    let f = c .before .before in
+    gaps-tracked _ _ _ _ (f .before .before .if1 .taken) (f .fill-gaps .ensures)
 
 fill-rows-requires : tie.Need-fill-rows-requires
 fill-rows-requires c κs = search needs
@@ -20,7 +22,9 @@ same-length-2 : tie.Need-same-length-2
 same-length-2 c = search needs
 
 returns-2 : tie.Need-returns-2
-returns-2 c = rows-tracked _ _ _ _ (c .before .before .before .before .if1 .left) (c .before .before .fill-rows .ensures)
+returns-2 c =
+    let f = c .before .before in
+    rows-tracked _ _ _ _ (f .before .before .if1 .left) (f .fill-rows .ensures)
 
 pub track-spec : {M : Type 1} → statement M
 track-spec =

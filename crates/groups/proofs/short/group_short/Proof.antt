@@ -1,7 +1,7 @@
 -- `group_short` meets its contract: the loop's invariant is `Turned`, with the distances of the shortened search, and
 -- the sums are those of the groups that the members tell.
 use Prim.Native.Nat.{_-_, _*_}
-use mathlib.Core.Path.{ap, _∙_}
+use mathlib.Core.Path.{_≡_, ap, _∙_}
 use native.Mathlib.Omega.{arith}
 use lib.ListN.{getD}
 use denote.Ref.{now}
@@ -27,7 +27,8 @@ use Rattle.groups.proofs.short.group_short.Statement.{statement}
 use Rattle.groups.proofs.short.group_short.Tie as tie
 
 abbrev Inv-loop : tie.InvT-loop
-Inv-loop keys weights used shades count rows few members₀ anew sums₀ total₀ distances₀ i₀ members sums total distances i =
+Inv-loop keys weights used shades count rows few members₀ anew sums₀ total₀ distances₀ i₀ members sums total distances
+    i =
     Turned used keys weights shades count (shortWorks keys shades count members₀) members₀ members total distances i
     × Summed (memberAt members) keys weights (covered anew used i) sums
 
@@ -36,59 +37,91 @@ abbrev μ-loop : tie.MeasureT-loop
     used - i
 
 -- where the grouping begins
+abbrev start : tie.After-slice-known Inv-loop μ-loop → tie.Start Inv-loop μ-loop
+start c = c .before .before .before .before .before
+
 abbrev st : tie.At-loop Inv-loop μ-loop → tie.Start Inv-loop μ-loop
-st c = c .before .before .before .before .before .before
+st c = start (c .before)
+
+-- the turn in which the entry's shade is found
+abbrev turn : tie.After-rejoin Inv-loop μ-loop → tie.In-loop Inv-loop μ-loop
+turn c = c .before .before
+
+-- where its shade is found, from where the cost is worked out
+abbrev found : tie.After-cost Inv-loop μ-loop → tie.After-rejoin Inv-loop μ-loop
+found c = c .before .before
+
+-- and from where it has joined
+abbrev cost : tie.After-join Inv-loop μ-loop → tie.After-cost Inv-loop μ-loop
+cost c = c .before .before .before .before
 
 -- what is found for the entry, once it is worked out
 abbrev finds-at : (c : tie.After-cost Inv-loop μ-loop)
-    → let a = st (c .before .before .before .before .before) .args in
-    Finds (now (a .keys)) (now (a .weights)) (now (a .shades)) (a .count) (c .before .before .before .before .before .loop .i) (c .before .before .rejoin .result .number)
+    → let l = turn (found c) .before in
+    let a = st l .args in
+    Finds (now (a .keys)) (now (a .weights)) (now (a .shades)) (a .count) (l .loop .i) (found c .rejoin .result .number)
     (c .cost .result)
-finds-at c = record {
-  number-is = c .before .before .rejoin .ensures .0;
-  cost-is =
-      c .cost .ensures ∙ ap (λ d. getD (now (st (c .before .before .before .before .before) .args .weights)) (c .before .before .before .before .before .loop .i) 0 * d)
-      (c .before .before .rejoin .ensures .1 .0);
-}
+finds-at c =
+    let l = turn (found c) .before in
+    record {
+      number-is = found c .rejoin .ensures .0;
+      cost-is =
+          c .cost .ensures
+          ∙ ap (λ d. getD (now (st l .args .weights)) (l .loop .i) 0 * d) (found c .rejoin .ensures .1 .0);
+    }
+
+-- the distances that its search worked out
+abbrev worked-at : (c : tie.After-rejoin Inv-loop μ-loop)
+    → let l = turn c .before in
+    let a = st l .args in
+    c .rejoin .result .count
+    ≡ shortWorks (now (a .keys)) (now (a .shades)) (a .count) (now (a .members)) (l .loop .i)
+worked-at c =
+    let l = turn c .before in
+    short-worked (st l .pre .0) (l .loop .inv .0) _ (c .rejoin .ensures .1 .1)
 
 loop-holds : tie.Need-loop-holds Inv-loop μ-loop
-loop-holds c = (turned-start (short-fitted (c .before .before .before .before .before .pre .0)), c .before .before .before .before .before .pre .2)
+loop-holds c = let p = start c .pre in (turned-start (short-fitted (p .0)), p .2)
 
 rejoin-requires : tie.Need-rejoin-requires Inv-loop μ-loop
 rejoin-requires c κs =
-    let p = st (c .before .before) .pre in
-    (short-again (p .0) (c .before .before .loop .inv .0), p .1, c .before .loop-test .taken)
+    let t = c .before in
+    let l = t .before in
+    (short-again (st l .pre .0) (l .loop .inv .0), st l .pre .1, t .loop-test .taken)
 
 mul-cost : tie.Need-mul-cost Inv-loop μ-loop
 mul-cost c = omega arith
 
 shared-slice-read-cost : tie.Need-shared-slice-read-cost Inv-loop μ-loop
-shared-slice-read-cost c = omega (arith, c .before .before .before .before .loop .inv .0 .fitted .table .weights-room)
+shared-slice-read-cost c = omega (arith, turn (c .before) .before .loop .inv .0 .fitted .table .weights-room)
 
 cost-requires : tie.Need-cost-requires Inv-loop μ-loop
-cost-requires c κs = turned-low (c .before .before .before .before .loop .inv .0) (c .before .before .before .loop-test .taken) _ (c .before .rejoin .ensures .1 .0)
+cost-requires c κs =
+    let t = turn (c .before) in
+    turned-low (t .before .loop .inv .0) (t .loop-test .taken) _ (c .before .rejoin .ensures .1 .0)
 
 add-total : tie.Need-add-total Inv-loop μ-loop
-add-total c = omega (arith, total-fits (c .before .before .before .before .before .loop .inv .0) (c .before .before .before .before .loop-test .taken) (finds-at c))
+add-total c =
+    let t = turn (found c) in
+    omega (arith, total-fits (t .before .loop .inv .0) (t .loop-test .taken) (finds-at c))
 
 add-distances : tie.Need-add-distances Inv-loop μ-loop
 add-distances c =
-    let x = c .before .before .before .before .before .before .loop .inv .0 in
-    omega (
-      arith,
-      distances-fit x (c .before .before .before .before .before .loop-test .taken) (c .before .before .before .rejoin .result .count)
-          (short-worked (st (c .before .before .before .before .before .before) .pre .0) x _ (c .before .before .before .rejoin .ensures .1 .1)),
-    )
+    let f = found (c .before) in
+    let t = turn f in
+    omega (arith, distances-fit (t .before .loop .inv .0) (t .loop-test .taken) _ (worked-at f))
 
 join-requires : tie.Need-join-requires Inv-loop μ-loop
 join-requires c κs =
-    let l = c .before .before .before .before .before .before .before .before .loop .inv in
-    let h = c .before .before .before .before .before .before .before .loop-test .taken in (
+    let f = found (c .before .before .before) in
+    let t = turn f in
+    let l = t .before .loop .inv in
+    let h = t .loop-test .taken in (
       l .0 .fitted .table,
-      short-assigned (st (c .before .before .before .before .before .before .before .before) .pre .0) (l .0),
+      short-assigned (st (t .before) .pre .0) (l .0),
       l .1,
       h,
-      rw (c .before .before .before .before .before .rejoin .ensures .0) (number-below (l .0) h),
+      rw (f .rejoin .ensures .0) (number-below (l .0) h),
     )
 
 add-i : tie.Need-add-i Inv-loop μ-loop
@@ -99,11 +132,12 @@ loop-less c = omega arith
 
 loop-again : tie.Need-loop-again Inv-loop μ-loop
 loop-again c =
-    let x = c .before .before .before .before .before .before .before .before .before .before .before .loop .inv .0 in (
-      rw (c .before .before .join .ensures .0)
-          (turned-step x (c .before .before .before .before .before .before .before .before .before .before .loop-test .taken) (finds-at (c .before .before .before .before .before .before)) _
-          (short-worked (st (c .before .before .before .before .before .before .before .before .before .before .before) .pre .0) x _ (c .before .before .before .before .before .before .before .before .rejoin .ensures .1 .1))),
-      c .before .before .join .ensures .1,
+    let j = c .before .before in
+    let f = found (cost j) in
+    let t = turn f in (
+      rw (j .join .ensures .0)
+          (turned-step (t .before .loop .inv .0) (t .loop-test .taken) (finds-at (cost j)) _ (worked-at f)),
+      j .join .ensures .1,
     )
 
 same-length : tie.Need-same-length Inv-loop μ-loop

@@ -5,6 +5,13 @@ use Rattle.groups.proofs.Tracking.{tracks-gaps, tracks-rows}
 use Rattle.groups.proofs.short.rejoin.Statement.{statement}
 use Rattle.groups.proofs.short.rejoin.Tie as tie
 
+-- where the function begins
+abbrev start : tie.After-shared-slice-known5 → tie.Start
+start c = c .before .before .before .before .before
+
+abbrev st : tie.After-colour-of → tie.Start
+st c = start (c .before .before .before)
+
 mul-p : tie.Need-mul-p
 mul-p c = search needs
 
@@ -12,8 +19,7 @@ shared-slice-read-p : tie.Need-shared-slice-read-p
 shared-slice-read-p c = search needs
 
 cast-p : tie.Need-cast-p
-cast-p c =
-    omega (arith, c .shared-slice-known6 .given (c .before .before .before .before .before .before .args .i))
+cast-p c = omega (arith, c .shared-slice-known6 .given (start (c .before) .args .i))
 
 mul-colour-of : tie.Need-mul-colour-of
 mul-colour-of c = search needs
@@ -23,10 +29,6 @@ shared-slice-read-colour-of c = search needs
 
 colour-of-requires : tie.Need-colour-of-requires
 colour-of-requires c κs = search needs
-
--- where the function begins
-abbrev st : tie.After-colour-of → tie.Start
-st c = c .before .before .before .before .before .before .before .before
 
 walk-gaps-requires : tie.Need-walk-gaps-requires
 walk-gaps-requires c κs =

@@ -14,6 +14,18 @@ Inv-loop keys weights used first₀ second₀ i₀ first second i = Totalling ke
 abbrev μ-loop : tie.MeasureT-loop
 μ-loop keys weights used first₀ second₀ i₀ first second i = used - i
 
+-- where the function begins, from where the loop is
+abbrev st : tie.At-loop Inv-loop μ-loop → tie.Start Inv-loop μ-loop
+st c = c .before .before .before
+
+-- the turn in which the entry's first two are worked out
+abbrev turn : tie.After-red-green Inv-loop μ-loop → tie.In-loop Inv-loop μ-loop
+turn c = c .before .before .before
+
+-- where they are, from where the second two are
+abbrev first : tie.After-blue-pixels Inv-loop μ-loop → tie.After-red-green Inv-loop μ-loop
+first c = c .before .before .before
+
 loop-holds : tie.Need-loop-holds Inv-loop μ-loop
 loop-holds c =
     let a = c .before .before .args in
@@ -32,17 +44,13 @@ shared-slice-read-red-green-2 : tie.Need-shared-slice-read-red-green-2 Inv-loop 
 shared-slice-read-red-green-2 c = omega arith
 
 red-green-requires : tie.Need-red-green-requires Inv-loop μ-loop
-red-green-requires c κs =
-    let p = c .before .before .before .before .before .before .pre in
-    weight-at-most _ _ _ p _ (omega arith)
+red-green-requires c κs = weight-at-most _ _ _ (st (c .before .before .before) .pre) _ (omega arith)
 
 add-first : tie.Need-add-first Inv-loop μ-loop
 add-first c =
-    let turn = c .before .before .before in
-    let l = turn .before .loop in
-    let p = turn .before .before .before .before .pre in
-    rw (l .inv .red-green, c .red-green .ensures)
-    (omega (arith, whole-adds-fit _ _ _ p redGreen red-green-at-most (l .i) (turn .loop-test .taken)))
+    let l = turn c .before in
+    let fit = whole-adds-fit _ _ _ (st l .pre) redGreen red-green-at-most (l .loop .i) (turn c .loop-test .taken) in
+    rw (c .red-green .ensures, l .loop .inv .red-green) (omega (arith, fit))
 
 mul-blue-pixels : tie.Need-mul-blue-pixels Inv-loop μ-loop
 mul-blue-pixels c = omega arith
@@ -57,17 +65,14 @@ shared-slice-read-blue-pixels-2 : tie.Need-shared-slice-read-blue-pixels-2 Inv-l
 shared-slice-read-blue-pixels-2 c = omega arith
 
 blue-pixels-requires : tie.Need-blue-pixels-requires Inv-loop μ-loop
-blue-pixels-requires c κs =
-    let turn = c .before .before .before .before .before in
-    weight-at-most _ _ _ (turn .before .before .before .before .pre) _ (omega arith)
+blue-pixels-requires c κs = weight-at-most _ _ _ (st (turn (c .before .before) .before) .pre) _ (omega arith)
 
 add-second : tie.Need-add-second Inv-loop μ-loop
 add-second c =
-    let turn = c .before .before .before .before .before .before in
-    let l = turn .before .loop in
-    let p = turn .before .before .before .before .pre in
-    rw (l .inv .blue-pixels, c .blue-pixels .ensures)
-    (omega (arith, whole-adds-fit _ _ _ p bluePixels blue-pixels-at-most (l .i) (turn .loop-test .taken)))
+    let t = turn (first c) in
+    let l = t .before in
+    let fit = whole-adds-fit _ _ _ (st l .pre) bluePixels blue-pixels-at-most (l .loop .i) (t .loop-test .taken) in
+    rw (c .blue-pixels .ensures, l .loop .inv .blue-pixels) (omega (arith, fit))
 
 add-i : tie.Need-add-i Inv-loop μ-loop
 add-i c = omega arith
@@ -77,9 +82,9 @@ loop-less c = omega arith
 
 loop-again : tie.Need-loop-again Inv-loop μ-loop
 loop-again c =
-    let turn = c .before .before .before .before .before .before in
-    totalling-step (turn .before .loop .inv) (turn .loop-test .taken) _ _
-    (c .before .before .before .red-green .ensures) (c .blue-pixels .ensures)
+    let t = turn (first c) in
+    totalling-step (t .before .loop .inv) (t .loop-test .taken) _ _ (first c .red-green .ensures)
+    (c .blue-pixels .ensures)
 
 returns : tie.Need-returns Inv-loop μ-loop
 returns c = totalling-done (c .before .loop .inv) (c .loop-test .left)

@@ -16,7 +16,9 @@ green-of-requires : tie.Need-green-of-requires
 green-of-requires c κs = search needs
 
 mul-pair-2 : tie.Need-mul-pair-2
-mul-pair-2 c = let st = c .before .before in omega (arith, times-fits (st .args .weight) _ (st .pre) (c .green-of .ensures .1))
+mul-pair-2 c =
+    let st = c .before .before in
+    omega (arith, times-fits (st .args .weight) _ (st .pre) (c .green-of .ensures .1))
 
 pair-requires : tie.Need-pair-requires
 pair-requires c κs = search needs

@@ -15,6 +15,18 @@ Inv-loop keys used p d₀ far₀ i₀ d far i = Lowering keys used p d₀ d far 
 abbrev μ-loop : tie.MeasureT-loop
 μ-loop keys used p d₀ far₀ i₀ d far i = used - i
 
+-- where the function begins, from where the loop is
+abbrev st : tie.At-loop Inv-loop μ-loop → tie.Start Inv-loop μ-loop
+st c = c .before .before .before
+
+-- the loop, from where the entry's distance is worked out
+abbrev turn : tie.After-distance Inv-loop μ-loop → tie.At-loop Inv-loop μ-loop
+turn c = c .before .before .before .before
+
+-- where it is, from where the lesser of both is taken
+abbrev measured : tie.After-lesser Inv-loop μ-loop → tie.After-distance Inv-loop μ-loop
+measured c = c .before .before
+
 loop-holds : tie.Need-loop-holds Inv-loop μ-loop
 loop-holds c = let a = c .before .before .args in lowering-start (now (a .keys)) (a .used) (a .p) (now (a .d))
 
@@ -28,13 +40,13 @@ colour-of-requires : tie.Need-colour-of-requires Inv-loop μ-loop
 colour-of-requires c κs = search needs
 
 distance-requires : tie.Need-distance-requires Inv-loop μ-loop
-distance-requires c κs = (c .colour-of .ensures .1, c .before .before .before .before .before .before .pre .1)
+distance-requires c κs = (c .colour-of .ensures .1, st (c .before .before .before) .pre .1)
 
 mul-lesser : tie.Need-mul-lesser Inv-loop μ-loop
 mul-lesser c = omega arith
 
 slice-read-lesser : tie.Need-slice-read-lesser Inv-loop μ-loop
-slice-read-lesser c = rw (lowering-room (c .before .before .before .before .before .loop .inv)) (omega arith)
+slice-read-lesser c = rw (lowering-room (turn (c .before) .loop .inv)) (omega arith)
 
 lesser-requires : tie.Need-lesser-requires Inv-loop μ-loop
 lesser-requires c κs = search needs
@@ -43,7 +55,7 @@ mul-d : tie.Need-mul-d Inv-loop μ-loop
 mul-d c = omega arith
 
 slice-write-d : tie.Need-slice-write-d Inv-loop μ-loop
-slice-write-d c = rw (lowering-room (c .before .before .before .before .before .before .loop .inv)) (omega arith)
+slice-write-d c = rw (lowering-room (turn (measured c) .loop .inv)) (omega arith)
 
 greater-requires : tie.Need-greater-requires Inv-loop μ-loop
 greater-requires c κs = search needs
@@ -57,12 +69,12 @@ loop-less c = omega arith
 loop-again : tie.Need-loop-again Inv-loop μ-loop
 loop-again c =
     let y = c .before in
-    let x = y .before .before in
-    let l = x .before .before .before .before in
+    let x = measured y in
+    let l = turn x in
     lowering-step (l .loop .inv) (omega arith) (omega arith) (x .distance .result) (y .lesser .result)
     (c .greater .result)
     (x .distance .ensures .0
-    ∙ ap (λ q. distance q (l .before .before .before .args .p)) (x .before .colour-of .ensures .0))
+    ∙ ap (λ q. distance q (st l .args .p)) (x .before .colour-of .ensures .0))
     (y .lesser .ensures) (c .greater .ensures)
 
 same-length : tie.Need-same-length Inv-loop μ-loop

@@ -26,17 +26,22 @@ Inv-loop keys used base shades₀ count members₀ p₀ q₀ shades members p q 
 abbrev μ-loop : tie.MeasureT-loop
 μ-loop keys used base shades₀ count members₀ p₀ q₀ shades members p q = count - q
 
--- where the call began
+-- where the call begins
+abbrev called : tie.After-set-all-arg Inv-loop μ-loop → tie.Start Inv-loop μ-loop
+called c = c .before .before .before .before .before
+
 abbrev start : tie.After-set-all Inv-loop μ-loop → tie.Start Inv-loop μ-loop
-start c = c .before .before .before .before .before .before
+start c = called (c .before)
+
+-- the start that is to be stored
+abbrev chosen : tie.After-put-shade-arg Inv-loop μ-loop → tie.After-turn Inv-loop μ-loop
+chosen c = c .before .before .before
 
 set-all-requires : tie.Need-set-all-requires Inv-loop μ-loop
-set-all-requires c κs = c .before .before .before .before .before .pre .5
+set-all-requires c κs = called c .pre .5
 
 shade-at-requires : tie.Need-shade-at-requires Inv-loop μ-loop
-shade-at-requires c κs =
-    let s = c .before .before .before .before .before .before .before .before in
-    omega (arith, s .pre .2)
+shade-at-requires c κs = omega (arith, start (c .before .before) .pre .2)
 
 loop-holds : tie.Need-loop-holds Inv-loop μ-loop
 loop-holds c =
@@ -54,7 +59,7 @@ turn-requires c κs =
 
 put-shade-requires : tie.Need-put-shade-requires Inv-loop μ-loop
 put-shade-requires c κs =
-    let l = c .before .before .before .before .before .before in
+    let l = chosen c .before .before .before in
     let p = start (l .before .before .before .before) .pre in
     rw (storing-coordinates (l .loop .inv)) (omega (arith, p .4))
 
@@ -67,7 +72,7 @@ loop-less c = omega arith
 loop-again : tie.Need-loop-again Inv-loop μ-loop
 loop-again c =
     let put = c .before .before in
-    let turned = put .before .before .before .before in
+    let turned = chosen (put .before) in
     let l = turned .before .before .before in
     let p = start (l .before .before .before .before) .pre in
     storing-step (l .loop .inv) (turned .before .before .loop-test .taken) (p .4) _ _ (turned .turn .result)

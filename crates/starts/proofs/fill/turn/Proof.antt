@@ -32,14 +32,21 @@ given s = record {
   same = s .pre .5;
 }
 
--- where the call began
+-- where the call begins
+abbrev called : tie.After-lower-kept-arg → tie.Start
+called c = c .before .before .before .before .before
+
 abbrev st : tie.After-lower-kept → tie.Start
-st c = c .before .before .before .before .before .before
+st c = called (c .before)
+
+-- where the distances are lowered, from where the farthest entry is looked for
+abbrev lowered : tie.After-first-of-arg → tie.After-lower-kept
+lowered c = c .before .before .before .before
 
 -- the place found is that of an entry
-found-below : (c : tie.After-first-of) → c .first-of .result < st (c .before .before .before .before .before) .args .used
+found-below : (c : tie.After-first-of) → c .first-of .result < st (lowered (c .before)) .args .used
 found-below c =
-    let s = st (c .before .before .before .before .before) in
+    let s = st (lowered (c .before)) in
     rw (c .first-of .ensures) (first-below (λ a b. ltb b a) (s .args .used) _ (s .pre .0 .some))
 
 shade-at-requires : tie.Need-shade-at-requires
@@ -57,7 +64,7 @@ returns c =
 
 lower-kept-requires : tie.Need-lower-kept-requires
 lower-kept-requires c κs =
-    let s = c .before .before .before .before .before in
+    let s = called c in
     (s .pre .0, choosing-within (given s), s .pre .3)
 
 shade-at-requires-2 : tie.Need-shade-at-requires-2
@@ -76,7 +83,7 @@ returns-2 c =
 
 first-of-requires : tie.Need-first-of-requires
 first-of-requires c κs =
-    let l = c .before .before .before .before in
+    let l = lowered c in
     let s = st l in
     let e = l .lower-kept .ensures .0 in (
       s .pre .0 .some,
@@ -86,12 +93,12 @@ first-of-requires c κs =
 
 mul-colour-of : tie.Need-mul-colour-of
 mul-colour-of c =
-    let s = st (c .before .before .before .before .before) in
+    let s = st (lowered (c .before)) in
     omega (arith, s .good, s .pre .0 .room, found-below c)
 
 shared-slice-read-colour-of : tie.Need-shared-slice-read-colour-of
 shared-slice-read-colour-of c =
-    let s = st (c .before .before .before .before .before .before) in
+    let s = st (lowered (c .before .before)) in
     omega (arith, s .pre .0 .room, found-below (c .before))
 
 colour-of-requires : tie.Need-colour-of-requires
@@ -103,7 +110,7 @@ same-length-2 c = search needs
 returns-3 : tie.Need-returns-3
 returns-3 c =
     let f = c .before .before in
-    let l = f .before .before .before .before .before in
+    let l = lowered (f .before) in
     let some = l .before .before .if1 .left in
     let s = st l in
     let e = l .lower-kept .ensures .0 in (

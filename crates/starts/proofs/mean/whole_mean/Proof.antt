@@ -8,17 +8,24 @@ use borrow.Author.Needs.{needs}
 use Rattle.starts.proofs.mean.whole_mean.Statement.{statement}
 use Rattle.starts.proofs.mean.whole_mean.Tie as tie
 
+-- where the function begins, from where the table is summed
+abbrev st : tie.After-whole-sums → tie.Start
+st c = c .before .before .before
+
+-- where it is, from where the first sum is taken apart
+abbrev summed : tie.After-high → tie.After-whole-sums
+summed c = c .before .before
+
 -- the table's sums, taken apart
 read-off : (c : tie.After-whole-sums)
-    → Parts
-    (coloursOf (c .before .before .before .args .used) (now (c .before .before .before .args .keys))
-    (now (c .before .before .before .args .weights)))
-    (c .whole-sums .result .first) (c .whole-sums .result .second)
+    → (let a = st c .args in
+    Parts (coloursOf (a .used) (now (a .keys)) (now (a .weights))) (c .whole-sums .result .first)
+    (c .whole-sums .result .second))
 read-off c =
-    let st = c .before .before .before in
+    let a = st c .args in
     let e = c .whole-sums .ensures in
-    parts (st .args .used) (λ i. getD (now (st .args .weights)) i 0) (λ i. getD (now (st .args .keys)) i 0) _ _
-    (st .pre .0 .pixels) (e .0) (e .1)
+    parts (a .used) (λ i. getD (now (a .weights)) i 0) (λ i. getD (now (a .keys)) i 0) _ _ (st c .pre .0 .pixels) (e .0)
+    (e .1)
 
 whole-sums-requires : tie.Need-whole-sums-requires
 whole-sums-requires c κs = search needs
@@ -28,33 +35,32 @@ high-requires c κs = search needs
 
 rounded-mean-requires : tie.Need-rounded-mean-requires
 rounded-mean-requires c κs =
-    let sums = c .before .before in
-    let p = read-off sums in
-    mean-asked p 0 _ (c .high .ensures ∙ p .red) (sums .before .before .before .pre .1)
+    let p = read-off (summed c) in
+    mean-asked p 0 _ (c .high .ensures ∙ p .red) (st (summed c) .pre .1)
 
 low-requires : tie.Need-low-requires
 low-requires c κs = search needs
 
 rounded-mean-requires-2 : tie.Need-rounded-mean-requires-2
 rounded-mean-requires-2 c κs =
-    let sums = c .before .before .before .before in
+    let sums = summed (c .before .before) in
     let p = read-off sums in
-    mean-asked p 1 _ (c .low .ensures ∙ p .green) (sums .before .before .before .pre .1)
+    mean-asked p 1 _ (c .low .ensures ∙ p .green) (st sums .pre .1)
 
 high-requires-2 : tie.Need-high-requires-2
 high-requires-2 c κs = search needs
 
 rounded-mean-requires-3 : tie.Need-rounded-mean-requires-3
 rounded-mean-requires-3 c κs =
-    let sums = c .before .before .before .before .before .before in
+    let sums = summed (c .before .before .before .before) in
     let p = read-off sums in
-    mean-asked p 2 _ (c .high2 .ensures ∙ p .blue) (sums .before .before .before .pre .1)
+    mean-asked p 2 _ (c .high2 .ensures ∙ p .blue) (st sums .pre .1)
 
 returns : tie.Need-returns
 returns c =
     let second = c .before .before in
     let first = second .before .before in
-    let p = read-off (first .before .before .before) in
+    let p = read-off (summed (first .before)) in
     let r = mean-of-parts p 0 _ (first .before .high .ensures ∙ p .red) _ (first .rounded-mean .ensures .0) in
     let g = mean-of-parts p 1 _ (second .before .low .ensures ∙ p .green) _ (second .rounded-mean2 .ensures .0) in
     let b = mean-of-parts p 2 _ (c .before .high2 .ensures ∙ p .blue) _ (c .rounded-mean3 .ensures .0) in (
