@@ -13,10 +13,9 @@ const ARCHIVE: &str = "libkohlenfloh.a";
 fn main() {
     println!("cargo:rerun-if-env-changed=KOHLENFLOH_ARCHIVE");
     let made = match env::var_os("KOHLENFLOH_ARCHIVE") {
-        Some(folder) => PathBuf::from(folder).join(ARCHIVE),
+        Some(folder) => made_before(PathBuf::from(folder)),
         None => build_archive(),
     };
-    println!("cargo:rerun-if-changed={}", made.display());
     // A copy of its own, so that whoever clears the folder it was made in takes nothing away from here.
     let out = PathBuf::from(env::var_os("OUT_DIR").expect("cargo names a folder for what is built"));
     std::fs::copy(&made, out.join(ARCHIVE)).unwrap_or_else(|why| panic!("cannot copy {}: {why}", made.display()));
@@ -24,7 +23,15 @@ fn main() {
     println!("cargo:rustc-link-lib=static=kohlenfloh");
 }
 
-/// An archive built from the sources beside this crate.
+/// The archive in a folder, used again when it changes.
+fn made_before(folder: PathBuf) -> PathBuf {
+    let made = folder.join(ARCHIVE);
+    println!("cargo:rerun-if-changed={}", made.display());
+    made
+}
+
+/// An archive built from the sources beside this crate, and built again when they change. The archive is none of those:
+/// it is later than the start of the build that makes it, and would have it made at every use.
 fn build_archive() -> PathBuf {
     let here = PathBuf::from(env::var_os("CARGO_MANIFEST_DIR").expect("cargo names the crate's folder"));
     let top = here.parent().expect("the crate stands in the repository");
