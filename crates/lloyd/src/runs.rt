@@ -76,9 +76,9 @@ pub fn run(
         keys,
         weights,
         used,
+        &mut shades,
         count,
         rounds,
-        &mut shades,
         members,
         totals,
     );

@@ -34,14 +34,14 @@ module _ {rows : List Row} {o : RoundOutcome} (C : Colours) (k : ℕ) (a : State
       rw (refuses .by-refusal n e) (record { answer = is; coordinates-are = refl; members-are = refl })
 
   -- the contract where it is made
-  meets-made : (z : State) (total moved count : ℕ) (r : Rounded) → firstOf rows ≡ done
-      → StepMeets toMean C k (distances C k) a z total moved count
-      → r ≡ record { refusal = done; total = total; moved = moved; distances = count }
+  meets-made : (z : State) (total moved counted : ℕ) (r : Rounded) → firstOf rows ≡ done
+      → StepMeets toMean C k (distances C k) a z total moved counted
+      → r ≡ record { refusal = done; total = total; moved = moved; distances = counted }
       → RoundMeets o r (z .coordinates) (z .members)
-  meets-made z total moved count r e m is =
+  meets-made z total moved counted r e m is =
       rw (refuses .by-none e)
       (record {
-        answer = is ∙ rw (m .total-is, m .moved-is, m .count-is);
+        answer = is ∙ rw (m .total-is, m .moved-is, m .distances-is);
         coordinates-are = ap (λ (y : State). y .coordinates) (m .state);
         members-are = ap (λ (y : State). y .members) (m .state);
       })
@@ -57,14 +57,14 @@ module _ (rec : Record) (ks ws : List ℕ) (a : State) where
       (plain-refuses rec ks ws a)
 
   -- a plain round that is made
-  pub plain-meets-made : PlainGood rec ks ws a → (z : State) (total moved count : ℕ) (r : Rounded)
+  pub plain-meets-made : PlainGood rec ks ws a → (z : State) (total moved counted : ℕ) (r : Rounded)
       → StepMeets toMean (coloursOf (rec .used) ks ws) (length (a .coordinates) / 3)
-      (plainDistances (coloursOf (rec .used) ks ws) (length (a .coordinates) / 3)) a z total moved count
-      → r ≡ record { refusal = done; total = total; moved = moved; distances = count }
+      (plainDistances (coloursOf (rec .used) ks ws) (length (a .coordinates) / 3)) a z total moved counted
+      → r ≡ record { refusal = done; total = total; moved = moved; distances = counted }
       → RoundMeets (plainRound rec ks ws a) r (z .coordinates) (z .members)
-  plain-meets-made g z total moved count r m is =
+  plain-meets-made g z total moved counted r m is =
       meets-made (coloursOf (rec .used) ks ws) (length (a .coordinates) / 3) a plainDistances
-      (plain-refuses rec ks ws a) z total moved count r (plain-none rec ks ws a g) m is
+      (plain-refuses rec ks ws a) z total moved counted r (plain-none rec ks ws a g) m is
 
   -- a shortened round that is refused
   pub short-meets-refused : (n : Refusal) (r : Rounded) → firstOf (shortRows rec ks ws a) ≡ numberOf n
@@ -76,11 +76,11 @@ module _ (rec : Record) (ks ws : List ℕ) (a : State) where
   -- a shortened round that is made
   pub short-meets-made : PlainGood rec ks ws a
       → badMember (rec .used) (length (a .coordinates) / 3) (a .members) ≡ false
-      → (z : State) (total moved count : ℕ) (r : Rounded)
+      → (z : State) (total moved counted : ℕ) (r : Rounded)
       → StepMeets toMean (coloursOf (rec .used) ks ws) (length (a .coordinates) / 3)
-      (shortDistances (coloursOf (rec .used) ks ws) (length (a .coordinates) / 3)) a z total moved count
-      → r ≡ record { refusal = done; total = total; moved = moved; distances = count }
+      (shortDistances (coloursOf (rec .used) ks ws) (length (a .coordinates) / 3)) a z total moved counted
+      → r ≡ record { refusal = done; total = total; moved = moved; distances = counted }
       → RoundMeets (shortRound rec ks ws a) r (z .coordinates) (z .members)
-  short-meets-made g b z total moved count r m is =
+  short-meets-made g b z total moved counted r m is =
       meets-made (coloursOf (rec .used) ks ws) (length (a .coordinates) / 3) a shortDistances
-      (short-refuses rec ks ws a) z total moved count r (short-none rec ks ws a g b) m is
+      (short-refuses rec ks ws a) z total moved counted r (short-none rec ks ws a g b) m is

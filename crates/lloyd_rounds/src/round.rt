@@ -36,14 +36,14 @@ fn made(a: Stepped) -> Rounded
       refusal = 0;
       total = a .total;
       moved = a .moved;
-      distances = a .count;
+      distances = a .distances;
     } ⌝ }
 {
     Rounded {
         refusal: DONE,
         total: a.total,
         moved: a.moved,
-        distances: a.count,
+        distances: a.distances,
     }
 }
 
@@ -80,8 +80,8 @@ pub fn plain_round(
     if members.len() < used {
         return refused(SHORT_ROOM);
     }
-    let k = coordinates.len() / 3;
-    made(rounds::plain_step(keys, weights, used, k, coordinates, members))
+    let count = coordinates.len() / 3;
+    made(rounds::plain_step(keys, weights, used, coordinates, count, members))
 }
 
 // One round by the shortened search, which reads each colour's former shade from the members. It
@@ -115,9 +115,9 @@ pub fn short_round(
     if members.len() < used {
         return refused(SHORT_ROOM);
     }
-    let k = coordinates.len() / 3;
-    if bad_member(members, used, k) {
+    let count = coordinates.len() / 3;
+    if bad_member(members, used, count) {
         return refused(BAD_MEMBER);
     }
-    made(rounds::short_step(keys, weights, used, k, coordinates, members))
+    made(rounds::short_step(keys, weights, used, coordinates, count, members))
 }

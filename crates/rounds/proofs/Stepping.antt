@@ -27,10 +27,10 @@ module _ {used : ℕ} {ks ws s : List ℕ} {k : ℕ} {before after t : List ℕ}
   )
 
   -- what the round leaves and answers
-  pub step-meets : (s′ : List ℕ) (moved count : ℕ) (distances : State → ℕ) → s′ ≡ fill (3 * k) (goes t s) s
-      → moved ≡ howMany k (λ q. not (stays t s q)) → count ≡ distances (stateOf s before)
-      → StepMeets toMean (coloursOf used ks ws) k distances (stateOf s before) (stateOf s′ after) total moved count
-  step-meets s′ moved count distances es em ec =
+  pub step-meets : (s′ : List ℕ) (moved counted : ℕ) (distances : State → ℕ) → s′ ≡ fill (3 * k) (goes t s) s
+      → moved ≡ howMany k (λ q. not (stays t s q)) → counted ≡ distances (stateOf s before)
+      → StepMeets toMean (coloursOf used ks ws) k distances (stateOf s before) (stateOf s′ after) total moved counted
+  step-meets s′ moved counted distances es em ec =
       let m = joins (coloursOf used ks ws) k s in
       record {
         state = ap₂ stateOf
@@ -38,7 +38,7 @@ module _ {used : ℕ} {ks ws s : List ℕ} {k : ℕ} {before after t : List ℕ}
             (g .members);
         total-is = g .total-is;
         moved-is = em ∙ movers-are used ks ws (p .table) m t (g .sums) s k (p .fit .shades .few);
-        count-is = ec;
+        distances-is = ec;
       }
 
   -- the sums that it leaves are those of the groups that its members tell

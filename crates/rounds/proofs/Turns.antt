@@ -115,9 +115,9 @@ module _ (rule : Rule) (C : Colours) (k limit : ℕ) (a : State) where
     going-length = ap length (g .totals-is) ∙ fill-length r (λ n. totalOf C k (at n)) before
 
     -- and its distances are added without overflow
-    pub going-counted : r < go → Fair C → k ≤ mostShades → limit ≤ mostRounds → (count : ℕ)
-        → count ≡ shortDistances C k z → distances + count ≤ mostRounds * (mostEntries * (mostShades + 1))
-    going-counted h fair few most count e =
+    pub going-counted : r < go → Fair C → k ≤ mostShades → limit ≤ mostRounds → (counted : ℕ)
+        → counted ≡ shortDistances C k z → distances + counted ≤ mostRounds * (mostEntries * (mostShades + 1))
+    going-counted h fair few most counted e =
         omega (
           arith,
           distances-at-most fair few (r + 1) (omega (arith, going-below h)),
@@ -127,10 +127,10 @@ module _ (rule : Rule) (C : Colours) (k limit : ℕ) (a : State) where
         )
 
     -- one round more
-    pub going-next : r < go → r < length before → {y : State} {total moved′ count go′ : ℕ}
-        → StepMeets rule C k (shortDistances C k) z y total moved′ count → go′ ≡ cond (eqb moved′ 0) (r + 1) limit
-        → Going before y (set totals r total) (r + 1) go′ moved′ (distances + count)
-    going-next h room {y} {total} {moved′} {count} {go′} m eg =
+    pub going-next : r < go → r < length before → {y : State} {total moved′ counted go′ : ℕ}
+        → StepMeets rule C k (shortDistances C k) z y total moved′ counted → go′ ≡ cond (eqb moved′ 0) (r + 1) limit
+        → Going before y (set totals r total) (r + 1) go′ moved′ (distances + counted)
+    going-next h room {y} {total} {moved′} {counted} {go′} m eg =
         let e : r + 1 - 1 ≡ r = omega arith in
         let mv : moved′ ≡ movedOf rule C k (at r) = m .moved-is ∙ ap (movedOf rule C k) (g .state) in
         record {
@@ -141,7 +141,7 @@ module _ (rule : Rule) (C : Colours) (k limit : ℕ) (a : State) where
           totals-is = rw (m .total-is ∙ ap (totalOf C k) (g .state), g .totals-is)
               (fill-more r (λ n. totalOf C k (at n)) before room);
           moved-is = λ p. rw e mv;
-          distances-is = rw (m .count-is ∙ ap (shortDistances C k) (g .state), g .distances-is)
+          distances-is = rw (m .distances-is ∙ ap (shortDistances C k) (g .state), g .distances-is)
               (sym (sum-more r (λ n. shortDistances C k (at n))));
         }
 

@@ -8,7 +8,21 @@ use lib.ListN.{getD, length}
 use Rattle.number.specs.{sum, fill, firstThat}
 use Rattle.shades.specs.{mostShades}
 use Rattle.table_entries.specs.{Tabled}
-use Rattle.method.specs.{mostRounds, Colours, State, Fit, coloursOf, Rule, step, after, quiet, totalOf, movedOf, shortDistances, roundsMade}
+use Rattle.method.specs.{
+  mostRounds,
+  Colours,
+  State,
+  Fit,
+  coloursOf,
+  Rule,
+  step,
+  after,
+  quiet,
+  totalOf,
+  movedOf,
+  shortDistances,
+  roundsMade,
+}
 
 -- a table, and a state fit for a round on it
 pub record Steppable (used : ℕ) (ks ws : List ℕ) (k : ℕ) (a : State) : Type 0 where
@@ -22,11 +36,11 @@ pub record Walkable (used : ℕ) (ks ws : List ℕ) (k : ℕ) (a : State) : Type
 
 -- from state a to state z: a round of the rule, with its total, the shades moved and the distances worked out
 pub record StepMeets (rule : Rule) (C : Colours) (k : ℕ) (distances : State → ℕ) (a z : State)
-    (total moved count : ℕ) : Type 0 where
+    (total moved counted : ℕ) : Type 0 where
   pub state : z ≡ step rule C k a
   pub total-is : total ≡ totalOf C k a
   pub moved-is : moved ≡ movedOf rule C k a
-  pub count-is : count ≡ distances a
+  pub distances-is : counted ≡ distances a
 
 -- from state a to state z: rounds of the rule to the first quiet one or the limit, each total stored, all distances
 -- added up, and whether one was quiet

@@ -29,7 +29,7 @@ pub use total::final_total;
 pub struct Stepped {
     pub total: u64,
     pub moved: u32,
-    pub count: u64,
+    pub distances: u64,
 }
 
 // What rounds answer: how many were made, whether the last moved no shade, and all distances.

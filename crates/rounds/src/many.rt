@@ -34,31 +34,31 @@ pub fn make_rounds(
     keys: &[u32],
     weights: &[u32],
     used: usize,
-    k: usize,
+    shades: &mut [u32],
+    count: usize,
     limit: usize,
-    s: &mut [u32],
     members: &mut [u32],
     totals: &mut [u64],
 ) -> Series
-    requires { ⌜ Walkable used (now keys) (now weights) k (stateOf (now s) (now members))
+    requires { ⌜ Walkable used (now keys) (now weights) count (stateOf (now shades) (now members))
         × (0 < limit) × (limit ≤ mostRounds) × (limit ≤ length (now totals)) ⌝ }
     ensures { λ r. ⌜ SeriesMeets toMean
-        (coloursOf used (now (keys .entry)) (now (weights .entry))) k limit
-        (stateOf (now (s .entry)) (now (members .entry)))
-        (stateOf (now (s .exit)) (now (members .exit)))
+        (coloursOf used (now (keys .entry)) (now (weights .entry))) count limit
+        (stateOf (now (shades .entry)) (now (members .entry)))
+        (stateOf (now (shades .exit)) (now (members .exit)))
         (now (totals .entry)) (now (totals .exit)) (r .rounds) (r .settled) (r .distances) ⌝ }
 {
-    let mut t = [0u64; 128];
+    let mut sums = [0u64; 128];
     let mut anew = true;
     let mut r = 0;
     let mut go = limit;
     let mut moved: u32 = 1;
     let mut distances: u64 = 0;
     while r < go {
-        let a = next_step(keys, weights, used, k, s, members, anew, &mut t);
+        let a = next_step(keys, weights, used, shades, count, members, anew, &mut sums);
         anew = false;
         totals[r] = a.total;
-        distances += a.count;
+        distances += a.distances;
         moved = a.moved;
         r += 1;
         go = bound(moved, r, limit);

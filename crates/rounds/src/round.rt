@@ -11,61 +11,73 @@ pub fn plain_step(
     keys: &[u32],
     weights: &[u32],
     used: usize,
-    k: usize,
-    s: &mut [u32],
+    shades: &mut [u32],
+    count: usize,
     members: &mut [u32],
 ) -> Stepped
-    requires { ⌜ Steppable used (now keys) (now weights) k (stateOf (now s) (now members)) ⌝ }
+    requires { ⌜ Steppable used (now keys) (now weights) count
+        (stateOf (now shades) (now members)) ⌝ }
     ensures { λ r. ⌜ StepMeets toMean
-        (coloursOf used (now (keys .entry)) (now (weights .entry))) k
-        (plainDistances (coloursOf used (now (keys .entry)) (now (weights .entry))) k)
-        (stateOf (now (s .entry)) (now (members .entry)))
-        (stateOf (now (s .exit)) (now (members .exit)))
-        (r .total) (r .moved) (r .count) ⌝ }
+        (coloursOf used (now (keys .entry)) (now (weights .entry))) count
+        (plainDistances (coloursOf used (now (keys .entry)) (now (weights .entry))) count)
+        (stateOf (now (shades .entry)) (now (members .entry)))
+        (stateOf (now (shades .exit)) (now (members .exit)))
+        (r .total) (r .moved) (r .distances) ⌝ }
 {
-    let mut t = [0u64; 128];
-    let a = group_all::group_plain(keys, weights, used, s, k, members, &mut t);
-    let moved = moves::count_movers(&t, s, k);
-    moves::move_shades(&t, s, k);
+    let mut sums = [0u64; 128];
+    let a = group_all::group_plain(keys, weights, used, shades, count, members, &mut sums);
+    let moved = moves::count_movers(&sums, shades, count);
+    moves::move_shades(&sums, shades, count);
     Stepped {
         total: a.total,
         moved,
-        count: a.distances,
+        distances: a.distances,
     }
 }
 
-// One round by the shortened search, which leaves the sums of its groups in `t`. Requires the same,
-// that each member is a shade's number, and in `t` the sums of the former groups, or zeros where the
-// sums are taken anew.
+// One round by the shortened search, which leaves the sums of its groups in `sums`. Requires the
+// same, that each member is a shade's number, and in `sums` those of the former groups, or zeros
+// where they are taken anew.
 pub fn next_step(
     keys: &[u32],
     weights: &[u32],
     used: usize,
-    k: usize,
-    s: &mut [u32],
+    shades: &mut [u32],
+    count: usize,
     members: &mut [u32],
     anew: bool,
-    t: &mut [u64; 128],
+    sums: &mut [u64; 128],
 ) -> Stepped
-    requires { ⌜ Walkable used (now keys) (now weights) k (stateOf (now s) (now members))
-        × Summed (memberAt (now members)) (now keys) (now weights) (covered anew used 0) (now t) ⌝ }
+    requires { ⌜ Walkable used (now keys) (now weights) count (stateOf (now shades) (now members))
+        × Summed (memberAt (now members)) (now keys) (now weights) (covered anew used 0)
+        (now sums) ⌝ }
     ensures step { λ r. ⌜ StepMeets toMean
-        (coloursOf used (now (keys .entry)) (now (weights .entry))) k
-        (shortDistances (coloursOf used (now (keys .entry)) (now (weights .entry))) k)
-        (stateOf (now (s .entry)) (now (members .entry)))
-        (stateOf (now (s .exit)) (now (members .exit)))
-        (r .total) (r .moved) (r .count) ⌝ }
+        (coloursOf used (now (keys .entry)) (now (weights .entry))) count
+        (shortDistances (coloursOf used (now (keys .entry)) (now (weights .entry))) count)
+        (stateOf (now (shades .entry)) (now (members .entry)))
+        (stateOf (now (shades .exit)) (now (members .exit)))
+        (r .total) (r .moved) (r .distances) ⌝ }
     ensures sums { λ _. ⌜ Summed (memberAt (now (members .exit))) (now (keys .entry))
-        (now (weights .entry)) used (now (t .exit)) ⌝ }
+        (now (weights .entry)) used (now (sums .exit)) ⌝ }
 {
-    let mut g = [0u32; 4096];
-    let a = groups::regroup(keys, weights, used, s, k, &mut g, members, anew, t);
-    let moved = moves::count_movers(t, s, k);
-    moves::move_shades(t, s, k);
+    let mut rows = [0u32; 4096];
+    let a = groups::regroup(
+        keys,
+        weights,
+        used,
+        shades,
+        count,
+        &mut rows,
+        members,
+        anew,
+        sums,
+    );
+    let moved = moves::count_movers(sums, shades, count);
+    moves::move_shades(sums, shades, count);
     Stepped {
         total: a.total,
         moved,
-        count: a.distances,
+        distances: a.distances,
     }
 }
 
@@ -74,18 +86,19 @@ pub fn short_step(
     keys: &[u32],
     weights: &[u32],
     used: usize,
-    k: usize,
-    s: &mut [u32],
+    shades: &mut [u32],
+    count: usize,
     members: &mut [u32],
 ) -> Stepped
-    requires { ⌜ Walkable used (now keys) (now weights) k (stateOf (now s) (now members)) ⌝ }
+    requires { ⌜ Walkable used (now keys) (now weights) count
+        (stateOf (now shades) (now members)) ⌝ }
     ensures { λ r. ⌜ StepMeets toMean
-        (coloursOf used (now (keys .entry)) (now (weights .entry))) k
-        (shortDistances (coloursOf used (now (keys .entry)) (now (weights .entry))) k)
-        (stateOf (now (s .entry)) (now (members .entry)))
-        (stateOf (now (s .exit)) (now (members .exit)))
-        (r .total) (r .moved) (r .count) ⌝ }
+        (coloursOf used (now (keys .entry)) (now (weights .entry))) count
+        (shortDistances (coloursOf used (now (keys .entry)) (now (weights .entry))) count)
+        (stateOf (now (shades .entry)) (now (members .entry)))
+        (stateOf (now (shades .exit)) (now (members .exit)))
+        (r .total) (r .moved) (r .distances) ⌝ }
 {
-    let mut t = [0u64; 128];
-    next_step(keys, weights, used, k, s, members, true, &mut t)
+    let mut sums = [0u64; 128];
+    next_step(keys, weights, used, shades, count, members, true, &mut sums)
 }

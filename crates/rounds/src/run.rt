@@ -27,27 +27,28 @@ pub fn run_from(
     weights: &[u32],
     used: usize,
     base: &[u32],
-    k: usize,
+    shades: &mut [u32],
+    count: usize,
     limit: usize,
-    s: &mut [u32],
     members: &mut [u32],
     totals: &mut [u64],
 ) -> Whole
-    requires { ⌜ Runnable used (now keys) (now weights) k limit (now members) (now totals)
-        × OnGrid (now base) × (3 ≤ length (now base)) × (now s ≡ replicate mostCoordinates 0) ⌝ }
+    requires { ⌜ Runnable used (now keys) (now weights) count limit (now members) (now totals)
+        × OnGrid (now base) × (3 ≤ length (now base))
+        × (now shades ≡ replicate mostCoordinates 0) ⌝ }
     ensures series { λ r. ⌜ SeriesMeets toMean
-        (coloursOf used (now (keys .entry)) (now (weights .entry))) k limit
+        (coloursOf used (now (keys .entry)) (now (weights .entry))) count limit
         (beginFrom (listed (now (base .entry)))
-        (coloursOf used (now (keys .entry)) (now (weights .entry))) k (now (members .entry)))
-        (stateOf (now (s .exit)) (now (members .exit)))
+        (coloursOf used (now (keys .entry)) (now (weights .entry))) count (now (members .entry)))
+        (stateOf (now (shades .exit)) (now (members .exit)))
         (now (totals .entry)) (now (totals .exit)) (r .rounds) (r .settled) (r .distances) ⌝ }
     ensures total { λ r. ⌜ r .total
         ≡ finalOf (coloursOf used (now (keys .entry)) (now (weights .entry)))
-        (stateOf (now (s .exit)) (now (members .exit))) ⌝ }
+        (stateOf (now (shades .exit)) (now (members .exit))) ⌝ }
 {
-    starts::fill_starts(keys, used, base, s, k, members);
-    let a = make_rounds(keys, weights, used, k, limit, s, members, totals);
-    let total = final_total(keys, weights, used, k, s, members);
+    starts::fill_starts(keys, used, base, shades, count, members);
+    let a = make_rounds(keys, weights, used, shades, count, limit, members, totals);
+    let total = final_total(keys, weights, used, shades, count, members);
     Whole {
         rounds: a.rounds,
         settled: a.settled,
@@ -61,25 +62,35 @@ pub fn make_run(
     keys: &[u32],
     weights: &[u32],
     used: usize,
-    k: usize,
+    shades: &mut [u32],
+    count: usize,
     limit: usize,
-    s: &mut [u32],
     members: &mut [u32],
     totals: &mut [u64],
 ) -> Whole
-    requires { ⌜ Runnable used (now keys) (now weights) k limit (now members) (now totals)
-        × (now s ≡ replicate mostCoordinates 0) ⌝ }
+    requires { ⌜ Runnable used (now keys) (now weights) count limit (now members) (now totals)
+        × (now shades ≡ replicate mostCoordinates 0) ⌝ }
     ensures series { λ r. ⌜ SeriesMeets toMean
-        (coloursOf used (now (keys .entry)) (now (weights .entry))) k limit
-        (begin (coloursOf used (now (keys .entry)) (now (weights .entry))) k
+        (coloursOf used (now (keys .entry)) (now (weights .entry))) count limit
+        (begin (coloursOf used (now (keys .entry)) (now (weights .entry))) count
         (now (members .entry)))
-        (stateOf (now (s .exit)) (now (members .exit)))
+        (stateOf (now (shades .exit)) (now (members .exit)))
         (now (totals .entry)) (now (totals .exit)) (r .rounds) (r .settled) (r .distances) ⌝ }
     ensures total { λ r. ⌜ r .total
         ≡ finalOf (coloursOf used (now (keys .entry)) (now (weights .entry)))
-        (stateOf (now (s .exit)) (now (members .exit))) ⌝ }
+        (stateOf (now (shades .exit)) (now (members .exit))) ⌝ }
 {
     let m = starts::whole_mean(keys, weights, used);
     let base = [m.r, m.g, m.b];
-    run_from(keys, weights, used, &base, k, limit, s, members, totals)
+    run_from(
+        keys,
+        weights,
+        used,
+        &base,
+        shades,
+        count,
+        limit,
+        members,
+        totals,
+    )
 }

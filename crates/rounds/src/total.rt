@@ -11,21 +11,21 @@ fn entry_cost(
     keys: &[u32],
     weights: &[u32],
     used: usize,
-    k: usize,
-    s: &[u32],
+    shades: &[u32],
+    count: usize,
     members: &[u32],
     i: usize,
 ) -> u64
-    requires { ⌜ Walkable used (now keys) (now weights) k (stateOf (now s) (now members))
+    requires { ⌜ Walkable used (now keys) (now weights) count (stateOf (now shades) (now members))
         × (i < used) ⌝ }
     ensures { λ r. ⌜ r ≡ getD (now (weights .entry)) i 0
-        * toShade (now (s .entry)) (colourAt (now (keys .entry)) i)
+        * toShade (now (shades .entry)) (colourAt (now (keys .entry)) i)
         (getD (now (members .entry)) i 0) ⌝ }
 {
     let p = members[i] as usize;
     shades::cost(
         weights[i],
-        shades::distance_to(s, p, colour::colour_of(keys[i])),
+        shades::distance_to(shades, p, colour::colour_of(keys[i])),
     )
 }
 
@@ -35,18 +35,19 @@ pub fn final_total(
     keys: &[u32],
     weights: &[u32],
     used: usize,
-    k: usize,
-    s: &[u32],
+    shades: &[u32],
+    count: usize,
     members: &[u32],
 ) -> u64
-    requires { ⌜ Walkable used (now keys) (now weights) k (stateOf (now s) (now members)) ⌝ }
+    requires { ⌜ Walkable used (now keys) (now weights) count
+        (stateOf (now shades) (now members)) ⌝ }
     ensures { λ r. ⌜ r ≡ finalOf (coloursOf used (now (keys .entry)) (now (weights .entry)))
-        (stateOf (now (s .entry)) (now (members .entry))) ⌝ }
+        (stateOf (now (shades .entry)) (now (members .entry))) ⌝ }
 {
     let mut total: u64 = 0;
     let mut i = 0;
     while i < used {
-        total += entry_cost(keys, weights, used, k, s, members, i);
+        total += entry_cost(keys, weights, used, shades, count, members, i);
         i += 1;
     }
     total

@@ -1,6 +1,6 @@
 -- `make_rounds` meets its contract: the loop's invariant is `Going`, with the sums of the groups that the members tell,
 -- or none yet.
-use Prim.Native.Nat.{_-_}
+use Prim.Native.Nat.{_-_, _<_}
 use mathlib.Core.Path.{_≡_, refl}
 use native.Mathlib.Omega.{arith}
 use lib.ListN.{length}
@@ -25,23 +25,40 @@ use Rattle.rounds.proofs.many.make_rounds.Statement.{statement}
 use Rattle.rounds.proofs.many.make_rounds.Tie as tie
 
 abbrev Inv-loop : tie.InvT-loop
-Inv-loop keys weights used k limit s₀ members₀ totals₀ t₀ anew₀ r₀ go₀ moved₀ distances₀ s members totals t anew r go moved
-    distances =
-    Going toMean (coloursOf used keys weights) k limit (stateOf s₀ members₀) totals₀ (stateOf s members) totals r go moved
-    distances
-    × (length s ≡ length s₀) × (length members ≡ length members₀) × Summed (memberAt members) keys weights (covered anew used 0) t
+Inv-loop keys weights used count limit shades₀ members₀ totals₀ sums₀ anew₀ r₀ go₀ moved₀ distances₀ shades members
+    totals sums anew r go moved distances =
+    Going toMean (coloursOf used keys weights) count limit (stateOf shades₀ members₀) totals₀ (stateOf shades members)
+    totals r go moved distances
+    × (length shades ≡ length shades₀) × (length members ≡ length members₀)
+    × Summed (memberAt members) keys weights (covered anew used 0) sums
 
 abbrev μ-loop : tie.MeasureT-loop
-μ-loop keys weights used k limit s₀ members₀ totals₀ t₀ anew₀ r₀ go₀ moved₀ distances₀ s members totals t anew r go moved
-    distances =
+μ-loop keys weights used count limit shades₀ members₀ totals₀ sums₀ anew₀ r₀ go₀ moved₀ distances₀ shades members
+    totals sums anew r go moved distances =
     limit - r
 
 -- where the rounds begin
 abbrev st : tie.At-loop Inv-loop μ-loop → tie.Start Inv-loop μ-loop
 st c = c .before .before .before .before .before .before
 
+-- the turn that a round is made in, and the state of the loop before it
+abbrev turn : tie.After-next-step Inv-loop μ-loop → tie.In-loop Inv-loop μ-loop
+turn c = c .before .before .before .before
+
+abbrev at : tie.In-loop Inv-loop μ-loop → tie.At-loop Inv-loop μ-loop
+at c = c .before
+
+-- the round is below the limit
+below : (c : tie.In-loop Inv-loop μ-loop) → at c .loop .r < st (at c) .args .limit
+below c = going-below _ _ _ _ _ (at c .loop .inv .0) (c .loop-test .taken)
+
 loop-holds : tie.Need-loop-holds Inv-loop μ-loop
-loop-holds c = (going-start _ _ _ _ _ _ (c .before .before .before .before .before .pre .1), refl, refl, summed-none _ _ _)
+loop-holds c = (
+  going-start _ _ _ _ _ _ (c .before .before .before .before .before .pre .1),
+  refl,
+  refl,
+  summed-none _ _ _,
+)
 
 next-step-requires : tie.Need-next-step-requires Inv-loop μ-loop
 next-step-requires c κs =
@@ -50,41 +67,42 @@ next-step-requires c κs =
 
 mul-totals : tie.Need-mul-totals Inv-loop μ-loop
 mul-totals c =
-    let l = c .before .before .before .before .before .before .before .before .before in
-    omega (arith, st l .good, st l .pre .2, going-below _ _ _ _ _ (l .loop .inv .0) (c .before .before .before .before .before .before .before .before .loop-test .taken))
+    let i = turn (c .before .before .before .before) in
+    omega (arith, st (at i) .good, st (at i) .pre .2, below i)
 
 slice-write-totals : tie.Need-slice-write-totals Inv-loop μ-loop
 slice-write-totals c =
-    let l = c .before .before .before .before .before .before .before .before .before in
-    rw (going-length _ _ _ _ _ (l .loop .inv .0))
-    (omega (arith, st l .pre .3, going-below _ _ _ _ _ (l .loop .inv .0) (c .before .before .before .before .before .before .before .before .loop-test .taken)))
+    let i = turn (c .before .before .before .before) in
+    rw (going-length _ _ _ _ _ (at i .loop .inv .0)) (omega (arith, st (at i) .pre .3, below i))
 
 add-distances : tie.Need-add-distances Inv-loop μ-loop
 add-distances c =
-    let l = c .before .before .before .before .before .before .before .before .before .before in
-    let p = st l .pre .0 .steppable in
+    let n = c .before .before .before .before .before in
+    let i = turn n in
+    let p = st (at i) .pre .0 .steppable in
     omega (
       arith,
-      going-counted _ _ _ _ _ (l .loop .inv .0) (c .before .before .before .before .before .before .before .before .before .loop-test .taken) (fair-of-table (p .table))
-          (p .fit .shades .few) (st l .pre .2) _ (c .before .before .before .before .before .next-step .ensures .0 .count-is),
+      going-counted _ _ _ _ _ (at i .loop .inv .0) (i .loop-test .taken) (fair-of-table (p .table))
+          (p .fit .shades .few) (st (at i) .pre .2) _ (n .next-step .ensures .0 .distances-is),
     )
 
 add-r : tie.Need-add-r Inv-loop μ-loop
-add-r c = omega (arith, going-below _ _ _ _ _ (c .before .before .before .before .before .before .before .before .before .before .loop .inv .0) (c .before .before .before .before .before .before .before .before .before .loop-test .taken))
+add-r c = omega (arith, below (turn (c .before .before .before .before .before)))
 
 bound-requires : tie.Need-bound-requires Inv-loop μ-loop
 bound-requires c κs = search needs
 
 loop-less : tie.Need-loop-less Inv-loop μ-loop
-loop-less c = omega (arith, going-below _ _ _ _ _ (c .before .before .before .before .before .before .before .before .before .before .before .loop .inv .0) (c .before .before .before .before .before .before .before .before .before .before .loop-test .taken))
+loop-less c = omega (arith, below (turn (c .before .before .before .before .before .before)))
 
 loop-again : tie.Need-loop-again Inv-loop μ-loop
 loop-again c =
-    let l = c .before .before .before .before .before .before .before .before .before .before .before in
-    let e = c .before .before .before .before .before .before .next-step .ensures in
-    let h = c .before .before .before .before .before .before .before .before .before .before .loop-test .taken in
-    let b = going-below _ _ _ _ _ (l .loop .inv .0) h in (
-      going-next _ _ _ _ _ (l .loop .inv .0) h (omega (arith, st l .pre .3)) (e .0) (c .bound .ensures),
+    let n = c .before .before .before .before .before .before in
+    let i = turn n in
+    let e = n .next-step .ensures in
+    let b = below i in (
+      going-next _ _ _ _ _ (at i .loop .inv .0) (i .loop-test .taken) (omega (arith, st (at i) .pre .3)) (e .0)
+          (c .bound .ensures),
       omega arith,
       omega arith,
       e .1,
@@ -105,7 +123,8 @@ same-length-3 c = going-length _ _ _ _ _ (c .before .before .loop .inv .0)
 returns : tie.Need-returns Inv-loop μ-loop
 returns c =
     let l = c .before .before in
-    going-done _ _ _ _ _ (l .loop .inv .0) (omega (arith, c .before .loop-test .left)) (st l .pre .1) _ (c .none .ensures)
+    going-done _ _ _ _ _ (l .loop .inv .0) (omega (arith, c .before .loop-test .left)) (st l .pre .1) _
+    (c .none .ensures)
 
 pub make-rounds-spec : {M : Type 1} → statement M
 make-rounds-spec =

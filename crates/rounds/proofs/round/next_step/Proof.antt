@@ -4,6 +4,17 @@ use Rattle.rounds.proofs.Stepping.{move-asked, step-meets, step-sums}
 use Rattle.rounds.proofs.round.next_step.Statement.{statement}
 use Rattle.rounds.proofs.round.next_step.Tie as tie
 
+-- where the call began, from the grouping
+abbrev st : tie.After-regroup → tie.Start
+st c = c .before .before .before .before .before .before .before .before .before
+
+-- the grouping, from the count of movers and from the move
+abbrev regrouped : tie.After-count-movers → tie.After-regroup
+regrouped c = c .before .before .before .before .before .before
+
+abbrev counted : tie.After-move-shades → tie.After-count-movers
+counted c = c .before .before .before
+
 slice-aggregate-regroup : tie.Need-slice-aggregate-regroup
 slice-aggregate-regroup c = search needs
 
@@ -11,10 +22,14 @@ regroup-requires : tie.Need-regroup-requires
 regroup-requires c κs = search needs
 
 count-movers-requires : tie.Need-count-movers-requires
-count-movers-requires c κs = move-asked (c .before .before .before .before .before .before .before .before .before .before .before .before .before .before .pre .0 .steppable) (c .before .before .before .before .before .regroup .ensures .0)
+count-movers-requires c κs =
+    let g = c .before .before .before .before .before in
+    move-asked (st g .pre .0 .steppable) (g .regroup .ensures .0)
 
 move-shades-requires : tie.Need-move-shades-requires
-move-shades-requires c κs = move-asked (c .before .before .before .before .before .before .before .before .before .before .before .before .before .before .before .before .before .pre .0 .steppable) (c .before .before .before .before .before .before .before .before .regroup .ensures .0)
+move-shades-requires c κs =
+    let g = regrouped (c .before .before) in
+    move-asked (st g .pre .0 .steppable) (g .regroup .ensures .0)
 
 same-length : tie.Need-same-length
 same-length c = search needs
@@ -24,10 +39,12 @@ same-length-2 c = search needs
 
 returns : tie.Need-returns
 returns c =
-    let g = c .before .before .before .before .before .before .before .before .before .before .before .regroup .ensures in
-    let p = c .before .before .before .before .before .before .before .before .before .before .before .before .before .before .before .before .before .before .before .before .pre .0 .steppable in (
-      step-meets p (g .0) _ _ _ _ (c .before .before .move-shades .ensures) (c .before .before .before .before .before .count-movers .ensures) (g .1),
-      step-sums p (g .0),
+    let m = c .before .before in
+    let g = regrouped (counted m) in
+    let p = st g .pre .0 .steppable in
+    let e = g .regroup .ensures in (
+      step-meets p (e .0) _ _ _ _ (m .move-shades .ensures) (counted m .count-movers .ensures) (e .1),
+      step-sums p (e .0),
     )
 
 pub next-step-spec : {M : Type 1} → statement M

@@ -4,14 +4,29 @@ use Rattle.rounds.proofs.Stepping.{move-asked, step-meets}
 use Rattle.rounds.proofs.round.plain_step.Statement.{statement}
 use Rattle.rounds.proofs.round.plain_step.Tie as tie
 
+-- where the call began, from the grouping
+abbrev st : tie.After-group-plain → tie.Start
+st c = c .before .before .before .before .before .before .before .before
+
+-- the grouping, from the count of movers, and that from the move
+abbrev grouped : tie.After-count-movers → tie.After-group-plain
+grouped c = c .before .before .before .before .before
+
+abbrev counted : tie.After-move-shades → tie.After-count-movers
+counted c = c .before .before .before
+
 group-plain-requires : tie.Need-group-plain-requires
 group-plain-requires c κs = search needs
 
 count-movers-requires : tie.Need-count-movers-requires
-count-movers-requires c κs = move-asked (c .before .before .before .before .before .before .before .before .before .before .before .before .pre) (c .before .before .before .before .group-plain .ensures .0)
+count-movers-requires c κs =
+    let g = c .before .before .before .before in
+    move-asked (st g .pre) (g .group-plain .ensures .0)
 
 move-shades-requires : tie.Need-move-shades-requires
-move-shades-requires c κs = move-asked (c .before .before .before .before .before .before .before .before .before .before .before .before .before .before .before .pre) (c .before .before .before .before .before .before .before .group-plain .ensures .0)
+move-shades-requires c κs =
+    let g = grouped (c .before .before) in
+    move-asked (st g .pre) (g .group-plain .ensures .0)
 
 same-length : tie.Need-same-length
 same-length c = search needs
@@ -21,8 +36,10 @@ same-length-2 c = search needs
 
 returns : tie.Need-returns
 returns c =
-    let g = c .before .before .before .before .before .before .before .before .before .before .group-plain .ensures in
-    step-meets (c .before .before .before .before .before .before .before .before .before .before .before .before .before .before .before .before .before .before .pre) (g .0) _ _ _ _ (c .before .before .move-shades .ensures) (c .before .before .before .before .before .count-movers .ensures) (g .1)
+    let m = c .before .before in
+    let g = grouped (counted m) in
+    let e = g .group-plain .ensures in
+    step-meets (st g .pre) (e .0) _ _ _ _ (m .move-shades .ensures) (counted m .count-movers .ensures) (e .1)
 
 pub plain-step-spec : {M : Type 1} → statement M
 plain-step-spec =

@@ -22,11 +22,11 @@ st c = c .before .before .before .before .before .before .before .before .before
 has-begun : (c : tie.After-fill-starts)
     → stateOf (c .fill-starts .last .1 .1 .1 .0) (c .fill-starts .last .1 .1 .1 .1 .1 .0)
     ≡ beginFrom (listed (now (st c .args .base)))
-    (coloursOf (st c .args .used) (now (st c .args .keys)) (now (st c .args .weights))) (st c .args .k)
+    (coloursOf (st c .args .used) (now (st c .args .keys)) (now (st c .args .weights))) (st c .args .count)
     (now (st c .args .members))
 has-begun c =
     begun (listed (now (st c .args .base))) (st c .args .used) (now (st c .args .keys)) (now (st c .args .weights))
-    (st c .args .k) (now (st c .args .members)) _ _ _ (st c .pre .3) (c .fill-starts .ensures .0)
+    (st c .args .count) (now (st c .args .members)) _ _ _ (st c .pre .3) (c .fill-starts .ensures .0)
     (c .fill-starts .ensures .1)
 
 -- the given shades are on the grid
@@ -40,9 +40,10 @@ starting c = c .before .before .before .before .before .before .before .before
 -- and are those of a run that begins there
 series : (c : tie.After-make-rounds)
     → (let a = st (starting c) .args in
-    SeriesMeets toMean (coloursOf (a .used) (now (a .keys)) (now (a .weights))) (a .k) (a .limit)
-    (beginFrom (listed (now (a .base))) (coloursOf (a .used) (now (a .keys)) (now (a .weights))) (a .k) (now (a .members)))
-    (stateOf (c .make-rounds .last .1 .1 .1 .1 .1 .0) (c .make-rounds .last .1 .1 .1 .1 .1 .1 .0))
+    SeriesMeets toMean (coloursOf (a .used) (now (a .keys)) (now (a .weights))) (a .count) (a .limit)
+    (beginFrom (listed (now (a .base))) (coloursOf (a .used) (now (a .keys)) (now (a .weights))) (a .count)
+    (now (a .members)))
+    (stateOf (c .make-rounds .last .1 .1 .1 .0) (c .make-rounds .last .1 .1 .1 .1 .1 .1 .0))
     (now (a .totals)) (c .make-rounds .last .1 .1 .1 .1 .1 .1 .1 .0)
     (c .make-rounds .result .rounds) (c .make-rounds .result .settled) (c .make-rounds .result .distances))
 series c = rw (has-begun (starting c)) at (c .make-rounds .ensures)

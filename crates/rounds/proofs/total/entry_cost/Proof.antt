@@ -7,6 +7,10 @@ use Rattle.method.proofs.Sizes.{fair-of-table, weight-at-most}
 use Rattle.rounds.proofs.total.entry_cost.Statement.{statement}
 use Rattle.rounds.proofs.total.entry_cost.Tie as tie
 
+-- where the call began, from the entry's colour
+abbrev st : tie.After-colour-of → tie.Start
+st c = c .before .before .before .before .before .before .before .before
+
 mul-p : tie.Need-mul-p
 mul-p c = search needs
 
@@ -33,16 +37,16 @@ colour-of-requires c κs = search needs
 
 distance-to-requires : tie.Need-distance-to-requires
 distance-to-requires c κs =
-    let p = c .before .before .before .before .before .before .before .before .pre in
+    let p = st c .pre in
     let s = p .0 .steppable .fit .shades in
     (omega (arith, p .0 .joined _ (p .1), s .room), s .low, c .colour-of .ensures .1)
 
 cost-requires : tie.Need-cost-requires
 cost-requires c κs =
-    let st = c .before .before .before .before .before .before .before .before .before in
-    let a = st .args in (
+    let s = st (c .before) in
+    let a = s .args in (
       weight-at-most (coloursOf (a .used) (now (a .keys)) (now (a .weights)))
-          (fair-of-table (st .pre .0 .steppable .table)) (a .i) (st .pre .1),
+          (fair-of-table (s .pre .0 .steppable .table)) (a .i) (s .pre .1),
       c .distance-to .ensures .1,
     )
 

@@ -13,11 +13,15 @@ use Rattle.rounds.proofs.total.final_total.Statement.{statement}
 use Rattle.rounds.proofs.total.final_total.Tie as tie
 
 abbrev Inv-loop : tie.InvT-loop
-Inv-loop keys weights used k s members total₀ i₀ total i =
-    (i ≤ used) × (total ≡ sum i (λ j. getD weights j 0 * toShade s (colourAt keys j) (getD members j 0)))
+Inv-loop keys weights used shades count members total₀ i₀ total i =
+    (i ≤ used) × (total ≡ sum i (λ j. getD weights j 0 * toShade shades (colourAt keys j) (getD members j 0)))
 
 abbrev μ-loop : tie.MeasureT-loop
-μ-loop keys weights used k s members total₀ i₀ total i = used - i
+μ-loop keys weights used shades count members total₀ i₀ total i = used - i
+
+-- where the call began, from an entry's cost
+abbrev st : tie.After-entry-cost Inv-loop μ-loop → tie.Start Inv-loop μ-loop
+st c = c .before .before .before .before .before .before .before
 
 loop-holds : tie.Need-loop-holds Inv-loop μ-loop
 unfolding sum
@@ -28,18 +32,18 @@ entry-cost-requires c κs = (c .before .before .before .before .before .before .
 
 add-total : tie.Need-add-total Inv-loop μ-loop
 add-total c =
-    let st = c .before .before .before .before .before .before .before in
-    let a = st .args in
+    let a = st c .args in
     let l = c .before .before .loop in
     let C = coloursOf (a .used) (now (a .keys)) (now (a .weights)) in
     rw (
       l .inv .1,
       c .entry-cost .ensures,
-      ← sum-more (l .i) (λ j. C .w j * toShade (now (a .s)) (C .c j) (getD (now (a .members)) j 0)),
+      ← sum-more (l .i) (λ j. C .w j * toShade (now (a .shades)) (C .c j) (getD (now (a .members)) j 0)),
     )
     (omega (
       arith,
-      spent-at-most C (fair-of-table (st .pre .steppable .table)) (now (a .s)) (st .pre .steppable .fit .shades .low)
+      spent-at-most C (fair-of-table (st c .pre .steppable .table)) (now (a .shades))
+          (st c .pre .steppable .fit .shades .low)
           (λ j. getD (now (a .members)) j 0) (l .i + 1) (omega arith),
     ))
 

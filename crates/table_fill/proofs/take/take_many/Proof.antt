@@ -66,7 +66,8 @@ add-some-requires c κs =
     let s = l .before .before .before .before in
     let t = c .before .before .before .loop-test .taken in
     let m = c .before .before .smaller .ensures in
-    steps-addable (s .pre) (l .loop .inv .2) (c .before .before .smaller .result) (omega (arith, m, t, l .loop .inv .1 t))
+    steps-addable (s .pre) (l .loop .inv .2) (c .before .before .smaller .result)
+    (omega (arith, m, t, l .loop .inv .1 t))
     (omega (arith, m, t))
 
 add-taken : tie.Need-add-taken Inv-loop μ-loop
