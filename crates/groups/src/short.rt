@@ -30,16 +30,16 @@ fn rejoin(
     ensures distance { λ r. ⌜ r .distance
         ≡ toShade (now (shades .entry)) (colourAt (now (keys .entry)) i)
         (nearestShade (now (shades .entry)) count (colourAt (now (keys .entry)) i)) ⌝ }
-    ensures distances { λ r. ⌜ r .count
+    ensures distances { λ r. ⌜ r .distances
         ≡ worked (now (shades .entry)) count (colourAt (now (keys .entry)) i)
         (getD (now (members .entry)) i 0) ⌝ }
 {
     let p = members[i] as usize;
     let c = colour::colour_of(keys[i]);
     if few {
-        return search_near::walk_gaps(shades, rows, count, c, p);
+        return search_near::walk_gaps(shades, count, rows, c, p);
     }
-    search_near::walk(shades, rows, count, c, p)
+    search_near::walk(shades, count, rows, c, p)
 }
 
 // Groups the table by the shortened search and leaves the grouping in the members, which stay past
@@ -75,7 +75,7 @@ pub fn group_short(
     while i < used {
         let met = rejoin(keys, weights, used, shades, count, rows, few, members, i);
         total += shades::cost(weights[i], met.distance);
-        distances += met.count;
+        distances += met.distances;
         join(keys, weights, used, members, anew, sums, i, met.number);
         i += 1;
     }

@@ -23,5 +23,5 @@ pub use short::walk;
 pub struct Met {
     pub number: u32,
     pub distance: u32,
-    pub count: u64,
+    pub distances: u64,
 }

@@ -59,12 +59,12 @@ fn tries(gaps: &[u32], p: usize, q: usize, limit: u32) -> bool
 // The nearest shade of `point`, from its former shade `p`, and the distances worked out: that to p,
 // and that to each other shade whose gap is at most four times as much. Requires the shades, their
 // gaps and a former shade below `count`.
-pub fn walk_gaps(shades: &[u32], gaps: &[u32], count: usize, point: Point, p: usize) -> Met
+pub fn walk_gaps(shades: &[u32], count: usize, gaps: &[u32], point: Point, p: usize) -> Met
     requires { ⌜ GapsReady (now shades) (now gaps) count point p ⌝ }
     ensures number { λ r. ⌜ r .number ≡ nearestShade (now (shades .entry)) count point ⌝ }
     ensures distance { λ r. ⌜ r .distance
         ≡ toShade (now (shades .entry)) point (nearestShade (now (shades .entry)) count point) ⌝ }
-    ensures count { λ r. ⌜ r .count ≡ worked (now (shades .entry)) count point p ⌝ }
+    ensures distances { λ r. ⌜ r .distances ≡ worked (now (shades .entry)) count point p ⌝ }
 {
     let d = shades::distance_to(shades, p, point);
     let limit = 4 * d;
@@ -81,6 +81,6 @@ pub fn walk_gaps(shades: &[u32], gaps: &[u32], count: usize, point: Point, p: us
     Met {
         number: best % 64,
         distance: best / 64,
-        count: 1 + others,
+        distances: 1 + others,
     }
 }

@@ -10,12 +10,12 @@ use shades::lesser;
 // the row has gap 0, so its shade stands where p stands, and the walk begins at place 1. Where the
 // gap there is too much, p is the nearest: most colours of a late round stay so, and walk nowhere.
 // Requires the shades, their rows and a former shade below `count`.
-pub fn walk(shades: &[u32], rows: &[u32], count: usize, point: Point, p: usize) -> Met
+pub fn walk(shades: &[u32], count: usize, rows: &[u32], point: Point, p: usize) -> Met
     requires { ⌜ RowsReady (now shades) (now rows) count point p ⌝ }
     ensures number { λ r. ⌜ r .number ≡ nearestShade (now (shades .entry)) count point ⌝ }
     ensures distance { λ r. ⌜ r .distance
         ≡ toShade (now (shades .entry)) point (nearestShade (now (shades .entry)) count point) ⌝ }
-    ensures count { λ r. ⌜ r .count ≡ worked (now (shades .entry)) count point p ⌝ }
+    ensures distances { λ r. ⌜ r .distances ≡ worked (now (shades .entry)) count point p ⌝ }
 {
     let d = shades::distance_to(shades, p, point);
     let base = 64 * p;
@@ -24,7 +24,7 @@ pub fn walk(shades: &[u32], rows: &[u32], count: usize, point: Point, p: usize) 
         return Met {
             number: p as u32,
             distance: d,
-            count: 1,
+            distances: 1,
         };
     }
     let mut best = 64 * d + rows[base] % 64;
@@ -35,7 +35,7 @@ pub fn walk(shades: &[u32], rows: &[u32], count: usize, point: Point, p: usize) 
             return Met {
                 number: best % 64,
                 distance: best / 64,
-                count: j as u64,
+                distances: j as u64,
             };
         }
         best = lesser(best, shades::packed(shades, (v % 64) as usize, point));
@@ -44,6 +44,6 @@ pub fn walk(shades: &[u32], rows: &[u32], count: usize, point: Point, p: usize) 
     Met {
         number: best % 64,
         distance: best / 64,
-        count: j as u64,
+        distances: j as u64,
     }
 }

@@ -74,7 +74,7 @@ finds-at c =
 abbrev worked-at : (c : tie.After-rejoin Inv-loop μ-loop)
     → let l = turn c .before in
     let a = st l .args in
-    c .rejoin .result .count
+    c .rejoin .result .distances
     ≡ shortWorks (now (a .keys)) (now (a .shades)) (a .count) (now (a .members)) (l .loop .i)
 worked-at c =
     let l = turn c .before in

@@ -16,10 +16,10 @@ use Rattle.search_near.proofs.near.walk_gaps.Statement.{statement}
 use Rattle.search_near.proofs.near.walk_gaps.Tie as tie
 
 abbrev Inv-loop : tie.InvT-loop
-Inv-loop s g k c p d limit best₀ others₀ q₀ best others q = Sought s k c p best others q
+Inv-loop s k g c p d limit best₀ others₀ q₀ best others q = Sought s k c p best others q
 
 abbrev μ-loop : tie.MeasureT-loop
-μ-loop s g k c p d limit best₀ others₀ q₀ best others q = k - q
+μ-loop s k g c p d limit best₀ others₀ q₀ best others q = k - q
 
 -- where the function begins
 abbrev st : tie.At-loop Inv-loop μ-loop → tie.Start Inv-loop μ-loop

@@ -16,10 +16,10 @@ use Rattle.search_near.proofs.short.walk.Statement.{statement}
 use Rattle.search_near.proofs.short.walk.Tie as tie
 
 abbrev Inv-loop : tie.InvT-loop
-Inv-loop s g k c p d base limit best₀ j₀ best j = Walked s g k c p best j
+Inv-loop s k g c p d base limit best₀ j₀ best j = Walked s g k c p best j
 
 abbrev μ-loop : tie.MeasureT-loop
-μ-loop s g k c p d base limit best₀ j₀ best j = k - j
+μ-loop s k g c p d base limit best₀ j₀ best j = k - j
 
 -- where the function begins, from the distance to the former shade
 abbrev st : tie.After-distance-to Inv-loop μ-loop → tie.Start Inv-loop μ-loop
