@@ -26,10 +26,10 @@ fn with_slot(taken: usize, slot: usize) -> usize
 }
 
 // Joins so many slots: the front of `keys` gets the keys of the joined slots, and `link` the joined
-// slot of each of the `slots`. Answers how many joined slots there are. A key looks for
-// its slot at the site of its remainder, which tells the slot of the last key that came there,
-// and is believed where that is the same key. A key whose site another took gets a second slot.
-// Requires at most 256 slots, and room for them.
+// slot of each of the `slots`. Answers how many joined slots there are. A key looks for its slot at
+// the site of its remainder, which tells the slot of the last key that came there, and is believed
+// where that is the same key. A key whose site another took gets a second slot. Requires at most
+// 256 slots, and room for them.
 pub fn join(keys: &mut [u32], slots: usize, link: &mut [u8]) -> usize
     requires { ⌜ (slots ≤ length (now keys)) × (slots ≤ length (now link)) × (slots ≤ fewSlots) ⌝ }
     ensures { λ r. ⌜ Gathered (slotKey (now (keys .entry))) slots (now (keys .exit))
