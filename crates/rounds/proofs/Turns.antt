@@ -42,7 +42,7 @@ use Rattle.method.proofs.Sizes.{fair-of-table, short-at-most}
 use Rattle.rounds.specs.Meeting.{Steppable, Walkable, StepMeets, SeriesMeets, Runnable}
 
 -- after a round the members are shades' numbers and all is fit for the next
-pub step-walkable : {used : ℕ} {ks ws : List ℕ} {k : ℕ} {a : State} (rule : Rule) → GoodRule rule
+step-walkable : {used : ℕ} {ks ws : List ℕ} {k : ℕ} {a : State} (rule : Rule) → GoodRule rule
     → Steppable used ks ws k a → Walkable used ks ws k (step rule (coloursOf used ks ws) k a)
 step-walkable {used} {ks} {ws} {k} {a} rule good p = record {
   steppable = record {

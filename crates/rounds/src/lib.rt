@@ -2,13 +2,11 @@
 // rounds to the first that moves no shade or to a limit; a whole run.
 //
 // Calls; none refuses, and what one requires stands above it
-//   plain_step    one round by the plain search                      round.rt
-//   short_step    one round by the shortened search
-//   next_step     the same, from the sums of the former groups
-//   make_rounds   shortened rounds to the first quiet one or a limit   many.rt
-//   final_total   the members against the shades                     total.rt
-//   run_from      starting shades from given ones, rounds, final total   run.rt
-//   make_run      starting shades, rounds, final total               run.rt
+//   plain_step   one round by the plain search                             round.rt
+//   short_step   one round by the shortened search
+//   make_run     starting shades from the table's mean, rounds, final total   run.rt
+// A run from any given shades stands in run.rt too, rounds to the first quiet one or the limit in
+// many.rt, the members against the shades in total.rt.
 //
 // Read next: specs/Lib.antt (what the words mean), proofs/Lib.antt (what is shown).
 
@@ -17,13 +15,9 @@ mod round;
 mod run;
 mod total;
 
-pub use many::make_rounds;
-pub use round::next_step;
 pub use round::plain_step;
 pub use round::short_step;
 pub use run::make_run;
-pub use run::run_from;
-pub use total::final_total;
 
 // What a round answers: its total, the shades that moved, the distances worked out.
 pub struct Stepped {
