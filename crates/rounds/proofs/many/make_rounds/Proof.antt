@@ -25,7 +25,7 @@ use Rattle.rounds.proofs.many.make_rounds.Statement.{statement}
 use Rattle.rounds.proofs.many.make_rounds.Tie as tie
 
 abbrev Inv-loop : tie.InvT-loop
-Inv-loop keys weights used count limit shades₀ members₀ totals₀ sums₀ anew₀ r₀ go₀ moved₀ distances₀ shades members
+Inv-loop keys weights used shades₀ count limit members₀ totals₀ sums₀ anew₀ r₀ go₀ moved₀ distances₀ shades members
     totals sums anew r go moved distances =
     Going toMean (coloursOf used keys weights) count limit (stateOf shades₀ members₀) totals₀ (stateOf shades members)
     totals r go moved distances
@@ -33,7 +33,7 @@ Inv-loop keys weights used count limit shades₀ members₀ totals₀ sums₀ an
     × Summed (memberAt members) keys weights (covered anew used 0) sums
 
 abbrev μ-loop : tie.MeasureT-loop
-μ-loop keys weights used count limit shades₀ members₀ totals₀ sums₀ anew₀ r₀ go₀ moved₀ distances₀ shades members
+μ-loop keys weights used shades₀ count limit members₀ totals₀ sums₀ anew₀ r₀ go₀ moved₀ distances₀ shades members
     totals sums anew r go moved distances =
     limit - r
 
