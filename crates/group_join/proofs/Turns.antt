@@ -1,7 +1,7 @@
 -- One turn of a grouping, whichever search finds the shades: an entry joins its nearest shade, and its cost is added.
 use Prim.Native.Nat.{ℕ, _+_, _*_, _≤_, _<_}
 use mathlib.Core.List.{List}
-use mathlib.Core.Path.{_≡_, refl, sym}
+use mathlib.Core.Path.{_≡_, refl, sym, ap, _∙_}
 use native.Mathlib.Nat.{le-refl}
 use native.Mathlib.Omega.{arith}
 use lib.ListN.{length, getD, set}
@@ -46,6 +46,11 @@ pub record Turned (used : ℕ) (ks ws s : List ℕ) (k : ℕ) (works : ℕ → �
 pub record Finds (ks ws s : List ℕ) (k i number cost : ℕ) : Type 0 where
   pub number-is : number ≡ nearestShade s k (colourAt ks i)
   pub cost-is : cost ≡ costs ks ws s k i
+
+-- that is its nearest shade, and its weight times the distance to it
+pub finds-of : {ks ws s : List ℕ} {k i number d cost : ℕ} → number ≡ nearestShade s k (colourAt ks i)
+    → d ≡ remote s k (colourAt ks i) → cost ≡ getD ws i 0 * d → Finds ks ws s k i number cost
+finds-of {ws = ws} {i = i} e f g = record { number-is = e; cost-is = g ∙ ap (λ d. getD ws i 0 * d) f }
 
 -- no entry has joined
 pub turned-start : {used : ℕ} {ks ws s : List ℕ} {k : ℕ} {works : ℕ → ℕ} {before : List ℕ}

@@ -2,7 +2,7 @@
 -- are raised.
 use Prim.Native.Nat.{ℕ, _+_, _*_, _/_, _%_, _≤_, _<_}
 use mathlib.Core.List.{List}
-use mathlib.Core.Path.{_≡_, ap, _∙_}
+use mathlib.Core.Path.{_≡_, _∙_}
 use lib.ListN.{getD}
 use Rattle.colour.specs.{mostPixels, mostDistance}
 use Rattle.shades.specs.{mostShades, colourAt, packedNearest}
@@ -12,7 +12,7 @@ use Rattle.level_sums.specs.{redGreen, bluePixels, weighed}
 use Rattle.group_sums.specs.{raised, Summed}
 use Rattle.group_sums.proofs.Bounds.{raises-fit}
 use Rattle.group_sums.proofs.Summing.{summed-more}
-use Rattle.group_join.proofs.Turns.{Turned, Finds, turned-some, turned-low, number-below}
+use Rattle.group_join.proofs.Turns.{Turned, Finds, finds-of, turned-some, turned-low, number-below}
 
 module _ {used : ℕ} {ks ws s : List ℕ} {k : ℕ} {works : ℕ → ℕ} {before members : List ℕ} {total distances i : ℕ}
     (x : Turned used ks ws s k works before members total distances i) (l : i < used) where
@@ -27,7 +27,7 @@ module _ {used : ℕ} {ks ws s : List ℕ} {k : ℕ} {works : ℕ → ℕ} {befo
       → cost ≡ getD ws i 0 * (best / mostShades) → Finds ks ws s k i number cost
   raised-finds best number cost e n c =
       let f = packed-found s k (colourAt ks i) (turned-some x l) (x .fitted .shades .few) best e in
-      record { number-is = n ∙ f .0; cost-is = c ∙ ap (λ d. getD ws i 0 * d) (f .1) }
+      finds-of (n ∙ f .0) (f .1) c
 
   module _ {t : List ℕ} (sums : Summed (joins (coloursOf used ks ws) k s) ks ws i t) {number cost first second : ℕ}
       (g : Finds ks ws s k i number cost) (p : first ≡ weighed redGreen ks ws i)

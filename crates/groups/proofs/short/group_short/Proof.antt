@@ -1,9 +1,8 @@
 -- `group_short` meets its contract: the loop's invariant is `Turned`, with the distances of the shortened search, and
 -- the sums are those of the groups that the members tell.
-use Prim.Native.Nat.{_-_, _*_}
-use mathlib.Core.Path.{_≡_, ap, _∙_}
+use Prim.Native.Nat.{_-_}
+use mathlib.Core.Path.{_≡_}
 use native.Mathlib.Omega.{arith}
-use lib.ListN.{getD}
 use denote.Ref.{now}
 use borrow.Author.Needs.{needs}
 use Rattle.group_sums.specs.{Summed, memberAt}
@@ -11,6 +10,7 @@ use Rattle.group_join.specs.{covered}
 use Rattle.group_join.proofs.Turns.{
   Turned,
   Finds,
+  finds-of,
   turned-start,
   turned-length,
   turned-low,
@@ -61,14 +61,7 @@ abbrev finds-at : (c : tie.After-cost Inv-loop μ-loop)
     let a = st l .args in
     Finds (now (a .keys)) (now (a .weights)) (now (a .shades)) (a .count) (l .loop .i) (found c .rejoin .result .number)
     (c .cost .result)
-finds-at c =
-    let l = turn (found c) .before in
-    record {
-      number-is = found c .rejoin .ensures .0;
-      cost-is =
-          c .cost .ensures
-          ∙ ap (λ d. getD (now (st l .args .weights)) (l .loop .i) 0 * d) (found c .rejoin .ensures .1 .0);
-    }
+finds-at c = finds-of (found c .rejoin .ensures .0) (found c .rejoin .ensures .1 .0) (c .cost .ensures)
 
 -- the distances that its search worked out
 abbrev worked-at : (c : tie.After-rejoin Inv-loop μ-loop)
