@@ -8,7 +8,7 @@ use lib.ListN.{length, take, replicate, length-replicate}
 use Rattle.number.proofs.Fills.{fill-length}
 use Rattle.number.proofs.Parts.{from-length}
 use Rattle.refusal.specs.{numberOf, done, firstOf}
-use Rattle.refusal.proofs.Order.{none-of-first, first-of-none, done-or-refusal}
+use Rattle.refusal.proofs.Promises.{done-exactly, done-or-refusal}
 use Rattle.refusal.proofs.Outcomes.{outcome-made, outcome-refused, refuses-all}
 use Rattle.shades.specs.{mostCoordinates}
 use Rattle.palette.specs.{paletteFromShades}
@@ -81,7 +81,7 @@ pub input-fits : (s : List ℕ) → Fits (workInput s)
 unfolding workInput
 input-fits s = elim (done-or-refusal (inputRows s)) [
   | inl e ↦
-      let passed = first-of-none (smallRows (pictureIn s)) (none-of-first (inputRows s) e .1 .1) in
+      let passed = done-exactly (smallRows (pictureIn s)) .1 (done-exactly (inputRows s) .0 e .1 .1) in
       rw (outcome-made (inputRows s) (workPicture (pictureIn s) (countIn s)) refusedWork e)
       (picture-fits (pictureIn s) (countIn s) (small-raster (pictureIn s) passed))
   | inr g ↦

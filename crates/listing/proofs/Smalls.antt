@@ -8,7 +8,7 @@ use lib.ListN.{length}
 use borrow.Author.Tests.{lt-ltb, le-ltb, ltb-false}
 use Rattle.number.proofs.Cases.{neither}
 use Rattle.refusal.specs.{numberOf, done, firstOf, BAD-HEADER, BAD-SIZE}
-use Rattle.refusal.proofs.Order.{none-of-first}
+use Rattle.refusal.proofs.Promises.{done-exactly}
 use Rattle.p6_header.specs.{headerOf}
 use Rattle.p6_header.specs.declared.Header.the-variants.{Read, Bad}
 use Rattle.p6.specs.{
@@ -43,7 +43,7 @@ module _ (p : List ℕ) (e : firstOf (smallRows p) ≡ done) where
   raster-is : (length (rasterOf p) ≡ 3 * (widthIn (headerOf p) * heightIn (headerOf p)))
       × (widthIn (headerOf p) * heightIn (headerOf p) ≤ mostListed)
   raster-is =
-      let none = none-of-first (smallRows p) e in
+      let none = done-exactly (smallRows p) .0 e in
       let h = headerOf p in
       let size = neither (badSize (widthIn h) (heightIn h)) _ (none .1 .0) in
       let ok : readPicture p .refusal ≡ done =

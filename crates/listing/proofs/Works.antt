@@ -7,7 +7,7 @@ use lib.ListN.{length, take, replicate}
 use borrow.Author.Tests.{lt-ltb, le-ltb, ne-eqb}
 use Rattle.number.specs.{bit}
 use Rattle.refusal.specs.{Row, numberOf, done, firstOf, outcomeOf, Refuses, BAD-COUNT, BAD-SIZE}
-use Rattle.refusal.proofs.Order.{none-of-first}
+use Rattle.refusal.proofs.Promises.{done-exactly}
 use Rattle.refusal.proofs.Outcomes.{outcome-made, outcome-refused, refuses}
 use Rattle.table.specs.{Record, Added, AddMeets, emptyRecord, addStrip}
 use Rattle.shades.specs.{mostShades}
@@ -88,7 +88,7 @@ module _ (p : List ℕ) (count : ℕ) where
 
   -- where none of them holds the shades are at most 64
   pub run-count : firstOf (runTests p count) ≡ done → count ≤ mostShades
-  run-count e = bad-count-exactly count .0 (none-of-first (runTests p count) e .1 .0) .1
+  run-count e = bad-count-exactly count .0 (done-exactly (runTests p count) .0 e .1 .0) .1
 
   -- and their coordinates are there
   run-room : firstOf (runTests p count) ≡ done → 3 * count ≤ length (runOn p count .answer .shades)

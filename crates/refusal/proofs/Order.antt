@@ -38,7 +38,7 @@ first-of-none [] g = refl
 first-of-none (r ∷ rows) (t, g) = rw t (first-of-none rows g)
 
 -- where the answer is `done` no test holds: a refusal's number is another
-pub none-of-first : (rows : List Row) → firstOf rows ≡ done → NoneHolds rows
+none-of-first : (rows : List Row) → firstOf rows ≡ done → NoneHolds rows
 none-of-first [] e = tt
 none-of-first (r ∷ rows) e =
     ⊎-elim (λ t. absurd (number-not-done (r .gives) (rw t at e)))

@@ -16,6 +16,9 @@ run-requires c κs = search needs
 bit-requires : tie.Need-bit-requires
 bit-requires c κs = search needs
 
+cast-settled : tie.Need-cast-settled
+cast-settled c = search needs
+
 cast-result : tie.Need-cast-result
 cast-result c = search needs
 
@@ -42,6 +45,7 @@ kf-run-spec =
     record-in-requires
     run-requires
     bit-requires
+    cast-settled
     cast-result
     same-length
     same-length-2

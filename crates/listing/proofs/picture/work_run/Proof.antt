@@ -51,6 +51,9 @@ map-strip-requires c κs = search needs
 bit-requires : tie.Need-bit-requires
 bit-requires c κs = search needs
 
+cast-t23 : tie.Need-cast-t23
+cast-t23 c = search needs
+
 returns : tie.Need-returns
 returns c =
     let m = c .before .before in
@@ -72,4 +75,5 @@ work-run-spec =
     slice-aggregate-map-strip-2
     map-strip-requires
     bit-requires
+    cast-t23
     returns)
