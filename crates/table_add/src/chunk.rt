@@ -1,5 +1,4 @@
 // Pixels of a strip, tried at once: one alone where they are few, else a list of streaks.
-ghost use mathlib.Core.Path.{_≡_};
 ghost use Prim.Native.Nat.{_≤_, _<_};
 ghost use lib.ListN.{length};
 ghost use Rattle.table_streaks.specs.{mostStreaks};

@@ -1,4 +1,4 @@
--- What the plain search has found: for the entries to come it is still in the members.
+-- What the plain search has found: for the entries to come it stands in the members.
 use Prim.Native.Nat.{ℕ, _≤_, _<_}
 use mathlib.Core.List.{List}
 use mathlib.Core.Path.{_≡_, ap, _∙_}

@@ -1,4 +1,4 @@
--- The former shades of a shortened grouping: those of the entries to come are still in the members.
+-- The former shades of a shortened grouping: those of the entries to come stand in the members.
 use Prim.Native.Nat.{ℕ, _<_}
 use mathlib.Core.List.{List}
 use mathlib.Core.Path.{_≡_, ap, _∙_}
