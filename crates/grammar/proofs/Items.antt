@@ -5,7 +5,7 @@ use mathlib.Core.List.{List, [], _∷_, _++_, append-assoc}
 use mathlib.Core.Logic.{_↔_}
 use mathlib.Core.Option.{Option, none, some, Option·some-ne-none, Option·none-ne-some, Option·some-injective}
 use mathlib.Core.Path.{_≡_, refl, sym, ap, _∙_, subst}
-use Rattle.grammar.specs.Languages.{Joined}
+use Rattle.grammar.specs.Languages.{JoinedWords}
 use Rattle.grammar.specs.Machines.{later, Completes}
 use Rattle.grammar.specs.Items.{before, stepItems, nothingLeft, judgeItems}
 use Rattle.grammar.proofs.Machines.{said-on, word-on}
@@ -45,7 +45,7 @@ module _ {I : Type 0} (after : I → ℕ → Option (List I)) where
 
   -- and every word of all is one of the first items and one of the others
   words-part : (w : List ℕ) (is js : List I) → judgeItems after (is ++ js) w ≡ none
-      → Joined (λ u. judgeItems after is u ≡ none) (λ v. judgeItems after js v ≡ none) w
+      → JoinedWords (λ u. judgeItems after is u ≡ none) (λ v. judgeItems after js v ≡ none) w
   words-part [] [] js a = record { front = []; back = []; is = refl; front-word = refl; back-word = a }
   words-part (c ∷ w) [] js a = record { front = []; back = c ∷ w; is = refl; front-word = refl; back-word = a }
   words-part [] (i ∷ is) js a = absurd (Option·some-ne-none 0 a)
@@ -63,7 +63,7 @@ module _ {I : Type 0} (after : I → ℕ → Option (List I)) where
 
   -- the words of items are the words of the first items, each with one of the others behind
   pub words-joined : (is js : List I) (w : List ℕ) → (judgeItems after (is ++ js) w ≡ none)
-      ↔ Joined (λ u. judgeItems after is u ≡ none) (λ v. judgeItems after js v ≡ none) w
+      ↔ JoinedWords (λ u. judgeItems after is u ≡ none) (λ v. judgeItems after js v ≡ none) w
   words-joined is js w = (
     words-part w is js,
     λ p. subst (λ l. judgeItems after (is ++ js) l ≡ none) (sym (p .is))

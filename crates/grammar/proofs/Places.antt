@@ -11,7 +11,7 @@ use native.Mathlib.Omega.{arith}
 use lib.ListN.{length, drop, drop-of-length-le}
 use lib.Seq.{drop-cons}
 use Rattle.grammar.specs.Bytes.{byteAt}
-use Rattle.grammar.specs.Machines.{later, judge, frontStep, placed, wrongFrom}
+use Rattle.grammar.specs.Machines.{later, judge, frontStep, countedFrom, wrongFrom}
 use Rattle.grammar.specs.Items.{before, stepItems, nothingLeft, judgeFront}
 use Rattle.grammar.proofs.Machines.{said-on, said-dead}
 use Rattle.grammar.proofs.Fronts.{front-stopped}
@@ -19,47 +19,47 @@ use Rattle.grammar.proofs.Fronts.{front-stopped}
 -- ---- places
 
 -- a place one byte later is one counted from one place later
-placed-later : (a : ℕ) (o : Option ℕ) → placed a (later o) ≡ placed (suc a) o
-placed-later a none = refl
-placed-later a (some n) = let e : a + suc n ≡ suc a + n = omega arith in ap {B = Option ℕ} some e
+counted-later : (a : ℕ) (o : Option ℕ) → countedFrom a (later o) ≡ countedFrom (suc a) o
+counted-later a none = refl
+counted-later a (some n) = let e : a + suc n ≡ suc a + n = omega arith in ap {B = Option ℕ} some e
 
 -- a place counted from 0 on is itself
-placed-zero : (o : Option ℕ) → placed 0 o ≡ o
-placed-zero none = refl
-placed-zero (some n) = let e : 0 + n ≡ n = omega arith in ap {B = Option ℕ} some e
+counted-zero : (o : Option ℕ) → countedFrom 0 o ≡ o
+counted-zero none = refl
+counted-zero (some n) = let e : 0 + n ≡ n = omega arith in ap {B = Option ℕ} some e
 
 -- the place that is counted from is 0 places behind itself
-placed-here : (a : ℕ) → placed a (some 0) ≡ some a
-placed-here a = let e : a + 0 ≡ a = omega arith in ap {B = Option ℕ} some e
+counted-here : (a : ℕ) → countedFrom a (some 0) ≡ some a
+counted-here a = let e : a + 0 ≡ a = omega arith in ap {B = Option ℕ} some e
 
 -- ---- any machine
 
 module _ {S : Type 0} (step : S → ℕ → Option S) (accepts : S → Bool) where
   -- from the first place on it is what the machine says
   from-first : (q : S) (s : List ℕ) → wrongFrom step accepts q s 0 ≡ judge step accepts q s
-  from-first q s = placed-zero (judge step accepts q s)
+  from-first q s = counted-zero (judge step accepts q s)
 
   -- a byte that leads to a state
   from-on : (q r : S) (s : List ℕ) (a : ℕ) → a < length s → step q (byteAt s a) ≡ some r
       → wrongFrom step accepts q s a ≡ wrongFrom step accepts r s (a + 1)
   from-on q r s a h e =
-      ap (λ t. placed a (judge step accepts q t)) (drop-cons s a 0 h)
-      ∙ ap (placed a) (said-on step accepts q r (byteAt s a) (drop (suc a) s) e)
-      ∙ placed-later a (judge step accepts r (drop (suc a) s))
+      ap (λ t. countedFrom a (judge step accepts q t)) (drop-cons s a 0 h)
+      ∙ ap (countedFrom a) (said-on step accepts q r (byteAt s a) (drop (suc a) s) e)
+      ∙ counted-later a (judge step accepts r (drop (suc a) s))
       ∙ ap (wrongFrom step accepts r s) (sym (add-one a))
 
   -- a byte that leads to none
   from-dead : (q : S) (s : List ℕ) (a : ℕ) → a < length s → step q (byteAt s a) ≡ none
       → wrongFrom step accepts q s a ≡ some a
   from-dead q s a h e =
-      ap (λ t. placed a (judge step accepts q t)) (drop-cons s a 0 h)
-      ∙ ap (placed a) (said-dead step accepts q (byteAt s a) (drop (suc a) s) e)
-      ∙ placed-here a
+      ap (λ t. countedFrom a (judge step accepts q t)) (drop-cons s a 0 h)
+      ∙ ap (countedFrom a) (said-dead step accepts q (byteAt s a) (drop (suc a) s) e)
+      ∙ counted-here a
 
   -- the end of an input that may not end there
   from-end : (q : S) (s : List ℕ) (a : ℕ) → length s ≤ a → accepts q ≡ false → wrongFrom step accepts q s a ≡ some a
   from-end q s a h t =
-      ap (λ l. placed a (judge step accepts q l)) (drop-of-length-le s {i = a} h) ∙ rw t (placed-here a)
+      ap (λ l. countedFrom a (judge step accepts q l)) (drop-of-length-le s {i = a} h) ∙ rw t (counted-here a)
 
 -- ---- items at the front of an input
 
@@ -78,7 +78,7 @@ module _ {I : Type 0} (after : I → ℕ → Option (List I)) where
 
   -- where nothing is to come nothing is wrong
   pub front-nothing : (s : List ℕ) (a : ℕ) → wrongFront [] s a ≡ none
-  front-nothing s a = ap (placed a) (front-stopped (stepItems after) nothingLeft (drop a s) [] refl)
+  front-nothing s a = ap (countedFrom a) (front-stopped (stepItems after) nothingLeft (drop a s) [] refl)
 
   -- a byte that the first item takes
   pub front-taken : (i : I) (rest is : List I) (s : List ℕ) (a : ℕ) → a < length s → after i (byteAt s a) ≡ some is

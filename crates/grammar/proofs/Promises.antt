@@ -9,7 +9,7 @@ use lib.ListN.{length, getD, take}
 use Rattle.grammar.specs.Bytes.{byteAt, digitZero, isDigit}
 use Rattle.grammar.specs.Spans.{spanAt, AllOf}
 use Rattle.grammar.specs.Decimals.{decimal, mostDecimal, decimalText}
-use Rattle.grammar.specs.Languages.{Fronts, GoesOn, Joined, FirstWrong}
+use Rattle.grammar.specs.Languages.{Fronts, GoesOn, JoinedWords, FirstWrong}
 use Rattle.grammar.specs.Machines.{judge, Accepts, Completes, frontStep}
 use Rattle.grammar.specs.Items.{stepItems, nothingLeft, judgeItems}
 use Rattle.grammar.proofs.Spans as spans
@@ -107,7 +107,7 @@ front-completes = fronts.front-completes
 -- The words of items are words of the first items, each with one of the others behind it.
 pub words-joined : {I : Type 0} (after : I → ℕ → Option (List I)) (first others : List I) (bytes : List ℕ)
     → (judgeItems after (first ++ others) bytes ≡ none)
-    ↔ Joined (λ u. judgeItems after first u ≡ none) (λ v. judgeItems after others v ≡ none) bytes
+    ↔ JoinedWords (λ u. judgeItems after first u ≡ none) (λ v. judgeItems after others v ≡ none) bytes
 words-joined = items.words-joined
 
 -- Where every item can be completed every state can.

@@ -34,7 +34,7 @@ pub record GoesOn (language : List ℕ → Type 0) (input : List ℕ) (at : ℕ)
   pub same : take at word ≡ take at input
 
 -- the bytes are a word of the first language and then one of the second
-pub record Joined (first second : List ℕ → Type 0) (bytes : List ℕ) : Type 0 where
+pub record JoinedWords (first second : List ℕ → Type 0) (bytes : List ℕ) : Type 0 where
   pub front : List ℕ
   pub back : List ℕ
   pub is : bytes ≡ front ++ back

@@ -22,7 +22,7 @@
 --   FirstWrong language input at    place `at` has the first byte that cannot stand there, or is an early end
 --   Fronts language                 the language of inputs that begin with a word
 --   GoesOn language input at        some word has the bytes before place `at`, and goes on
---   Joined first second             the language of a word of the first and then one of the second
+--   JoinedWords first second             the language of a word of the first and then one of the second
 --
 -- Machines: `step` leads from a state and a byte to a state or to none, `accepts` says where the input may end
 --   later, further                  a wrong place one byte later; what is said by the state after the first byte
@@ -30,7 +30,7 @@
 --   Accepts step accepts state      the language of the machine from a state on
 --   Completes step accepts state    some bytes lead from a state on to an accepting one
 --   frontStep step accepts          the steps of the machine that stops where it first accepts
---   placed, wrongFrom               a place counted from another; the wrong place, from a place of the input on
+--   countedFrom, wrongFrom               a place counted from another; the wrong place, from a place of the input on
 --
 -- Machines of items: a state is the list of items to come, `after` says what comes instead of one after a byte
 --   before, stepItems after         items before others; the steps of the machine
@@ -57,7 +57,7 @@ unfoldable pub use Bytes.{
 unfoldable pub use Spans.{spanAt, AllOf}
 unfoldable pub use Decimals.{decimal, mostDecimal, digitByte, shortText, decimalText}
 unfoldable pub use Numbers.{mostDigits, digitsAt, Digits, numberAt, placeIn}
-pub use Languages.{Begins, FirstWrong, Fronts, GoesOn, Joined}
-unfoldable pub use Machines.{later, further, judge, Accepts, frontStep, placed, wrongFrom}
+pub use Languages.{Begins, FirstWrong, Fronts, GoesOn, JoinedWords}
+unfoldable pub use Machines.{later, further, judge, Accepts, frontStep, countedFrom, wrongFrom}
 pub use Machines.{Completes}
 unfoldable pub use Items.{before, stepItems, nothingLeft, judgeItems, judgeFront}

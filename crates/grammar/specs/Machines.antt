@@ -41,10 +41,10 @@ frontStep step accepts state byte = cond (accepts state) (some state) (step stat
 -- ---- the same over the places of an input
 
 -- a place counted from another; none stays none
-abbrev pub placed : ℕ → Option ℕ → Option ℕ
-placed from none = none
-placed from (some place) = some (from + place)
+abbrev pub countedFrom : ℕ → Option ℕ → Option ℕ
+countedFrom from none = none
+countedFrom from (some place) = some (from + place)
 
 -- the wrong place of an input where the machine is in a state at a place
 abbrev pub wrongFrom : {S : Type 0} → (S → ℕ → Option S) → (S → Bool) → S → List ℕ → ℕ → Option ℕ
-wrongFrom step accepts state input at = placed at (judge step accepts state (drop at input))
+wrongFrom step accepts state input at = countedFrom at (judge step accepts state (drop at input))

@@ -21,15 +21,15 @@ fn count_of(index: &[u8], q: usize) -> u64
     count
 }
 
-// The counts of the shades 0 to k - 1, into the front of `counts`, the rest of which stays.
+// The counts of the first `shades` shades, into the front of `counts`, the rest of which stays.
 // Requires room.
-pub fn count_shades(index: &[u8], k: usize, counts: &mut [u64])
-    requires { ⌜ k ≤ length (now counts) ⌝ }
+pub fn count_shades(index: &[u8], shades: usize, counts: &mut [u64])
+    requires { ⌜ shades ≤ length (now counts) ⌝ }
     ensures { λ _. ⌜ now (counts .exit)
-        ≡ fill k (mappedTo (now (index .entry))) (now (counts .entry)) ⌝ }
+        ≡ fill shades (mappedTo (now (index .entry))) (now (counts .entry)) ⌝ }
 {
     let mut q = 0;
-    while q < k {
+    while q < shades {
         counts[q] = count_of(index, q);
         q += 1;
     }

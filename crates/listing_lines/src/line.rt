@@ -38,12 +38,19 @@ pub fn put_refusal(out: &mut [u8], number: u8) -> usize
 }
 
 // Puts line 1: table colours, pixels, rounds, settled, final total, distances. Requires room.
-pub fn put_head(out: &mut [u8], s: Summary) -> usize
+pub fn put_head(out: &mut [u8], summary: Summary) -> usize
     requires { ⌜ mostLine ≤ length (now out) ⌝ }
-    ensures { λ r. ⌜ PutMeets 0 (lineOf (headFields s)) (now (out .entry)) r
+    ensures { λ r. ⌜ PutMeets 0 (lineOf (headFields summary)) (now (out .entry)) r
         (now (out .exit)) ⌝ }
 {
-    let fields = [s.used, s.pixels, s.rounds, s.settled, s.total, s.distances];
+    let fields = [
+        summary.used,
+        summary.pixels,
+        summary.rounds,
+        summary.settled,
+        summary.total,
+        summary.distances,
+    ];
     put_line(out, 0, &fields)
 }
 

@@ -22,10 +22,10 @@ fn put_rows(out: &mut [u8], at: usize, palette: &[u8], counts: &[u64]) -> usize
         (linesOf (shadeRows (length (now (palette .entry)) / 3) (now (palette .entry))
         (λ q. getD (now (counts .entry)) q 0))) (now (out .entry)) r (now (out .exit)) ⌝ }
 {
-    let k = palette.len() / 3;
+    let shades = palette.len() / 3;
     let mut a = at;
     let mut q = 0;
-    while q < k {
+    while q < shades {
         a = put_shade(out, a, palette, q, counts[q]);
         q += 1;
     }

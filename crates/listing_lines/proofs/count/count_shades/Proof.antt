@@ -56,7 +56,7 @@ same-length c = ap length (c .before .loop .inv .1) ∙ fill-length _ _ _
 
 returns : tie.Need-returns Inv-loop μ-loop
 returns c =
-    let e : c .before .loop .q ≡ st (c .before) .args .k = omega arith in
+    let e : c .before .loop .q ≡ st (c .before) .args .shades = omega arith in
     rw e at (c .before .loop .inv .1)
 
 pub count-shades-spec : {M : Type 1} → statement M
