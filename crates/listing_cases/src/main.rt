@@ -34,13 +34,32 @@ fn bad_pictures() {
     show(b"1\nP6 1 1 255 abcd");
 }
 
-// One shade, also with a leading zero in its count, and 64 shades of 64 colours.
+// One shade, also with a leading zero in its count.
 fn accepted() {
     show(b"1\nP6 2 1 255 abcdef");
     show(b"01\nP6\n1 2\n255\nabcdef");
-    show(
-        b"64\nP6 64 1 255 000001002003004005006007008009010011012013014015016017018019020021022023024025026027028029030031032033034035036037038039040041042043044045046047048049050051052053054055056057058059060061062063",
+}
+
+// 64 shades of 64 colours.
+fn most_shades() {
+    let mut input = [0u8; 207];
+    texts::put_word(&mut input, 0, b"64\nP6 64 1 255 ");
+    texts::put_word(
+        &mut input,
+        15,
+        b"0000010020030040050060070080090100110120130140150160170180190200",
     );
+    texts::put_word(
+        &mut input,
+        79,
+        b"2102202302402502602702802903003103203303403503603703803904004104",
+    );
+    texts::put_word(
+        &mut input,
+        143,
+        b"2043044045046047048049050051052053054055056057058059060061062063",
+    );
+    show(&input);
 }
 
 // 8,192 pixels of one colour: 24,592 bytes.
@@ -65,6 +84,7 @@ fn main() {
     bad_counts();
     bad_pictures();
     accepted();
+    most_shades();
     most_pixels();
     most_bytes();
 }
