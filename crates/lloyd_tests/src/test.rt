@@ -23,7 +23,7 @@ pub fn limit_of(limit: usize) -> usize
     if limit == 0 { USUAL_LIMIT } else { limit }
 }
 
-// A member as a number of shades.
+// A member, in the width of a count.
 fn wide(member: u32) -> usize
     ensures { λ r. ⌜ r ≡ member ⌝ }
 {
