@@ -9,7 +9,8 @@ use Rattle.colour.specs.{Within, mostCoordinate}
 use Rattle.method.specs.{Rule, GoodRule, Base, Colours, State, coloursOf, beginFrom, finalOf}
 use Rattle.method.proofs.Begins.{begin-from-fit}
 use Rattle.method.proofs.Sizes.{fair-of-table}
-use Rattle.rounds.specs.{Runnable, SeriesMeets}
+use Rattle.rounds_many.specs.{SeriesMeets}
+use Rattle.rounds.specs.{Runnable}
 use Rattle.lloyd_tests.specs.{limitOf}
 use Rattle.lloyd.specs.Outcomes.{RunOutcome, RunMeets, AcceptedBy, refusedRun, keptRun, madeRun, runBy}
 use Rattle.lloyd.specs.declared.Ran.{Ran}

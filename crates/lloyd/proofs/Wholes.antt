@@ -11,7 +11,8 @@ use Rattle.refusal.specs.{Refusal, numberOf, done, firstOf, NoneHolds, Refuses}
 use Rattle.table_test.specs.{Record, badTable}
 use Rattle.method.specs.{Colours, State, coloursOf, toMean, onMean, finalOf, begin}
 use Rattle.method.specs.{mostRounds}
-use Rattle.rounds.specs.{Runnable, SeriesMeets}
+use Rattle.rounds_many.specs.{SeriesMeets}
+use Rattle.rounds.specs.{Runnable}
 use Rattle.lloyd_tests.specs.{limitOf, badCount, fewColours, badLimit, shortMembers, shortTotals}
 use Rattle.lloyd.specs.Refusals.{runRows}
 use Rattle.lloyd.specs.Outcomes.{RunMeets, refusedRun, keptRun, madeRun, runOf}

@@ -14,7 +14,7 @@ use Rattle.shades.specs.{colourAt, nearestShade, badCoordinates, badCentre}
 use Rattle.shades.proofs.Checks.{bad-coordinates-exactly, shades-of-tests}
 use Rattle.method.specs.{Colours, State, coloursOf, toMean, joins, plainDistances, shortDistances}
 use Rattle.method.proofs.Falls.{member-joined}
-use Rattle.rounds.specs.{Steppable, Walkable}
+use Rattle.rounds_step.specs.{Steppable, Walkable}
 use Rattle.lloyd_tests.specs.{shortMembers, badMember}
 use Rattle.lloyd_rounds.specs.Refusals.{plainRows, memberRow, shortRows}
 use Rattle.lloyd_rounds.specs.Outcomes.{RoundOutcome, madeRound, keptRound, plainRound, shortRound}

@@ -7,7 +7,7 @@ use lib.ListN.{length}
 use Rattle.refusal.specs.{Row, Refusal, numberOf, done, firstOf, Refuses}
 use Rattle.table_test.specs.{Record}
 use Rattle.method.specs.{Colours, State, coloursOf, toMean, plainDistances, shortDistances}
-use Rattle.rounds.specs.{StepMeets}
+use Rattle.rounds_step.specs.{StepMeets}
 use Rattle.lloyd_tests.specs.{badMember}
 use Rattle.lloyd_rounds.specs.Refusals.{plainRows, shortRows}
 use Rattle.lloyd_rounds.specs.Outcomes.{

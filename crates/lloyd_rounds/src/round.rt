@@ -15,7 +15,7 @@ use refusal::BAD_MEMBER;
 use refusal::BAD_TABLE;
 use refusal::DONE;
 use refusal::SHORT_ROOM;
-use rounds::Stepped;
+use rounds_step::Stepped;
 use table_test::Record;
 
 // The answer of a refusal: its number and zeros.
@@ -81,7 +81,7 @@ pub fn plain_round(
         return refused(SHORT_ROOM);
     }
     let count = coordinates.len() / 3;
-    made(rounds::plain_step(keys, weights, used, coordinates, count, members))
+    made(rounds_step::plain_step(keys, weights, used, coordinates, count, members))
 }
 
 // One round by the shortened search, which reads each colour's former shade from the members. It
@@ -119,5 +119,5 @@ pub fn short_round(
     if bad_member(members, used, count) {
         return refused(BAD_MEMBER);
     }
-    made(rounds::short_step(keys, weights, used, coordinates, count, members))
+    made(rounds_step::short_step(keys, weights, used, coordinates, count, members))
 }

@@ -1,4 +1,2 @@
--- One round: the grouping and the move together.
-pub mod Stepping
--- Rounds one after the other.
-pub mod Turns
+-- Where a run begins, and what its rounds leave.
+pub mod Beginnings

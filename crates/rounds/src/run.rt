@@ -12,12 +12,12 @@ ghost use Rattle.method.specs.{
   begin,
   finalOf,
 };
-ghost use Rattle.rounds.specs.Meeting.{Runnable, SeriesMeets};
-use super::Series;
+ghost use Rattle.rounds_many.specs.{SeriesMeets};
+ghost use Rattle.rounds.specs.Asking.{Runnable};
 use super::Whole;
-use super::many::make_rounds;
 use super::total::final_total;
 use colour::Point;
+use rounds_many::Series;
 
 // Makes a run from the given shades in `base` and coordinates that are required to be 192 zeros.
 // Requires a table with a colour, a given shade, all of them on the grid, 1 to 64 shades, a limit
@@ -47,7 +47,7 @@ pub fn run_from(
         (stateOf (now (shades .exit)) (now (members .exit))) ⌝ }
 {
     starts::fill_starts(keys, used, base, shades, count, members);
-    let a = make_rounds(keys, weights, used, shades, count, limit, members, totals);
+    let a = rounds_many::make_rounds(keys, weights, used, shades, count, limit, members, totals);
     let total = final_total(keys, weights, used, shades, count, members);
     Whole {
         rounds: a.rounds,

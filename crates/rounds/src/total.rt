@@ -4,7 +4,7 @@ ghost use Prim.Native.Nat.{_*_, _<_};
 ghost use lib.ListN.{getD};
 ghost use Rattle.shades.specs.{colourAt, toShade};
 ghost use Rattle.method.specs.{stateOf, coloursOf, finalOf};
-ghost use Rattle.rounds.specs.Meeting.{Walkable};
+ghost use Rattle.rounds_step.specs.{Walkable};
 
 // What entry `i` costs with its member's shade.
 fn entry_cost(

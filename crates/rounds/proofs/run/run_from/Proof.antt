@@ -9,8 +9,8 @@ use Rattle.colour.specs.{Within, mostCoordinate}
 use Rattle.method.specs.{stateOf, coloursOf, toMean, listed, beginFrom}
 use Rattle.method.proofs.Costs.{to-mean-good}
 use Rattle.method.proofs.Startings.{listed-within}
-use Rattle.rounds.specs.Meeting.{SeriesMeets}
-use Rattle.rounds.proofs.Turns.{begin-walkable, begun, series-walkable}
+use Rattle.rounds_many.specs.{SeriesMeets}
+use Rattle.rounds.proofs.Beginnings.{begin-walkable, begun, series-walkable}
 use Rattle.rounds.proofs.run.run_from.Statement.{statement}
 use Rattle.rounds.proofs.run.run_from.Tie as tie
 

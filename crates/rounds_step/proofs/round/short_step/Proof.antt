@@ -1,8 +1,8 @@
 -- `short_step` meets its contract: zeros are the sums over no entry.
 use borrow.Author.Needs.{needs}
 use Rattle.group_sums.proofs.Summing.{summed-none}
-use Rattle.rounds.proofs.round.short_step.Statement.{statement}
-use Rattle.rounds.proofs.round.short_step.Tie as tie
+use Rattle.rounds_step.proofs.round.short_step.Statement.{statement}
+use Rattle.rounds_step.proofs.round.short_step.Tie as tie
 
 next-step-requires : tie.Need-next-step-requires
 next-step-requires c κs = (c .before .before .before .before .before .before .before .pre, summed-none _ _ _)

@@ -1,8 +1,8 @@
 -- `plain_step` meets its contract: a grouping by the plain search and the move are a step.
 use borrow.Author.Needs.{needs}
-use Rattle.rounds.proofs.Stepping.{move-asked, step-meets}
-use Rattle.rounds.proofs.round.plain_step.Statement.{statement}
-use Rattle.rounds.proofs.round.plain_step.Tie as tie
+use Rattle.rounds_step.proofs.Stepping.{move-asked, step-meets}
+use Rattle.rounds_step.proofs.round.plain_step.Statement.{statement}
+use Rattle.rounds_step.proofs.round.plain_step.Tie as tie
 
 -- where the call began, from the grouping
 abbrev st : tie.After-group-plain → tie.Start

@@ -11,7 +11,7 @@ use Rattle.method.proofs.Sizes.{fair-of-table}
 use Rattle.group_sums.specs.{Summed, memberAt}
 use Rattle.group_sums.proofs.Summing.{summed-none}
 use Rattle.group_join.specs.{covered}
-use Rattle.rounds.proofs.Turns.{
+use Rattle.rounds_many.proofs.Turns.{
   Going,
   after-walkable,
   going-start,
@@ -21,8 +21,8 @@ use Rattle.rounds.proofs.Turns.{
   going-next,
   going-done,
 }
-use Rattle.rounds.proofs.many.make_rounds.Statement.{statement}
-use Rattle.rounds.proofs.many.make_rounds.Tie as tie
+use Rattle.rounds_many.proofs.many.make_rounds.Statement.{statement}
+use Rattle.rounds_many.proofs.many.make_rounds.Tie as tie
 
 abbrev Inv-loop : tie.InvT-loop
 Inv-loop keys weights used shades₀ count limit members₀ totals₀ sums₀ anew₀ r₀ go₀ moved₀ distances₀ shades members

@@ -2,7 +2,7 @@
 ghost use Rattle.method.specs.{stateOf, coloursOf, toMean, plainDistances, shortDistances};
 ghost use Rattle.group_sums.specs.{Summed, memberAt};
 ghost use Rattle.group_join.specs.{covered};
-ghost use Rattle.rounds.specs.Meeting.{Steppable, Walkable, StepMeets};
+ghost use Rattle.rounds_step.specs.Meeting.{Steppable, Walkable, StepMeets};
 use super::Stepped;
 use group_join::Regrouped;
 

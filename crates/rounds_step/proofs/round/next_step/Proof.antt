@@ -1,8 +1,8 @@
 -- `next_step` meets its contract: a grouping from the former shades and the move are a step.
 use borrow.Author.Needs.{needs}
-use Rattle.rounds.proofs.Stepping.{move-asked, step-meets, step-sums}
-use Rattle.rounds.proofs.round.next_step.Statement.{statement}
-use Rattle.rounds.proofs.round.next_step.Tie as tie
+use Rattle.rounds_step.proofs.Stepping.{move-asked, step-meets, step-sums}
+use Rattle.rounds_step.proofs.round.next_step.Statement.{statement}
+use Rattle.rounds_step.proofs.round.next_step.Tie as tie
 
 -- where the call began, from the grouping
 abbrev st : tie.After-regroup → tie.Start

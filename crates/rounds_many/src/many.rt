@@ -5,10 +5,10 @@ ghost use Prim.Native.Nat.{_<_, _≤_};
 ghost use lib.ListN.{length};
 ghost use lib.Dec.{eqb};
 ghost use Rattle.method.specs.{stateOf, coloursOf, toMean, mostRounds};
-ghost use Rattle.rounds.specs.Meeting.{Walkable, SeriesMeets};
+ghost use Rattle.rounds_step.specs.{Walkable};
+ghost use Rattle.rounds_many.specs.Meeting.{SeriesMeets};
 use super::Series;
-use super::Stepped;
-use super::round::next_step;
+use rounds_step::Stepped;
 
 // Whether no shade moved.
 fn none(moved: u32) -> bool
@@ -55,7 +55,16 @@ pub fn make_rounds(
     let mut moved: u32 = 1;
     let mut distances: u64 = 0;
     while r < go {
-        let a = next_step(keys, weights, used, shades, count, members, anew, &mut sums);
+        let a = rounds_step::next_step(
+            keys,
+            weights,
+            used,
+            shades,
+            count,
+            members,
+            anew,
+            &mut sums,
+        );
         anew = false;
         totals[r] = a.total;
         distances += a.distances;

@@ -6,27 +6,21 @@ use mathlib.Core.Path.{_≡_, refl, sym, ap, ap₂, _∙_}
 use native.Mathlib.Nat.{mul-le-mul-right}
 use native.Mathlib.Omega.{arith}
 use lib.Dec.{ltb, eqb}
-use lib.ListN.{set, length, replicate}
+use lib.ListN.{set, length}
 use borrow.Author.Tests.{lt-ltb, le-ltb, ltb-true, ltb-false}
 use Rattle.number.specs.{sum, fill}
 use Rattle.number.proofs.Fills.{fill-more, fill-length}
 use Rattle.number.proofs.Sums.{sum-more, sum-bound}
 use Rattle.table_entries.specs.{mostEntries}
-use Rattle.colour.specs.{Within, mostCoordinate}
-use Rattle.shades.specs.{mostShades, mostCoordinates, colourAt}
+use Rattle.shades.specs.{mostShades}
 use Rattle.method.specs.{
   mostRounds,
-  Base,
   Colours,
   Fair,
   Rule,
   GoodRule,
   State,
-  stateOf,
   coloursOf,
-  startsFrom,
-  over,
-  beginFrom,
   step,
   after,
   quiet,
@@ -35,11 +29,11 @@ use Rattle.method.specs.{
   shortDistances,
   roundsMade,
 }
-use Rattle.method.proofs.Begins.{begin-from-fit, begin-joined}
 use Rattle.method.proofs.Falls.{after-more, step-fit, grouped-below}
 use Rattle.method.proofs.Runs.{made-at-most, made-some, made-next, made-last}
 use Rattle.method.proofs.Sizes.{fair-of-table, short-at-most}
-use Rattle.rounds.specs.Meeting.{Steppable, Walkable, StepMeets, SeriesMeets, Runnable}
+use Rattle.rounds_step.specs.{Steppable, Walkable, StepMeets}
+use Rattle.rounds_many.specs.Meeting.{SeriesMeets}
 
 -- after a round the members are shades' numbers and all is fit for the next
 step-walkable : {used : ℕ} {ks ws : List ℕ} {k : ℕ} {a : State} (rule : Rule) → GoodRule rule
@@ -159,33 +153,3 @@ module _ (rule : Rule) (C : Colours) (k limit : ℕ) (a : State) where
           settled-is = es ∙ ap (λ n. eqb n 0) (g .moved-is s) ∙ made-last limit still r s m;
           distances-is = rw m at (g .distances-is);
         }
-
--- ---- where a run begins
-
-module _ {used : ℕ} {ks ws : List ℕ} {k limit : ℕ} {members totals : List ℕ}
-    (p : Runnable used ks ws k limit members totals) where
-  module _ (B : Base) (low : (q : ℕ) → Within mostCoordinate (B .at q)) where
-    -- it begins fit for a shortened round
-    pub begin-walkable : Walkable used ks ws k (beginFrom B (coloursOf used ks ws) k members)
-    begin-walkable = record {
-      steppable = record {
-        table = p .table;
-        fit = begin-from-fit B (coloursOf used ks ws) k members low (fair-of-table (p .table)) (p .some) (p .few)
-            (p .members-room);
-      };
-      joined = begin-joined B (coloursOf used ks ws) k members (p .some) (p .members-room);
-    }
-
-    -- what the rounds of a run leave is fit for its final total
-    pub series-walkable : (rule : Rule) → GoodRule rule → {z : State} {after : List ℕ} {rounds distances : ℕ}
-        {settled : Bool}
-        → SeriesMeets rule (coloursOf used ks ws) k limit (beginFrom B (coloursOf used ks ws) k members) z totals
-        after rounds settled distances → Walkable used ks ws k z
-    series-walkable rule good m = rw (m .state) (after-walkable rule good begin-walkable _)
-
--- with the starting shades over zeros, and every member 0, it has begun
-pub begun : (B : Base) (used : ℕ) (ks ws : List ℕ) (k : ℕ) (members s s′ members′ : List ℕ)
-    → s ≡ replicate mostCoordinates 0
-    → s′ ≡ over (startsFrom B used (colourAt ks) k) s → members′ ≡ fill used (λ i. 0) members
-    → stateOf s′ members′ ≡ beginFrom B (coloursOf used ks ws) k members
-begun B used ks ws k members s s′ members′ es e f = ap₂ stateOf (rw (e, es)) f

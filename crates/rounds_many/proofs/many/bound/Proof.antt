@@ -1,7 +1,7 @@
 -- `bound` meets its contract.
 use borrow.Author.Tests.{eq-eqb, ne-eqb}
-use Rattle.rounds.proofs.many.bound.Statement.{statement}
-use Rattle.rounds.proofs.many.bound.Tie as tie
+use Rattle.rounds_many.proofs.many.bound.Statement.{statement}
+use Rattle.rounds_many.proofs.many.bound.Tie as tie
 
 returns : tie.Need-returns
 returns c = rw (eq-eqb _ _ (c .if1 .taken))

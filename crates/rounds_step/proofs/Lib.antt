@@ -1,0 +1,2 @@
+-- One round: the grouping and the move together.
+pub mod Stepping
