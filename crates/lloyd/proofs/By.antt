@@ -3,7 +3,8 @@ use Prim.Native.Nat.{ℕ}
 use mathlib.Core.Bool.{Bool}
 use mathlib.Core.List.{List}
 use mathlib.Core.Path.{_≡_, refl, sym, ap, _∙_}
-use Rattle.refusal.specs.{Row, Refusal, numberOf, done, firstOf, Refuses}
+use borrow.Author.Tests.{ne-eqb}
+use Rattle.refusal.specs.{Row, done, firstOf, Refuses}
 use Rattle.refusal.proofs.Outcomes.{refuses}
 use Rattle.colour.specs.{Within, mostCoordinate}
 use Rattle.method.specs.{Rule, GoodRule, Base, Colours, State, coloursOf, beginFrom, finalOf}
@@ -26,11 +27,10 @@ module _ (rows : List Row) (rule : Rule) (B : Base) (C : Colours) (k limit : ℕ
   by-refuses = refuses _ _ _ _ refl (λ n. refl)
 
   -- the contract where it is refused
-  pub by-meets-refused : (n : Refusal) (r : Ran) → firstOf rows ≡ numberOf n → r ≡ refusedRun (numberOf n)
+  pub by-meets-refused : (n : ℕ) (r : Ran) → n ≡ firstOf rows → ¬ (n ≡ done) → r ≡ refusedRun n
       → RunMeets (runBy rows rule B C k limit ms ts) r ms ts
-  by-meets-refused n r e is =
-      rw (by-refuses .by-refusal n e)
-      (record { answer = is; members-are = refl; totals-are = refl })
+  by-meets-refused n r e some is =
+      rw (sym e, ne-eqb n done some) (record { answer = is; members-are = refl; totals-are = refl })
 
   -- the contract where it is made
   pub by-meets-made : (z : State) (totals : List ℕ) (rounds : ℕ) (settled : Bool) (distances total : ℕ) (r : Ran)

@@ -7,14 +7,15 @@ use native.Mathlib.Omega.{arith}
 use lib.ListN.{length}
 use borrow.Author.Tests.{ltb-false}
 use Rattle.number.proofs.Cases.{neither}
-use Rattle.refusal.specs.{Refusal, numberOf, done, firstOf, NoneHolds, Refuses}
+use Rattle.refusal.specs.{done, firstOf, NoneHolds, Refuses}
+use Rattle.refusal.proofs.Promises.{done-exactly}
 use Rattle.table_test.specs.{Record, badTable}
 use Rattle.method.specs.{Colours, State, coloursOf, toMean, onMean, finalOf, begin}
 use Rattle.method.specs.{mostRounds}
 use Rattle.rounds_many.specs.{SeriesMeets}
 use Rattle.rounds.specs.{Runnable}
 use Rattle.lloyd_tests.specs.{limitOf, badCount, fewColours, badLimit, shortMembers, shortTotals}
-use Rattle.lloyd.specs.Refusals.{runRows}
+use Rattle.lloyd_refusal.specs.{runRows}
 use Rattle.lloyd.specs.Outcomes.{RunMeets, refusedRun, keptRun, madeRun, runOf}
 use Rattle.lloyd.specs.declared.Ran.{Ran}
 use Rattle.lloyd.proofs.By.{by-refuses, by-meets-refused, by-meets-made}
@@ -37,8 +38,8 @@ module _ (rec : Record) (ks ws : List ℕ) (k limit : ℕ) (ms ts : List ℕ) wh
   run-refuses = by-refuses (runRows rec ks ws k limit ms ts) toMean (onMean C) C k limit ms ts
 
   -- the contract where it is refused
-  pub run-meets-refused : (n : Refusal) (r : Ran) → firstOf (runRows rec ks ws k limit ms ts) ≡ numberOf n
-      → r ≡ refusedRun (numberOf n) → RunMeets (runOf rec ks ws k limit ms ts) r ms ts
+  pub run-meets-refused : (n : ℕ) (r : Ran) → n ≡ firstOf (runRows rec ks ws k limit ms ts) → ¬ (n ≡ done)
+      → r ≡ refusedRun n → RunMeets (runOf rec ks ws k limit ms ts) r ms ts
   unfolding runOf
   run-meets-refused =
       by-meets-refused (runRows rec ks ws k limit ms ts) toMean (onMean C) C k limit ms ts
@@ -90,11 +91,7 @@ module _ (rec : Record) (ks ws : List ℕ) (k limit : ℕ) (ms ts : List ℕ) wh
         totals-room = ltb-false (length ts) (limitOf limit) (g .totals);
       }
 
-  -- and no row holds
-  pub run-none : RunGood → firstOf (runRows rec ks ws k limit ms ts) ≡ done
-  run-none g = simp (g .table, g .count, g .colours, g .limited, g .members, g .totals)
-
-  -- a run that is accepted passes its tests
+  -- a run whose rows do not hold passes its tests
   pub run-good : NoneHolds (runRows rec ks ws k limit ms ts) → RunGood
   run-good h =
       let room = neither (shortMembers rec ms) (shortTotals limit ts) (h .1 .1 .1 .1 .0) in
@@ -106,3 +103,8 @@ module _ (rec : Record) (ks ws : List ℕ) (k limit : ℕ) (ms ts : List ℕ) wh
         members = room .0;
         totals = room .1;
       }
+
+  -- so where no row holds the run can be made
+  pub runnable-of-none : firstOf (runRows rec ks ws k limit ms ts) ≡ done
+      → Runnable (rec .used) ks ws k (limitOf limit) ms ts
+  runnable-of-none e = runnable (run-good (done-exactly (runRows rec ks ws k limit ms ts) .0 e))

@@ -1,6 +1,6 @@
--- Glossary. The words of the tests stand in lloyd_tests/specs, those of single rounds in lloyd_rounds/specs.
+-- Glossary. The words of the tests stand in lloyd_tests/specs, their order in a run in lloyd_refusal/specs, those of
+-- single rounds in lloyd_rounds/specs.
 --   Ran                    the answer of a run
---   runRows                the tests of a run in their order, with their refusals
 --   RunOutcome             the answer and both lent slices at exit
 --   refusedRun             the answer of a refusal: its number and zeros
 --   keptRun                that answer, and no slice changes
@@ -12,7 +12,6 @@
 --   AcceptedRun            answer and slices are those of a run that is accepted
 --   FarthestColour         a table colour is the farthest from its nearest shade, lowest key at a tie
 --   left r members         the shades and the members that a run leaves
-pub mod Refusals
 pub mod Outcomes
 pub mod Beginning
 unfoldable pub use Rattle.lloyd_tests.specs.{
@@ -38,7 +37,7 @@ unfoldable pub use Rattle.lloyd_rounds.specs.{
   shortRound,
 }
 pub use declared.Ran.{Ran}
-unfoldable pub use Refusals.{runRows}
+unfoldable pub use Rattle.lloyd_refusal.specs.{runRows}
 pub use Outcomes.{RunOutcome, RunMeets, AcceptedBy, AcceptedRun}
 unfoldable pub use Outcomes.{refusedRun, keptRun, madeRun, runBy, runOf, left}
 pub use Beginning.{FarthestColour}

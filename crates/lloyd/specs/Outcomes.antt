@@ -26,7 +26,7 @@ use Rattle.method.specs.{
   roundsMade,
 }
 use Rattle.lloyd_tests.specs.{limitOf}
-use Rattle.lloyd.specs.Refusals.{runRows}
+use Rattle.lloyd_refusal.specs.{runRows}
 use Rattle.lloyd.specs.declared.Ran.{Ran}
 
 -- the answer, and the lent members and totals at exit

@@ -5,21 +5,19 @@
 //                 Refuses 2 BAD TABLE, 4 BAD COUNT, 5 FEW COLOURS, 6 BAD LIMIT, 7 SHORT ROOM, in
 //                 this order.
 //   plain_round, short_round   one round: those of the crate lloyd_rounds
-// A refusal answers its number and zeros and writes nothing. The tests stand in table_test
-// and lloyd_tests; the work is done by the crate rounds.
+// A refusal answers its number and zeros and writes nothing. The tests stand in lloyd_refusal;
+// the work is done by the crate rounds.
 //
 // Read next: specs/Lib.antt (what the words mean), proofs/Promises.antt (what is shown).
 
 mod runs;
 
+pub use lloyd_refusal::MOST_ROUNDS;
 pub use lloyd_rounds::Rounded;
 pub use lloyd_rounds::plain_round;
 pub use lloyd_rounds::short_round;
 pub use lloyd_tests::USUAL_LIMIT;
 pub use runs::run;
-
-// The most rounds of a run.
-pub const MOST_ROUNDS: usize = 200;
 
 // The answer of a run: 0 or the refusal's number; the shades, three coordinates each, zeros past
 // the count; the rounds made; whether the last moved no shade; the distances of all rounds; the

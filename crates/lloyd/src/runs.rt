@@ -1,16 +1,10 @@
 // The run.
 ghost use mathlib.Core.Path.{_≡_};
 ghost use Rattle.lloyd.specs.Outcomes.{runOf, refusedRun, RunMeets};
-use super::MOST_ROUNDS;
 use super::Ran;
-use lloyd_tests::bad_count;
+use lloyd_refusal::run_refusal;
 use lloyd_tests::limit_of;
-use refusal::BAD_COUNT;
-use refusal::BAD_LIMIT;
-use refusal::BAD_TABLE;
 use refusal::DONE;
-use refusal::FEW_COLOURS;
-use refusal::SHORT_ROOM;
 use rounds::Whole;
 use table_test::Record;
 
@@ -51,26 +45,12 @@ pub fn run(
         (now (members .entry)) (now (totals .entry)))
         r (now (members .exit)) (now (totals .exit)) ⌝ }
 {
-    if table_test::bad_table(rec, keys, weights) {
-        return refused(BAD_TABLE);
-    }
-    if bad_count(count) {
-        return refused(BAD_COUNT);
+    let number = run_refusal(rec, keys, weights, count, limit, members, totals);
+    if number != DONE {
+        return refused(number);
     }
     let used = rec.used;
-    if used < count {
-        return refused(FEW_COLOURS);
-    }
-    if MOST_ROUNDS < limit {
-        return refused(BAD_LIMIT);
-    }
     let rounds = limit_of(limit);
-    if members.len() < used {
-        return refused(SHORT_ROOM);
-    }
-    if totals.len() < rounds {
-        return refused(SHORT_ROOM);
-    }
     let mut shades = [0u32; 192];
     let a = rounds::make_run(
         keys,

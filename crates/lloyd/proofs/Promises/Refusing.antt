@@ -6,7 +6,7 @@ use mathlib.Core.Logic.{_↔_}
 use mathlib.Core.Path.{_≡_}
 use Rattle.refusal.specs.{Refusal, numberOf, done, Given, NoneHolds}
 use Rattle.table_test.specs.{Record}
-use Rattle.lloyd.specs.Refusals.{runRows}
+use Rattle.lloyd_refusal.specs.{runRows}
 use Rattle.lloyd.specs.Outcomes.{runOf, keptRun}
 use Rattle.lloyd.proofs.Wholes as wholes
 
