@@ -5,8 +5,8 @@ use mathlib.Core.Path.{_≡_, refl, _∙_}
 use native.Mathlib.Omega.{arith}
 use lib.ListN.{length, set, length-set}
 use lib.Seq.{getD-set-other}
-use Rattle.map_slots.specs.Gathering.{slotKey, Gathered, Takes, there, next}
+use Rattle.map_slots.specs.{slotKey, Gathered, Takes, there, next}
 use Rattle.map_slots.proofs.Gathers.{gathered-none, gathered-step}
 
 -- a key takes no slot behind the next
 pub takes-most : {keys : List ℕ} {m key h : ℕ} → Takes keys m key h → h ≤ m

@@ -2,9 +2,9 @@
 use mathlib.Core.Path.{refl}
 use borrow.Author.Needs.{needs}
 use borrow.Author.Tests.{eqb-true}
-use Rattle.map_slots.specs.Gathering.{there, next}
-use Rattle.map_slots.proofs.keys.slot_for.Statement.{statement}
-use Rattle.map_slots.proofs.keys.slot_for.Tie as tie
+use Rattle.map_slots.specs.{there, next}
+use Rattle.map_join.proofs.keys.slot_for.Statement.{statement}
+use Rattle.map_join.proofs.keys.slot_for.Tie as tie
 
 mul-if2 : tie.Need-mul-if2
 mul-if2 c = search needs

@@ -13,7 +13,7 @@ use Rattle.colour.proofs.Promises.{levels-most}
 use Rattle.shades.specs.{packedNearest}
 use Rattle.search_all.specs.{pointAt, PointsOnGrid, RoomFor}
 use Rattle.search_all.proofs.Layouts.{LaidOut, laid-out-ready}
-use Rattle.map_slots.specs.Gathering.{levelsAt}
+use Rattle.map_slots.specs.{levelsAt}
 
 -- the levels read from a key are those of a point on the grid
 levels-on-grid : (keys : List ℕ) (q : ℕ) → Within mostCoordinate (levelsAt keys q)

@@ -1,7 +1,8 @@
 // The slots of a block joined: those with one key become one slot, wherever they stand.
 ghost use Prim.Native.Nat.{_+_, _≤_, _<_};
 ghost use lib.ListN.{length};
-ghost use Rattle.map_slots.specs.Gathering.{fewSlots, slotKey, Gathered, Takes};
+ghost use Rattle.map_slots.specs.{slotKey, Gathered, Takes};
+ghost use Rattle.map_join.specs.Joining.{fewSlots};
 
 // The slot that `key` takes where `taken` slots are taken: `slot`, if it is one of them and the
 // key stands there, else the next. Requires the keys of the slots taken.

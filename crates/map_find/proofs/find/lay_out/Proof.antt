@@ -6,9 +6,9 @@ use denote.Ref.{now}
 use borrow.Author.Needs.{needs}
 use Rattle.search_all.specs.{RoomFor}
 use Rattle.search_all.proofs.Layouts.{Fronts, fronts-start, fronts-room, fronts-step, fronts-long}
-use Rattle.map_slots.specs.Gathering.{levelsAt}
-use Rattle.map_slots.proofs.find.lay_out.Statement.{statement}
-use Rattle.map_slots.proofs.find.lay_out.Tie as tie
+use Rattle.map_slots.specs.{levelsAt}
+use Rattle.map_find.proofs.find.lay_out.Statement.{statement}
+use Rattle.map_find.proofs.find.lay_out.Tie as tie
 
 abbrev Inv-loop : tie.InvT-loop
 Inv-loop keys n reds₀ greens₀ blues₀ i₀ reds greens blues i =

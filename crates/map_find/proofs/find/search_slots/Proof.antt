@@ -4,10 +4,10 @@ use native.Mathlib.Omega.{arith}
 use denote.Ref.{now}
 use borrow.Author.Needs.{needs}
 use Rattle.search_all.proofs.Layouts.{LaidOut, fronts-done}
-use Rattle.map_slots.specs.Gathering.{levelsAt}
-use Rattle.map_slots.proofs.Finds.{keys-ready, keys-searched}
-use Rattle.map_slots.proofs.find.search_slots.Statement.{statement}
-use Rattle.map_slots.proofs.find.search_slots.Tie as tie
+use Rattle.map_slots.specs.{levelsAt}
+use Rattle.map_find.proofs.Finds.{keys-ready, keys-searched}
+use Rattle.map_find.proofs.find.search_slots.Statement.{statement}
+use Rattle.map_find.proofs.find.search_slots.Tie as tie
 
 -- where the three lists are known
 abbrev known : tie.After-lay-out → tie.After-slice-known3

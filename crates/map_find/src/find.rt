@@ -6,7 +6,7 @@ ghost use lib.ListN.{length};
 ghost use Rattle.number.specs.{fill};
 ghost use Rattle.shades.specs.{Shades, packedNearest};
 ghost use Rattle.search_all.specs.{RoomFor};
-ghost use Rattle.map_slots.specs.Gathering.{levelsAt};
+ghost use Rattle.map_slots.specs.{levelsAt};
 
 // Lays out the colours of the first `slots` keys: their levels go to the fronts of three lists, the
 // rest of which stays. Requires that many keys, and room for their colours.

@@ -4,10 +4,11 @@ use mathlib.Core.Path.{_≡_, refl, _∙_}
 use native.Mathlib.Omega.{arith}
 use lib.ListN.{length, length-set}
 use denote.Ref.{now}
-use Rattle.map_slots.specs.Gathering.{fewSlots, slotKey}
-use Rattle.map_slots.proofs.keys.Joins.{Joining, takes-most, joining-start, joining-step}
-use Rattle.map_slots.proofs.keys.join.Statement.{statement}
-use Rattle.map_slots.proofs.keys.join.Tie as tie
+use Rattle.map_slots.specs.{slotKey}
+use Rattle.map_join.specs.Joining.{fewSlots}
+use Rattle.map_join.proofs.Joins.{Joining, takes-most, joining-start, joining-step}
+use Rattle.map_join.proofs.keys.join.Statement.{statement}
+use Rattle.map_join.proofs.keys.join.Tie as tie
 
 abbrev Inv-loop : tie.InvT-loop
 Inv-loop keys₀ n link₀ sites₀ taken₀ i₀ keys link sites taken i =
