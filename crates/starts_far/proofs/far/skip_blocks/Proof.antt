@@ -3,8 +3,8 @@ use Prim.Native.Nat.{ℕ, _-_, _≤_, _<_}
 use native.Mathlib.Decide.{decLt}
 use native.Mathlib.Omega.{arith}
 use lib.ListN.{getD}
-use Rattle.starts.proofs.far.skip_blocks.Statement.{statement}
-use Rattle.starts.proofs.far.skip_blocks.Tie as tie
+use Rattle.starts_far.proofs.far.skip_blocks.Statement.{statement}
+use Rattle.starts_far.proofs.far.skip_blocks.Tie as tie
 
 abbrev Inv-loop : tie.InvT-loop
 Inv-loop d used far i₀ i = (i ≤ used) × ((j : ℕ) → j < i → getD d j 0 < far)

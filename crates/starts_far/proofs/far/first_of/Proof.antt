@@ -10,8 +10,8 @@ use borrow.Author.Needs.{needs}
 use Rattle.number.specs.{most}
 use Rattle.number.proofs.Peaks.{peak-at-least, most-is-peak, first-peak-is-most}
 use Rattle.number.proofs.Searches.{below-or-last, first-below}
-use Rattle.starts.proofs.far.first_of.Statement.{statement}
-use Rattle.starts.proofs.far.first_of.Tie as tie
+use Rattle.starts_far.proofs.far.first_of.Statement.{statement}
+use Rattle.starts_far.proofs.far.first_of.Tie as tie
 
 abbrev Inv-loop : tie.InvT-loop
 Inv-loop d used far i₀ i = (i ≤ used) × ((j : ℕ) → j < i → getD d j 0 < far)

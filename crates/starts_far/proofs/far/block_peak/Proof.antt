@@ -3,9 +3,9 @@ use Prim.Native.Nat.{_-_}
 use native.Mathlib.Omega.{arith}
 use denote.Ref.{now}
 use borrow.Author.Needs.{needs}
-use Rattle.starts.proofs.far.Loops.{Bounding, bounding-start, bounding-step, bounding-done}
-use Rattle.starts.proofs.far.block_peak.Statement.{statement}
-use Rattle.starts.proofs.far.block_peak.Tie as tie
+use Rattle.starts_far.proofs.Loops.{Bounding, bounding-start, bounding-step, bounding-done}
+use Rattle.starts_far.proofs.far.block_peak.Statement.{statement}
+use Rattle.starts_far.proofs.far.block_peak.Tie as tie
 
 abbrev Inv-loop : tie.InvT-loop
 Inv-loop d from end far₀ i₀ far i = Bounding d from end far i

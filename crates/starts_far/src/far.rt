@@ -1,10 +1,10 @@
-// The farthest entry: kept distances are lowerKept, and the first place of the greatest is found.
+// The farthest entry: kept distances are lowered, and the first place of the greatest is found.
 ghost use mathlib.Core.Path.{_≡_};
 ghost use Prim.Native.Nat.{ℕ, _<_, _≤_};
 ghost use lib.ListN.{length, getD};
 ghost use Rattle.number.specs.{fill, peak, most};
 ghost use Rattle.colour.specs.{Within, mostCoordinate};
-ghost use Rattle.starts.specs.Keeping.{lowerKept, Keyed};
+ghost use Rattle.starts_far.specs.Lowering.{lowerKept, Keyed};
 use colour::Point;
 use shades::greater;
 use shades::lesser;

@@ -5,9 +5,9 @@ use native.Mathlib.Omega.{arith}
 use denote.Ref.{now}
 use borrow.Author.Needs.{needs}
 use Rattle.colour.specs.{distance}
-use Rattle.starts.proofs.far.Loops.{Lowering, lowering-start, lowering-room, lowering-step, lowering-done}
-use Rattle.starts.proofs.far.lower_kept.Statement.{statement}
-use Rattle.starts.proofs.far.lower_kept.Tie as tie
+use Rattle.starts_far.proofs.Loops.{Lowering, lowering-start, lowering-room, lowering-step, lowering-done}
+use Rattle.starts_far.proofs.far.lower_kept.Statement.{statement}
+use Rattle.starts_far.proofs.far.lower_kept.Tie as tie
 
 abbrev Inv-loop : tie.InvT-loop
 Inv-loop keys used p d₀ far₀ i₀ d far i = Lowering keys used p d₀ d far i

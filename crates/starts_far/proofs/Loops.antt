@@ -12,7 +12,7 @@ use Rattle.number.proofs.Peaks.{peak-more, greater-at-least}
 use Rattle.number.proofs.Searches.{below-or-last}
 use Rattle.colour.specs.{Point, distance}
 use Rattle.shades.specs.{colourAt}
-use Rattle.starts.specs.Keeping.{lowerKept}
+use Rattle.starts_far.specs.Lowering.{lowerKept}
 
 -- ---- the loop that lowers them
 
