@@ -1,6 +1,6 @@
-// The shortened search on a small table: the row of a shade has its gaps in the order of the shades'
-// numbers, and all of it is gone through. It finds what the plain search of crate `search_all`
-// finds, and what it answers is `Met` of crate `search_rows`.
+// The shortened search on a small table: the row of a shade has its gaps to the shades, in order of
+// their numbers, and all of it is gone through. It finds what the plain search of crate
+// `search_all` finds. Crate `search_rows` has `Met`, which is answered.
 //
 // Calls; none refuses, and what one requires stands above it
 //   fill_gaps   for each shade how far the shades are from it   near.rt
