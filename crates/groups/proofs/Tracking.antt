@@ -3,7 +3,8 @@ use Prim.Native.Nat.{ℕ}
 use mathlib.Core.Bool.{Bool, true, false}
 use mathlib.Core.List.{List}
 use mathlib.Core.Path.{_≡_}
-use Rattle.search_near.specs.{Rows, Gaps}
+use Rattle.search_rows.specs.{Rows}
+use Rattle.search_gaps.specs.{Gaps}
 use Rattle.groups.specs.Grouping.{Tracks}
 
 module _ (few : Bool) (s : List ℕ) (k : ℕ) (g : List ℕ) where

@@ -5,7 +5,8 @@ use mathlib.Core.List.{List}
 use lib.ListN.{getD, length}
 use Rattle.shades.specs.{Shades}
 use Rattle.table_entries.specs.{Tabled}
-use Rattle.search_near.specs.{Rows, Gaps}
+use Rattle.search_rows.specs.{Rows}
+use Rattle.search_gaps.specs.{Gaps}
 
 -- a table, some shades, and a former shade for each entry
 pub record Groupable (used : ℕ) (ks ws s : List ℕ) (k : ℕ) (members : List ℕ) : Type 0 where

@@ -18,10 +18,10 @@ fn track(shades: &[u32], count: usize, rows: &mut [u32], few: bool)
     ensures { λ _. ⌜ Tracks few (now (shades .entry)) count (now (rows .exit)) ⌝ }
 {
     if few {
-        search_near::fill_gaps(shades, count, rows);
+        search_gaps::fill_gaps(shades, count, rows);
         return;
     }
-    search_near::fill_rows(shades, count, rows);
+    search_rows::fill_rows(shades, count, rows);
 }
 
 // Groups the table from the former shades and leaves the grouping in the members, which stay past

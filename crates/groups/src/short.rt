@@ -9,7 +9,7 @@ ghost use Rattle.group_join.specs.{covered, Grouped};
 ghost use Rattle.groups.specs.Grouping.{Groupable, Tracks};
 use group_join::Regrouped;
 use group_join::join;
-use search_near::Met;
+use search_rows::Met;
 
 // The nearest shade of entry `i`, from its member, by the rows in `rows`.
 fn rejoin(
@@ -37,7 +37,7 @@ fn rejoin(
     let p = members[i] as usize;
     let c = colour::colour_of(keys[i]);
     if few {
-        return search_near::walk_gaps(shades, count, rows, c, p);
+        return search_gaps::walk_gaps(shades, count, rows, c, p);
     }
     search_near::walk(shades, count, rows, c, p)
 }

@@ -7,7 +7,8 @@ use Rattle.colour.specs.{Point, mostCoordinate, mostPixels}
 use Rattle.shades.specs.{mostShades, nearestShade}
 use Rattle.search_all.specs.{RoomFor}
 use Rattle.map_blocks.specs.Meaning.{entryCount}
-use Rattle.map_slots.specs.{mostSlots, fewSlots, slotOf}
+use Rattle.map_slots.specs.{mostSlots, slotOf}
+use Rattle.map_join.specs.{fewSlots}
 use Rattle.map_errors.specs.{Errors}
 
 -- the block that begins at pixel i of n ends at e: it has some pixels, and no more than a block may have

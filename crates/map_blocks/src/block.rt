@@ -11,8 +11,8 @@ ghost use Rattle.map_blocks.specs.Asking.{Room};
 use super::few::map_few;
 use map_errors::Errors;
 use map_errors::settle::settle;
+use map_find::search_slots;
 use map_slots::gather;
-use map_slots::search_slots;
 
 // Maps a block of pixels that are gathered in the first `slots` places of `keys` to the first
 // `count` of `shades`; the four lists before `index` are where it works. Requires that they are,

@@ -8,8 +8,8 @@ ghost use Rattle.map_errors.specs.{missesOf};
 ghost use Rattle.map_slots.specs.{mostSlots, levelsOf};
 ghost use Rattle.map_blocks.specs.Asking.{Room, FewTaken, nearestAt};
 use map_errors::Errors;
-use map_slots::join;
-use map_slots::search_slots;
+use map_find::search_slots;
+use map_join::join;
 use map_tell::tell::add_told;
 use map_tell::tell::tell;
 

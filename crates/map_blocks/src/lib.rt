@@ -3,10 +3,10 @@
 //
 // Calls; none refuses, and what one requires stands above it
 //   map_pixels   maps a strip against a palette of bytes     strip.rt
-// Crate `map_slots` gathers the pixels of a block in slots, and searches these as the plain round
-// does, on levels in place of sixteenths. Where the slots are few (few.rt) those with one colour
-// are joined, and numbers and errors are told slot by slot (crate `map_tell`); where they are many
-// (block.rt) they are settled pixel by pixel (crate `map_errors`).
+// Crate `map_slots` gathers the pixels of a block in slots, and `map_find` searches these as the
+// plain round does, on levels in place of sixteenths. Where the slots are few (few.rt) those with
+// one colour are joined (crate `map_join`), and numbers and errors are told slot by slot (crate
+// `map_tell`); where they are many (block.rt) they are settled pixel by pixel (crate `map_errors`).
 //
 // Read next: specs/Lib.antt (what the words mean), proofs/Promises.antt (what is shown).
 

@@ -1,4 +1,2 @@
 -- Key after key takes its slot, and pixel after pixel.
 pub mod Gathers
--- Keys laid out and searched.
-pub mod Finds

@@ -11,10 +11,6 @@ use Rattle.shades.specs.{shadeAt}
 abbrev pub mostSlots : ℕ
 mostSlots = 1024
 
--- the most slots that are joined
-abbrev pub fewSlots : ℕ
-fewSlots = 256
-
 -- the key of a colour in whole levels
 abbrev pub pointKey : Point → ℕ
 pointKey c = keyOf (c .r) (c .g) (c .b)

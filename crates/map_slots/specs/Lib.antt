@@ -1,6 +1,5 @@
 -- Glossary. A slot is where equal pixels of a block share one key.
 --   mostSlots                 1024, the most pixels of a block
---   fewSlots                  256, the most slots that are joined
 --   pointKey c                the key of a colour in whole levels
 --   pixelKey strip i          the key of pixel i
 --   slotKey keys q            the key at slot q
@@ -8,11 +7,10 @@
 --   levelsAt keys q           the colour with the key at slot q, in whole levels
 --   levelsOf keys which i     the colour at the slot of pixel i
 --   Gathered f n keys which m the keys f 0 .. f (n - 1) are at their slots, m in all
---   Takes keys m key h        a key takes slot h: one of m where it stands, or the next
+--   Takes keys m key h        a key takes slot h: one of m where it stands (`there`), or the `next`
 pub mod Gathering
 unfoldable pub use Gathering.{
   mostSlots,
-  fewSlots,
   pointKey,
   pixelKey,
   slotKey,
@@ -20,4 +18,4 @@ unfoldable pub use Gathering.{
   levelsAt,
   levelsOf,
 }
-pub use Gathering.{Gathered, Takes}
+pub use Gathering.{Gathered, Takes, there, next}

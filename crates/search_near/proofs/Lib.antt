@@ -1,4 +1,2 @@
--- What a row holds: the values it was sorted from, each of them, and no others.
-pub mod Contents
--- A list filled row by row, 64 places a row.
-pub mod Fillings
+-- The walk along a row: what holds at each place, and what it has found where it ends.
+pub mod Walks

@@ -1,9 +1,9 @@
 // The shortened search: the former shade's row is walked until the shades are too far from it.
 ghost use mathlib.Core.Path.{_≡_};
 ghost use Rattle.shades.specs.{toShade, nearestShade, worked};
-ghost use Rattle.search_near.specs.Sorting.{RowsReady};
-use super::Met;
+ghost use Rattle.search_near.specs.Walking.{RowsReady};
 use colour::Point;
+use search_rows::Met;
 use shades::lesser;
 
 // The nearest shade of `point`, from its former shade `p`, and the distances worked out. Place 0 of

@@ -5,10 +5,11 @@ ghost use lib.ListN.{length, getD};
 ghost use Rattle.number.specs.{fill};
 ghost use Rattle.shades.specs.{mostShades, colourAt, OnGrid};
 ghost use Rattle.method.specs.{listed, startsFrom, over};
-ghost use Rattle.starts.specs.Keeping.{shadeFrom, kept, Keyed};
-use super::far::first_of;
-use super::far::lower_kept;
+ghost use Rattle.starts_far.specs.{Keyed};
+ghost use Rattle.starts.specs.Keeping.{shadeFrom, kept};
 use colour::Point;
+use starts_far::first_of;
+use starts_far::lower_kept;
 
 // Start number `q`, after start number q - 1, which is required to be `p`, with the distances kept
 // up to it in `d`. The given starts lie in `base`, and there is required to be one.

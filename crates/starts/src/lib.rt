@@ -5,11 +5,10 @@
 // Calls; none refuses, and what one requires stands above it
 //   fill_starts   the starting shades from given ones               fill.rt
 //   whole_mean    the rounded mean of a table, weights counted      mean.rt
-// Finding the farthest entry stands in far.rt.
+// Crate `starts_far` lowers the kept distances and finds the farthest entry.
 //
 // Read next: specs/Lib.antt (what the words mean), proofs/Lib.antt (what is shown).
 
-mod far;
 mod fill;
 mod mean;
 

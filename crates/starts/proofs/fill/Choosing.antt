@@ -11,7 +11,8 @@ use Rattle.colour.specs.{Point, Within, mostCoordinate, distance}
 use Rattle.shades.specs.{colourAt, putShade}
 use Rattle.method.specs.{Base, startsFrom, over}
 use Rattle.method.proofs.Startings.{over-length, starts-more, next-given}
-use Rattle.starts.specs.Keeping.{shadeFrom, lowerKept, kept}
+use Rattle.starts_far.specs.{lowerKept}
+use Rattle.starts.specs.Keeping.{shadeFrom, kept}
 use Rattle.starts.proofs.Keeping.{kept-start, kept-more, start-within, farthest-is-next}
 
 -- ---- choosing a start

@@ -3,7 +3,7 @@ use Prim.Native.Nat.{_-_}
 use mathlib.Core.Path.{_∙_}
 use native.Mathlib.Omega.{arith}
 use borrow.Author.Needs.{needs}
-use Rattle.search_near.proofs.short.Walks.{
+use Rattle.search_near.proofs.Walks.{
   Walked,
   row-number,
   walked-start,

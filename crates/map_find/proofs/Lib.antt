@@ -1,0 +1,2 @@
+-- Keys laid out and searched.
+pub mod Finds
