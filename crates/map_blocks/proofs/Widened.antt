@@ -12,7 +12,8 @@ use Rattle.colour.specs.{Point, Bytes, distance, mostCoordinate}
 use Rattle.shades.specs.{mostCoordinates, shadeAt, toShade, nearestShade, Shades}
 use Rattle.shades.proofs.Nearest.{nearest-below}
 use Rattle.map_errors.specs.{Errors, pixelAt, missesOf}
-use Rattle.map_blocks.specs.Meaning.{entryCount, nearestTo, entryFor, errorsOf}
+use Rattle.map_block.specs.{nearestTo}
+use Rattle.map_blocks.specs.Meaning.{entryCount, entryFor, errorsOf}
 use Rattle.map_blocks.specs.Asking.{Mappable}
 use Rattle.map_errors.proofs.Misses.{misses-same}
 

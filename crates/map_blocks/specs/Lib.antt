@@ -1,20 +1,16 @@
 -- Glossary. Bytes come three by three: pixel i of a strip and entry i of a palette have the places 3i, 3i + 1, 3i + 2.
--- A pixel, and how far pixels are from their shades, are `map_errors`'s.
+-- A pixel, and how far pixels are from their shades, are `map_errors`'s; the number that a pixel gets is `map_block`'s.
 --   pixelCount strip          a third of the strip's bytes
 --   entryCount palette        a third of the palette's bytes
 --   entryAt palette q         entry q, in whole levels
---   nearestTo s k strip i     the nearest of k shades to pixel i, the lowest number at a tie
 --   entryFor palette strip i  the nearest entry to pixel i
 --   NearestEntry p s i q      entry q is the nearest to pixel i, and every lower number is farther
 --   errorsOf palette strip n  the channel errors of the first n pixels
 --   errorOf palette strip n   their error: the sum of squared level differences
 --   BlockEnd i n e            the block that begins at pixel i of n ends at e
---   nearestAt s k c i         the nearest of k shades to point c i
---   FewTaken n which m        n pixels take m slots, which are few
---   Room, SmallErrors, Mappable   what mapping a block, adding errors up and mapping a strip ask
+--   SmallErrors, Mappable     what adding errors up and mapping a strip ask
 pub mod Meaning
 pub mod Asking
-unfoldable pub use Meaning.{pixelCount, entryCount, entryAt, nearestTo, entryFor, errorsOf, errorOf}
+unfoldable pub use Meaning.{pixelCount, entryCount, entryAt, entryFor, errorsOf, errorOf}
 pub use Meaning.{NearestEntry}
-unfoldable pub use Asking.{nearestAt}
-pub use Asking.{BlockEnd, Room, FewTaken, SmallErrors, Mappable}
+pub use Asking.{BlockEnd, SmallErrors, Mappable}

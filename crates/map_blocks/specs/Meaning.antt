@@ -5,8 +5,9 @@ use mathlib.Core.List.{List}
 use lib.ListN.{length}
 use Rattle.number.specs.{sum}
 use Rattle.colour.specs.{Point, distance}
-use Rattle.shades.specs.{shadeAt, nearestShade}
+use Rattle.shades.specs.{shadeAt}
 use Rattle.map_errors.specs.{Errors, pixelAt, missesOf}
+use Rattle.map_block.specs.{nearestTo}
 
 -- a strip's pixel count
 abbrev pub pixelCount : List ℕ → ℕ
@@ -19,10 +20,6 @@ entryCount palette = length palette / 3
 -- entry q of a palette, in whole levels
 abbrev pub entryAt : List ℕ → ℕ → Point
 entryAt palette q = shadeAt palette q
-
--- the number of the nearest of k shades to pixel i; at a tie, the lowest
-abbrev pub nearestTo : List ℕ → ℕ → List ℕ → ℕ → ℕ
-nearestTo s k strip i = nearestShade s k (pixelAt strip i)
 
 -- the number of the nearest palette entry to pixel i
 abbrev pub entryFor : List ℕ → List ℕ → ℕ → ℕ

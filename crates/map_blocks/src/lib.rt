@@ -3,15 +3,11 @@
 //
 // Calls; none refuses, and what one requires stands above it
 //   map_pixels   maps a strip against a palette of bytes     strip.rt
-// Crate `map_slots` gathers the pixels of a block in slots, and `map_find` searches these as the
-// plain round does, on levels in place of sixteenths. Where the slots are few (few.rt) those with
-// one colour are joined (crate `map_join`), and numbers and errors are told slot by slot (crate
-// `map_tell`); where they are many (block.rt) they are settled pixel by pixel (crate `map_errors`).
+// The palette is widened to coordinates, and the strip goes block after block through the crate
+// `map_block`.
 //
 // Read next: specs/Lib.antt (what the words mean), proofs/Promises.antt (what is shown).
 
-mod block;
-mod few;
 mod strip;
 
 pub use strip::map_pixels;

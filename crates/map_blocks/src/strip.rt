@@ -6,9 +6,10 @@ ghost use Rattle.number.specs.{fill};
 ghost use Rattle.colour.specs.{mostLevel, mostPixels};
 ghost use Rattle.shades.specs.{Shades};
 ghost use Rattle.map_errors.specs.{pixelAt, missesOf, plusErrors};
-ghost use Rattle.map_blocks.specs.Meaning.{nearestTo, entryFor, errorsOf};
+ghost use Rattle.map_block.specs.{nearestTo};
+ghost use Rattle.map_blocks.specs.Meaning.{entryFor, errorsOf};
 ghost use Rattle.map_blocks.specs.Asking.{BlockEnd, Mappable, SmallErrors};
-use super::block::map_block;
+use map_block::map_block;
 use map_errors::Errors;
 
 // The errors of two blocks together, which are required to be as small as a strip's.

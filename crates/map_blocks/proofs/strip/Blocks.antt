@@ -13,9 +13,9 @@ use Rattle.shades.specs.{shadeAt, nearestShade, OnGrid, Shades}
 use Rattle.shades.proofs.Laying.{shade-within}
 use Rattle.search_all.specs.{PointsOnGrid}
 use Rattle.map_errors.specs.{Errors, pixelAt, missOn, missesOf, plusErrors}
-use Rattle.map_blocks.specs.Meaning.{nearestTo}
 use Rattle.map_slots.specs.{mostSlots}
-use Rattle.map_blocks.specs.Asking.{Room, SmallErrors}
+use Rattle.map_block.specs.{nearestTo, Room}
+use Rattle.map_blocks.specs.Asking.{SmallErrors}
 use Rattle.map_errors.proofs.Misses.{miss-most, misses-same, misses-parts}
 use Rattle.map_errors.proofs.Pixels.{pixels-on-grid, pixel-part}
 

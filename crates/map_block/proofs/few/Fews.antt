@@ -13,8 +13,8 @@ use Rattle.shades.proofs.Nearest.{nearest-below}
 use Rattle.map_errors.specs.{Errors, missesOf, foundNumber}
 use Rattle.map_tell.specs.{cellOf, cellsOf, toldAt, toldOf, toldErrors, Tellable, Told}
 use Rattle.map_slots.specs.{slotKey, slotOf, levelsAt, levelsOf, Gathered}
-use Rattle.map_blocks.specs.Asking.{nearestAt, FewTaken}
-use Rattle.map_blocks.proofs.block.Searches.{Searched, searched-inside}
+use Rattle.map_block.specs.Blocks.{nearestAt, FewTaken}
+use Rattle.map_block.proofs.block.Searches.{Searched, searched-inside}
 use Rattle.map_tell.proofs.Tells.{told-at}
 
 -- equal keys have the same levels

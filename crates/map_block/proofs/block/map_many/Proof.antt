@@ -5,7 +5,7 @@ use denote.Ref.{now}
 use borrow.Author.Needs.{needs}
 use Rattle.colour.specs.{Bytes}
 use Rattle.map_errors.specs.{pixelAt}
-use Rattle.map_blocks.proofs.block.Searches.{
+use Rattle.map_block.proofs.block.Searches.{
   Searched,
   levels-of-pixel,
   room-for,
@@ -14,8 +14,8 @@ use Rattle.map_blocks.proofs.block.Searches.{
   searched-index,
   searched-errors,
 }
-use Rattle.map_blocks.proofs.block.map_many.Statement.{statement}
-use Rattle.map_blocks.proofs.block.map_many.Tie as tie
+use Rattle.map_block.proofs.block.map_many.Statement.{statement}
+use Rattle.map_block.proofs.block.map_many.Tie as tie
 
 -- where the lists to work in are known
 abbrev lists : tie.After-search-slots-arg4 → tie.After-slice-known4

@@ -12,10 +12,10 @@ use Rattle.shades.specs.{mostShades, shadeAt, nearestShade, packedNearest, Shad
 use Rattle.shades.proofs.Nearest.{nearest-below, packed-number}
 use Rattle.search_all.specs.{RoomFor}
 use Rattle.map_errors.specs.{Errors, pixelAt, missesOf, Found, numberIn, foundNumber}
-use Rattle.map_blocks.specs.Meaning.{nearestTo}
+use Rattle.map_block.specs.Blocks.{nearestTo}
 use Rattle.map_slots.specs.{pixelKey, slotKey, slotOf, levelsAt, levelsOf, Gathered}
 use Rattle.map_join.specs.{fewSlots}
-use Rattle.map_blocks.specs.Asking.{FewTaken, nearestAt}
+use Rattle.map_block.specs.Blocks.{FewTaken, nearestAt}
 use Rattle.map_errors.proofs.Misses.{misses-same}
 use Rattle.map_errors.proofs.Pixels.{pixel-within}
 

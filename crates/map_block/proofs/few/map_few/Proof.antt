@@ -5,8 +5,8 @@ use lib.ListN.{length}
 use denote.Ref.{now}
 use borrow.Author.Needs.{needs}
 use Rattle.map_slots.specs.{slotKey, levelsAt, Gathered}
-use Rattle.map_blocks.proofs.block.Searches.{Searched, room-for, searched-all}
-use Rattle.map_blocks.proofs.few.Fews.{
+use Rattle.map_block.proofs.block.Searches.{Searched, room-for, searched-all}
+use Rattle.map_block.proofs.few.Fews.{
   NearestTold,
   levels-same,
   joined-tellable,
@@ -15,8 +15,8 @@ use Rattle.map_blocks.proofs.few.Fews.{
   told-index,
   told-errors,
 }
-use Rattle.map_blocks.proofs.few.map_few.Statement.{statement}
-use Rattle.map_blocks.proofs.few.map_few.Tie as tie
+use Rattle.map_block.proofs.few.map_few.Statement.{statement}
+use Rattle.map_block.proofs.few.map_few.Tie as tie
 
 -- where the lists to work in are known
 abbrev lists : tie.After-join → tie.After-slice-known4

@@ -6,7 +6,7 @@ ghost use Rattle.number.specs.{fill};
 ghost use Rattle.shades.specs.{Shades};
 ghost use Rattle.map_errors.specs.{missesOf};
 ghost use Rattle.map_slots.specs.{mostSlots, levelsOf};
-ghost use Rattle.map_blocks.specs.Asking.{Room, FewTaken, nearestAt};
+ghost use Rattle.map_block.specs.Blocks.{Room, FewTaken, nearestAt};
 use map_errors::Errors;
 use map_find::search_slots;
 use map_join::join;

@@ -1,16 +1,16 @@
 -- `map_block` meets its contract: the pixels are gathered, and mapped by their slots.
+use Prim.Native.Nat.{_/_}
 use mathlib.Core.Path.{_≡_}
 use native.Mathlib.Omega.{arith}
 use lib.ListN.{length}
 use denote.Ref.{now}
 use borrow.Author.Needs.{needs}
 use Rattle.colour.specs.{Bytes}
-use Rattle.map_blocks.specs.Meaning.{pixelCount}
 use Rattle.map_slots.specs.{pixelKey, Gathered}
-use Rattle.map_blocks.specs.Asking.{Room}
-use Rattle.map_blocks.proofs.block.Searches.{gathered-taken, gathered-index, gathered-errors}
-use Rattle.map_blocks.proofs.block.map_block.Statement.{statement}
-use Rattle.map_blocks.proofs.block.map_block.Tie as tie
+use Rattle.map_block.specs.Blocks.{Room}
+use Rattle.map_block.proofs.block.Searches.{gathered-taken, gathered-index, gathered-errors}
+use Rattle.map_block.proofs.block.map_block.Statement.{statement}
+use Rattle.map_block.proofs.block.map_block.Tie as tie
 
 -- where the lists to work in are known
 abbrev lists : tie.After-gather → tie.After-slice-known5
@@ -73,7 +73,7 @@ gathered : (c : tie.After-gather)
     → Gathered (pixelKey (now (st c .args .strip))) (length (now (st c .args .index))) (c .gather .last .1 .0)
     (c .gather .last .1 .1 .0) (c .gather .result)
 gathered c =
-    let n : pixelCount (now (st c .args .strip)) ≡ length (now (st c .args .index)) = omega (arith, st c .pre .0) in
+    let n : length (now (st c .args .strip)) / 3 ≡ length (now (st c .args .index)) = omega (arith, st c .pre .0) in
     rw n at (c .gather .ensures)
 
 -- there is room to work

@@ -1,0 +1,1 @@
+-- The laws stand with the module that they serve: `block`, `few`.
