@@ -1,4 +1,4 @@
--- Glossary; a key's place, streaks given from the back and the order of a list are table_merge's.
+-- Glossary; a key's place and the order of a list are table_back's, streaks given from the back table_count's.
 --   hit k              whether a key stands at its place among keys that rise
 --   push i n v         v put in at place i, n values moved up
 --   Standing           a sound table stands in two slices

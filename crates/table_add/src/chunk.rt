@@ -4,7 +4,7 @@ ghost use lib.ListN.{length};
 ghost use Rattle.table_streaks.specs.{mostStreaks};
 ghost use Rattle.table_add.specs.Trying.{Addable, Tried};
 use super::pixel::add_pixel;
-use table_merge::merge::count_with;
+use table_count::count::count_with;
 use table_merge::merge::merge;
 
 // Pixels tried, and the number of entries with them.
