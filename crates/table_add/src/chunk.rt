@@ -3,9 +3,9 @@ ghost use Prim.Native.Nat.{_≤_, _<_};
 ghost use lib.ListN.{length};
 ghost use Rattle.table_streaks.specs.{mostStreaks};
 ghost use Rattle.table_add.specs.Trying.{Addable, Tried};
-use super::pixel::add_pixel;
 use table_count::count::count_with;
 use table_merge::merge::merge;
+use table_pixel::pixel::add_pixel;
 
 // Pixels tried, and the number of entries with them.
 pub struct Chunk {
