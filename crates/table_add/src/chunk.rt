@@ -56,7 +56,7 @@ fn add_chunk(
     let got = table_streaks::gather::gather(strip, from, most, list);
     let len = got.len;
     let pixels = got.pixels;
-    table_streaks::sort::sort_streaks(list, other, len);
+    table_sort::sort::sort_streaks(list, other, len);
     let next = count_with(keys, used, list, len);
     if room < next {
         return Chunk { used: next, pixels };
