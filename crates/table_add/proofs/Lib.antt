@@ -1,1 +1,1 @@
--- The laws stand with the module whose loops they serve: `pixel`, `chunk`.
+-- The laws stand with the module whose functions they serve: `chunk`.

@@ -3,9 +3,9 @@ ghost use Prim.Native.Nat.{_≤_, _<_};
 ghost use lib.ListN.{length};
 ghost use Rattle.table_streaks.specs.{mostStreaks};
 ghost use Rattle.table_add.specs.Trying.{Addable, Tried};
-use super::pixel::add_pixel;
-use table_merge::merge::count_with;
+use table_count::count::count_with;
 use table_merge::merge::merge;
+use table_pixel::pixel::add_pixel;
 
 // Pixels tried, and the number of entries with them.
 pub struct Chunk {
@@ -56,7 +56,7 @@ fn add_chunk(
     let got = table_streaks::gather::gather(strip, from, most, list);
     let len = got.len;
     let pixels = got.pixels;
-    table_streaks::sort::sort_streaks(list, other, len);
+    table_sort::sort::sort_streaks(list, other, len);
     let next = count_with(keys, used, list, len);
     if room < next {
         return Chunk { used: next, pixels };

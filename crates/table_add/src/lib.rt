@@ -2,12 +2,10 @@
 // merged.
 //
 // Functions, for the crate above (each says what it requires)
-//   pixel::add_pixel   one pixel, by a search for its place
-//   chunk::add_one     one pixel of a strip
-//   chunk::add_some    as many pixels of a strip as one list of streaks holds
+//   chunk::add_one    one pixel of a strip
+//   chunk::add_some   as many pixels of a strip as one list of streaks holds
 // A function that adds answers the number of entries with the pixels. Where that is above the room,
 // the slices are as they were.
 //
 // Read next: specs/Lib.antt (what the words mean), proofs/Lib.antt (which laws stand where).
 pub mod chunk;
-pub mod pixel;

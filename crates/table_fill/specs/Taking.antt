@@ -5,7 +5,7 @@ use mathlib.Core.List.{List}
 use lib.ListN.{length}
 use Rattle.colour.specs.{mostPixels}
 use Rattle.table_entries.specs.{Entry, entries, keysInto, weightsInto, pixelsOf, takenOf, withTaken}
-use Rattle.table_add.specs.{Standing}
+use Rattle.table_pixel.specs.{Standing}
 
 -- a sound table stands in the slices, the strip has at least `end` pixels, and the table's total has place for them
 pub record Able (used room : ℕ) (ks ws s : List ℕ) (end : ℕ) : Type 0 where

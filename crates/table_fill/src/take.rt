@@ -4,7 +4,7 @@ ghost use Prim.Native.Nat.{_*_, _≤_, min};
 ghost use lib.ListN.{length, take};
 ghost use Rattle.colour.specs.{mostPixels};
 ghost use Rattle.table_entries.specs.{entries, pixelsOf, stripKeys};
-ghost use Rattle.table_add.specs.{Standing};
+ghost use Rattle.table_pixel.specs.{Standing};
 ghost use Rattle.table_fill.specs.Taking.{Able, TookMeets};
 use table_add::chunk::add_one;
 use table_add::chunk::add_some;

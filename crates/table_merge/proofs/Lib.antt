@@ -1,2 +1,1 @@
--- A key's place. The other laws stand with the module whose loops they serve: `back`, `merge`.
-pub mod Places
+-- The laws stand with the module whose loops they serve: `merge`.

@@ -1,9 +1,8 @@
 // Sorted streaks merged into a table that lies in two slices, in place.
 //
-// Functions, for the crate above (each says what it requires)
-//   merge::count_with   how many entries the table has with the streaks
-//   merge::merge        the streaks into the table, in one walk from the back
+// Function, for the crate above (it says what it requires)
+//   merge::merge   the streaks into the table, in one walk from the back
 //
-// Read next: specs/Lib.antt (what the words mean), proofs/Lib.antt (which laws stand where).
-mod back;
+// Read next: specs/Lib.antt of table_count (what the words mean), proofs/Lib.antt (which laws stand
+// where).
 pub mod merge;

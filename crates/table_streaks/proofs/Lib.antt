@@ -1,3 +1,1 @@
--- What a reader may ask for: each theorem in full, with the proof it cites. The laws stand with their modules:
--- `gather`, `sort`.
-pub mod Promises
+-- The laws stand with the module whose loop they serve: `gather`.

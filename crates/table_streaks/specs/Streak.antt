@@ -19,3 +19,7 @@ streakCount c x = cond (eqb (streakKey x) c) (streakPixels x) 0
 -- whether one pixel more of colour k goes into the streak: it is of that colour and has fewer than 256
 abbrev pub joinsStreak : ℕ → ℕ → Bool
 joinsStreak x k = eqb (streakKey x) k && ltb (x % 256) 255
+
+-- the longest list of streaks that is sorted
+abbrev pub mostStreaks : ℕ
+mostStreaks = 65536

@@ -12,11 +12,12 @@ use Rattle.number.specs.{sumOf}
 use Rattle.table_entries.specs.{Entry, pixelsOf, sound, stripKeys, countOf, putAll}
 use Rattle.table_entries.proofs.Gives.{Keys, keys-take, putAll-pixels}
 use Rattle.table_entries.proofs.Strips.{byte-keys, keys-drop}
-use Rattle.table_streaks.specs.{streakKey, streakCount, sorted}
-use Rattle.table_streaks.proofs.Promises.{sorted-rises, sorted-keeps-pixels, sorted-keeps-length}
-use Rattle.table_merge.specs.{giveBack}
+use Rattle.table_streaks.specs.{streakKey, streakCount}
+use Rattle.table_sort.specs.{sorted}
+use Rattle.table_sort.proofs.Promises.{sorted-rises, sorted-keeps-pixels, sorted-keeps-length}
+use Rattle.table_count.specs.{giveBack}
+use Rattle.table_count.proofs.Backs.{back-all}
 use Rattle.table_add.specs.Trying.{piece}
-use Rattle.table_merge.proofs.merge.Backs.{back-all}
 
 -- a piece of a strip of bytes has keys
 pub piece-keys : (s : List ℕ) (from n : ℕ) → ((i : ℕ) → getD s i 0 < 256) → Keys (piece s from n)

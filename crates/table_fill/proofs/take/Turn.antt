@@ -22,7 +22,7 @@ use Rattle.table_entries.proofs.Slices.{
   drop-later,
 }
 use Rattle.table_entries.proofs.Takes.{stops-at-room, fits-taken, taken-append, withTaken-append}
-use Rattle.table_add.specs.{Standing, laidKeys, laidWeights}
+use Rattle.table_pixel.specs.{Standing, laidKeys, laidWeights}
 use Rattle.table_fill.specs.Taking.{TookMeets}
 
 -- `taken` of the pixels are in the table, and taking the rest from here gives what taking all gives

@@ -9,9 +9,10 @@ use denote.Ref.{now}
 use borrow.Author.Needs.{needs}
 use Rattle.table_entries.specs.{Entry, entries, keysInto, weightsInto, putAll}
 use Rattle.table_entries.proofs.Slices.{keys-in-order, entries-length}
-use Rattle.table_merge.specs.{giveBack, InOrder}
+use Rattle.table_back.specs.{InOrder}
+use Rattle.table_count.specs.{giveBack}
+use Rattle.table_count.proofs.Backs.{back-length-le}
 use Rattle.table_add.specs.Trying.{piece}
-use Rattle.table_merge.proofs.merge.Backs.{back-length-le}
 use Rattle.table_add.proofs.chunk.Listing.{Listed, list-rises, list-all, piece-pixels, laid-shut, laid-open}
 use Rattle.table_add.proofs.chunk.add_chunk.Statement.{statement}
 use Rattle.table_add.proofs.chunk.add_chunk.Tie as tie

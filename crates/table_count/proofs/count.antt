@@ -1,0 +1,2 @@
+-- The walk that counts: what holds at each turn.
+pub mod Counting

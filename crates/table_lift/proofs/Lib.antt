@@ -1,0 +1,1 @@
+-- The laws stand with the module whose functions they serve: `lift`.

@@ -1,0 +1,2 @@
+-- Values lifted: stored as far up as each other.
+pub mod Lifts

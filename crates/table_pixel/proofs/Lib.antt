@@ -1,0 +1,1 @@
+-- The laws stand with the module whose loops they serve: `pixel`.
