@@ -1,8 +1,8 @@
 -- `figure_in` meets its contract: zero for "no pixels", the value itself for a mean.
 use borrow.Author.Needs.{needs}
 use lib.Ieee.{ofBits}
-use Rattle.kohlenfloh.proofs.picture.figure_in.Statement.{statement}
-use Rattle.kohlenfloh.proofs.picture.figure_in.Tie as tie
+use Rattle.arrays.proofs.picture.figure_in.Statement.{statement}
+use Rattle.arrays.proofs.picture.figure_in.Tie as tie
 
 enum-told : tie.Need-enum-told
 enum-told c = search needs

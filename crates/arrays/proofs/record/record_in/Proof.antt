@@ -1,8 +1,8 @@
 -- `record_in` meets its contract: the two numbers of the array are the fields of the record.
 use mathlib.Core.Path.{refl}
 use borrow.Author.Needs.{needs}
-use Rattle.kohlenfloh.proofs.add.record_in.Statement.{statement}
-use Rattle.kohlenfloh.proofs.add.record_in.Tie as tie
+use Rattle.arrays.proofs.record.record_in.Statement.{statement}
+use Rattle.arrays.proofs.record.record_in.Tie as tie
 
 element-copy-out-t4 : tie.Need-element-copy-out-t4
 element-copy-out-t4 c = search needs

@@ -1,7 +1,7 @@
 -- `has_mean` meets its contract: 0 for "no pixels", 1 for a mean.
 use borrow.Author.Needs.{needs}
-use Rattle.kohlenfloh.proofs.picture.has_mean.Statement.{statement}
-use Rattle.kohlenfloh.proofs.picture.has_mean.Tie as tie
+use Rattle.arrays.proofs.picture.has_mean.Statement.{statement}
+use Rattle.arrays.proofs.picture.has_mean.Tie as tie
 
 enum-told : tie.Need-enum-told
 enum-told c = search needs
