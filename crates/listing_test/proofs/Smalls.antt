@@ -19,7 +19,7 @@ use Rattle.p6.specs.{
   rasterOf,
 }
 use Rattle.p6.proofs.Meaning.{picture-refuses, raster-length}
-use Rattle.listing.specs.Refusals.{mostListed, smallRows}
+use Rattle.listing_test.specs.Refusals.{mostListed, smallRows}
 
 -- a header that fails is BAD HEADER
 pub small-bad-header : (p : List ℕ) (at : ℕ) → headerOf p ≡ Bad at → firstOf (smallRows p) ≡ numberOf BAD-HEADER

@@ -3,7 +3,7 @@ ghost use mathlib.Core.Path.{_≡_};
 ghost use Prim.Native.Nat.{_*_, _≤_};
 ghost use lib.ListN.{length};
 ghost use Rattle.shades.specs.{mostShades};
-ghost use Rattle.listing.specs.Works.{refusedWork, workRun, workPicture};
+ghost use Rattle.listing_work.specs.Works.{refusedWork, workRun, workPicture};
 use super::Work;
 use listing_lines::Summary;
 use lloyd::Ran;

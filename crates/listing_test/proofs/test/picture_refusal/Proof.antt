@@ -9,10 +9,10 @@ use Rattle.p6_header.specs.{headerOf}
 use Rattle.p6_header.specs.declared.Header.the-variants.{Read}
 use Rattle.p6.specs.{Picture, badSize}
 use Rattle.p6.proofs.Meaning.{sides-at-most}
-use Rattle.listing.proofs.Smalls.{small-bad-header, small-bad-size, small-over, small-rest}
+use Rattle.listing_test.proofs.Smalls.{small-bad-header, small-bad-size, small-over, small-rest}
 use borrow.Author.Needs.{needs}
-use Rattle.listing.proofs.test.picture_refusal.Statement.{statement}
-use Rattle.listing.proofs.test.picture_refusal.Tie as tie
+use Rattle.listing_test.proofs.test.picture_refusal.Statement.{statement}
+use Rattle.listing_test.proofs.test.picture_refusal.Tie as tie
 
 -- where the header is read, at the size's test
 abbrev read-at : tie.After-bad-size → tie.After-read-header

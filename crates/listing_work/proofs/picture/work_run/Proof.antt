@@ -6,9 +6,9 @@ use lib.ListN.{length-replicate}
 use lib.Seq.{length-take-le}
 use denote.Ref.{now}
 use borrow.Author.Needs.{needs}
-use Rattle.listing.proofs.Works.{run-left}
-use Rattle.listing.proofs.picture.work_run.Statement.{statement}
-use Rattle.listing.proofs.picture.work_run.Tie as tie
+use Rattle.listing_work.proofs.Works.{run-left}
+use Rattle.listing_work.proofs.picture.work_run.Statement.{statement}
+use Rattle.listing_work.proofs.picture.work_run.Tie as tie
 
 -- where the function begins
 abbrev st : tie.After-palette-from-shades → tie.Start

@@ -1,8 +1,8 @@
 -- `refused` meets its contract: the number, and zeros.
 use mathlib.Core.Path.{refl}
-use Rattle.listing.specs.Refusals.{listedZeros}
-use Rattle.listing.proofs.picture.refused.Statement.{statement}
-use Rattle.listing.proofs.picture.refused.Tie as tie
+use Rattle.listing_work.specs.Works.{listedZeros}
+use Rattle.listing_work.proofs.picture.refused.Statement.{statement}
+use Rattle.listing_work.proofs.picture.refused.Tie as tie
 
 returns : tie.Need-returns
 unfolding listedZeros

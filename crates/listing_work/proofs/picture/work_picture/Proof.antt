@@ -5,9 +5,9 @@ use mathlib.Core.Path.{_≡_}
 use denote.Ref.{now}
 use borrow.Author.Needs.{needs}
 use Rattle.p6.specs.{rasterOf}
-use Rattle.listing.proofs.Works.{Ready, ready, ready-count, ready-room, ready-refused, ready-made}
-use Rattle.listing.proofs.picture.work_picture.Statement.{statement}
-use Rattle.listing.proofs.picture.work_picture.Tie as tie
+use Rattle.listing_work.proofs.Works.{Ready, ready, ready-count, ready-room, ready-refused, ready-made}
+use Rattle.listing_work.proofs.picture.work_picture.Statement.{statement}
+use Rattle.listing_work.proofs.picture.work_picture.Tie as tie
 
 -- where the function begins
 abbrev st : tie.After-raster-of → tie.Start

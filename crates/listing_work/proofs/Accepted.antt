@@ -19,13 +19,13 @@ use Rattle.table_entries.proofs.Promises.{taken-within-limits}
 use Rattle.table.specs.{Record, GoodTable, emptyRecord, roomOf, full}
 use Rattle.table.proofs.Promises.{accepted-exactly, bad-table-exactly, stays-good, after-taken}
 use Rattle.p6.specs.{rasterOf}
-use Rattle.listing.specs.Refusals.{mostListed, listedZeros, smallRows}
-use Rattle.listing.specs.Works.{tableOf, runTests}
+use Rattle.listing_test.specs.{mostListed, smallRows}
+use Rattle.listing_test.proofs.Smalls.{small-raster, small-whole}
+use Rattle.listing_work.specs.Works.{listedZeros, tableOf, runTests}
 use Rattle.lloyd.specs.{shortMembers, shortTotals}
 use Rattle.lloyd.proofs.Promises.{short-members-exactly}
 use Rattle.number.proofs.Cases.{never}
-use Rattle.listing.proofs.Smalls.{small-raster, small-whole}
-use Rattle.listing.proofs.Rooms.{zeros-length}
+use Rattle.listing_work.proofs.Rooms.{zeros-length}
 
 -- a test joined by "and" with one that fails fails
 and-false : (a : Bool) → (a && false) ≡ false

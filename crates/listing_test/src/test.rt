@@ -1,7 +1,7 @@
 // The tests of a picture that is to be listed.
 ghost use mathlib.Core.Path.{_≡_};
 ghost use Rattle.refusal.specs.{firstOf};
-ghost use Rattle.listing.specs.Refusals.{smallRows};
+ghost use Rattle.listing_test.specs.Refusals.{smallRows};
 use super::MOST_LISTED;
 use p6_header::Header;
 use refusal::BAD_HEADER;
