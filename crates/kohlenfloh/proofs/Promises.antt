@@ -17,7 +17,8 @@ use Rattle.lloyd.specs.{RoundOutcome, RunOutcome, plainRound, shortRound, runOf
 use Rattle.mapping.specs.{MapOutcome, mapStrip}
 use Rattle.p6_header.specs.{headerOf, offsetIn}
 use Rattle.p6.specs.{Picture, readPicture}
-use Rattle.kohlenfloh.specs.Arrays.{recordIn, recordNumbers}
+use Rattle.arrays.specs.{recordIn, recordNumbers}
+use Rattle.arrays.proofs.Records as records
 use Rattle.kohlenfloh.specs.Crossing.{AddCrosses, RoundCrosses, RunCrosses, MapCrosses, PictureCrosses}
 use Rattle.kohlenfloh.proofs.Refusing as refusing
 
@@ -77,7 +78,7 @@ picture-only p a b = (a .number ∙ sym (b .number), a .answer-is ∙ sym (b .an
 
 -- A record laid into an array is read from it again.
 pub record-kept : (rec : Record) → recordIn (recordNumbers rec) ≡ rec
-record-kept = refusing.record-kept
+record-kept = records.record-kept
 
 -- ---- what a refusal leaves
 

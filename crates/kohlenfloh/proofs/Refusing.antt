@@ -2,7 +2,7 @@
 use Prim.Native.Nat.{ℕ}
 use mathlib.Core.List.{List, [], _∷_}
 use mathlib.Core.Bool.{true}
-use mathlib.Core.Path.{_≡_, refl, ap, sym, _∙_}
+use mathlib.Core.Path.{_≡_, ap, sym, _∙_}
 use lib.Ieee.{Float}
 use lib.ListN.{replicate}
 use Rattle.refusal.specs.{Refusal, numberOf}
@@ -18,7 +18,7 @@ use Rattle.mapping.proofs.Promises as mapping
 use Rattle.p6_header.specs.{headerOf, offsetIn}
 use Rattle.p6.specs.{readPicture}
 use Rattle.p6.proofs.Promises as p6
-use Rattle.kohlenfloh.specs.Arrays.{
+use Rattle.arrays.specs.{
   recordIn,
   recordNumbers,
   roundNumbers,
@@ -28,10 +28,6 @@ use Rattle.kohlenfloh.specs.Arrays.{
   pictureNumbers,
 }
 use Rattle.kohlenfloh.specs.Crossing.{AddCrosses, RoundCrosses, RunCrosses, MapCrosses, PictureCrosses}
-
--- a record laid into an array is read from it again
-pub record-kept : (rec : Record) → recordIn (recordNumbers rec) ≡ rec
-record-kept rec = refl
 
 -- an add that hands everything back
 pub add-refused : (s ks ws strip : List ℕ) (n : Refusal) → handsBack (numberOf n) ≡ true

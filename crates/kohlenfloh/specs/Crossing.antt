@@ -8,7 +8,7 @@ use Rattle.table.specs.{Outcome}
 use Rattle.lloyd.specs.{RoundOutcome, RunOutcome}
 use Rattle.mapping.specs.{MapOutcome}
 use Rattle.p6.specs.{Picture}
-use Rattle.kohlenfloh.specs.Arrays.{
+use Rattle.arrays.specs.{
   recordNumbers,
   roundNumbers,
   runNumbers,

@@ -1,24 +1,5 @@
--- Glossary.
---   recordIn          the record in an array of two numbers
---   recordNumbers     a record as such an array
---   roundNumbers      the answer of a round in an array: total, shades moved, distances
---   runNumbers        that of a run: rounds, settled, distances, final total
---   mapNumbers        that of a mapping: the error, that of R, G, B, and 1 where there is a mean
---   figureIn          a mean's figure, zero for "no pixels"
---   mapFigures        the figures of a mapping: the mean, and those of R, G, B
---   pictureNumbers    the answer of a reading: offset, width, height, the raster's first place
+-- Glossary. How records and answers lie in arrays is said by the crate arrays.
 --   AddCrosses, RoundCrosses, RunCrosses, MapCrosses, PictureCrosses
 --                     the contracts: number, arrays and slices are those of the outcome beneath
-pub mod Arrays
 pub mod Crossing
-unfoldable pub use Arrays.{
-  recordIn,
-  recordNumbers,
-  roundNumbers,
-  runNumbers,
-  mapNumbers,
-  figureIn,
-  mapFigures,
-  pictureNumbers,
-}
 pub use Crossing.{AddCrosses, RoundCrosses, RunCrosses, MapCrosses, PictureCrosses}

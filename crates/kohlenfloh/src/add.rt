@@ -1,19 +1,7 @@
 // The table across the boundary.
-ghost use mathlib.Core.Path.{_≡_};
 ghost use Rattle.table.specs.{addStrip};
-ghost use Rattle.kohlenfloh.specs.Arrays.{recordIn};
+ghost use Rattle.arrays.specs.{recordIn};
 ghost use Rattle.kohlenfloh.specs.Crossing.{AddCrosses};
-use table::Record;
-
-// The record in an array: used entries, pixels.
-pub fn record_in(rec: &[u64; 2]) -> Record
-    ensures { λ r. ⌜ r ≡ recordIn (now (rec .entry)) ⌝ }
-{
-    Record {
-        used: rec[0] as usize,
-        pixels: rec[1],
-    }
-}
 
 // Adds a strip's pixels to the table: table::add_strip. The record is read from its array, and left
 // there as it is then; `taken` receives the pixels taken.
@@ -31,8 +19,8 @@ pub extern "C" fn kf_add_strip(
         (now (weights .entry)) (now (strip .entry)))
         r (now (rec .exit)) (now (keys .exit)) (now (weights .exit)) (now (taken .exit)) ⌝ }
 {
-    let a = table::add_strip(record_in(rec), keys, weights, strip);
-    *rec = [a.rec.used as u64, a.rec.pixels];
+    let a = table::add_strip(arrays::record_in(rec), keys, weights, strip);
+    *rec = arrays::record_left(a);
     *taken = [a.taken as u64];
     a.refusal as u32
 }

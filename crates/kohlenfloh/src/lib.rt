@@ -10,7 +10,7 @@
 //   kf_read_picture          p6::read_picture                            refuses 12, 13, 14, 15
 // A call's name is kf_ and that of the call beneath it. Only numbers, slices (a pointer and a
 // length) and arrays of a fixed length (a pointer) cross. Each call has the contract of the one
-// beneath it, with the answer's fields laid into an array.
+// beneath it, with the answer's fields laid into an array, which the crate arrays does.
 //
 // Read next: specs/Lib.antt (what the words mean), proofs/Promises.antt (what is shown).
 

@@ -1,12 +1,8 @@
 // Palettes, index pictures and P6 pictures across the boundary.
-ghost use mathlib.Core.Path.{_≡_};
 ghost use Rattle.palette.specs.{PaletteMeets, paletteFromShades};
-ghost use Rattle.figures.specs.{meanNumber};
 ghost use Rattle.mapping.specs.{mapStrip};
 ghost use Rattle.p6.specs.{readPicture};
-ghost use Rattle.kohlenfloh.specs.Arrays.{figureIn};
 ghost use Rattle.kohlenfloh.specs.Crossing.{MapCrosses, PictureCrosses};
-use figures::Mean;
 
 // The palette of some shades: palette::palette_from_shades.
 // Refuses, in this order: 4 BAD COUNT, 8 BAD CENTRE, 7 SHORT ROOM, with the palette as it came.
@@ -17,26 +13,6 @@ pub extern "C" fn kf_palette_from_shades(coordinates: &[u32], palette: &mut [u8]
         r (now (palette .exit)) ⌝ }
 {
     palette::palette_from_shades(coordinates, palette) as u32
-}
-
-// 1 where there is a mean, 0 for "no pixels".
-fn has_mean(mean: Mean) -> u64
-    ensures { λ r. ⌜ r ≡ meanNumber mean ⌝ }
-{
-    match mean {
-        Mean::NoPixels => 0,
-        Mean::Value(_) => 1,
-    }
-}
-
-// The mean, zero for "no pixels".
-fn figure_in(mean: Mean) -> f64
-    ensures { λ r. ⌜ r ≡ figureIn mean ⌝ }
-{
-    match mean {
-        Mean::NoPixels => 0.0,
-        Mean::Value(x) => x,
-    }
 }
 
 // Maps a strip into its stretch of the index picture: mapping::map_strip. `answer` receives the
@@ -58,17 +34,8 @@ pub extern "C" fn kf_map_strip(
         r (now (index .exit)) (now (answer .exit)) (now (means .exit)) ⌝ }
 {
     let a = mapping::map_strip(strip, palette, index, first);
-    let mean = a.mean;
-    let errors = a.errors;
-    let channels = a.means;
-    *answer = [
-        a.error,
-        errors.red,
-        errors.green,
-        errors.blue,
-        has_mean(mean),
-    ];
-    *means = [figure_in(mean), channels.red, channels.green, channels.blue];
+    *answer = arrays::map_numbers(a);
+    *means = arrays::map_figures(a);
     a.refusal as u32
 }
 
@@ -81,11 +48,6 @@ pub extern "C" fn kf_read_picture(input: &[u8], answer: &mut [u64; 4]) -> u32
     ensures { λ r. ⌜ PictureCrosses (readPicture (now (input .entry))) r (now (answer .exit)) ⌝ }
 {
     let a = p6::read_picture(input);
-    *answer = [
-        a.offset as u64,
-        a.width as u64,
-        a.height as u64,
-        a.start as u64,
-    ];
+    *answer = arrays::picture_numbers(a);
     a.refusal as u32
 }

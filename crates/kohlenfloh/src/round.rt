@@ -1,10 +1,8 @@
 // Rounds and runs across the boundary.
-ghost use mathlib.Core.Path.{_≡_};
 ghost use Rattle.method.specs.{stateOf};
 ghost use Rattle.lloyd.specs.{plainRound, shortRound, runOf};
-ghost use Rattle.kohlenfloh.specs.Arrays.{recordIn};
+ghost use Rattle.arrays.specs.{recordIn};
 ghost use Rattle.kohlenfloh.specs.Crossing.{RoundCrosses, RunCrosses};
-use super::add::record_in;
 
 // One round in which each colour looks at every shade: lloyd::plain_round. `answer` receives total,
 // shades moved, distances.
@@ -23,8 +21,8 @@ pub extern "C" fn kf_plain_round(
         (now (weights .entry)) (stateOf (now (coordinates .entry)) (now (members .entry))))
         r (now (coordinates .exit)) (now (members .exit)) (now (answer .exit)) ⌝ }
 {
-    let a = lloyd::plain_round(record_in(rec), keys, weights, coordinates, members);
-    *answer = [a.total, a.moved as u64, a.distances];
+    let a = lloyd::plain_round(arrays::record_in(rec), keys, weights, coordinates, members);
+    *answer = arrays::round_numbers(a);
     a.refusal as u32
 }
 
@@ -45,8 +43,8 @@ pub extern "C" fn kf_short_round(
         (now (weights .entry)) (stateOf (now (coordinates .entry)) (now (members .entry))))
         r (now (coordinates .exit)) (now (members .exit)) (now (answer .exit)) ⌝ }
 {
-    let a = lloyd::short_round(record_in(rec), keys, weights, coordinates, members);
-    *answer = [a.total, a.moved as u64, a.distances];
+    let a = lloyd::short_round(arrays::record_in(rec), keys, weights, coordinates, members);
+    *answer = arrays::round_numbers(a);
     a.refusal as u32
 }
 
@@ -70,10 +68,17 @@ pub extern "C" fn kf_run(
         (now (weights .entry)) count limit (now (members .entry)) (now (totals .entry)))
         r (now (members .exit)) (now (totals .exit)) (now (shades .exit)) (now (answer .exit)) ⌝ }
 {
-    let a = lloyd::run(record_in(rec), keys, weights, count, limit, members, totals);
+    let a = lloyd::run(
+        arrays::record_in(rec),
+        keys,
+        weights,
+        count,
+        limit,
+        members,
+        totals,
+    );
     let made = a.shades;
     *shades = made;
-    let settled = bits::bit(a.settled) as u64;
-    *answer = [a.rounds as u64, settled, a.distances, a.total];
+    *answer = arrays::run_numbers(a);
     a.refusal as u32
 }

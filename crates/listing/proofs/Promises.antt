@@ -11,12 +11,13 @@ use Rattle.colour.specs.{Bytes}
 use Rattle.p6.specs.{rasterOf}
 use Rattle.texts.specs.{linesOf}
 use Rattle.listing_lines.specs.{mostText, refusedText}
-use Rattle.listing.specs.Refusals.{countIn, pictureIn, smallRows, inputRows}
-use Rattle.listing.specs.Works.{tableOf, runTests}
+use Rattle.listing_test.specs.{smallRows}
+use Rattle.listing_work.specs.{tableOf, runTests}
+use Rattle.listing_work.proofs.Accepted as accepted
+use Rattle.listing.specs.Refusals.{countIn, pictureIn, inputRows}
 use Rattle.listing.specs.Listings.{listingLines, pictureText, listingText, listingOf}
 use Rattle.listing.specs.declared.Listing.{Listing}
 use Rattle.listing.proofs.Texts as texts
-use Rattle.listing.proofs.Accepted as accepted
 
 -- ---- the contract leaves one answer
 

@@ -15,8 +15,10 @@ use Rattle.texts.specs.{linesOf, withText}
 use Rattle.texts.proofs.Texts.{text-length}
 use Rattle.listing_lines.specs.{mostText, refusedText}
 use Rattle.listing_lines.proofs.Promises.{refused-most, lines-most}
+use Rattle.listing_work.specs.{Work, runTests, refusedWork, workRun, madeWork, workPicture, Fits}
+use Rattle.listing_work.proofs.Works.{work-refuses}
 use Rattle.listing.specs.Refusals.{countIn, pictureIn, inputRows}
-use Rattle.listing.specs.Works.{runTests, refusedWork, workRun, madeWork, workPicture, workInput, Fits}
+use Rattle.listing.specs.Works.{workInput}
 use Rattle.listing.specs.Listings.{
   workLines,
   workText,
@@ -27,8 +29,6 @@ use Rattle.listing.specs.Listings.{
   listingOf,
 }
 use Rattle.listing.specs.declared.Listing.{Listing}
-use Rattle.listing.specs.declared.Work.{Work}
-use Rattle.listing.proofs.Works.{work-refuses}
 use Rattle.listing.proofs.Rooms.{input-fits}
 
 -- ---- which text it is

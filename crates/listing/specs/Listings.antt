@@ -7,9 +7,9 @@ use lib.ListN.{length, take, replicate}
 use Rattle.refusal.specs.{done}
 use Rattle.texts.specs.{linesOf, withText}
 use Rattle.listing_lines.specs.{mostText, refusedText, linesFor}
-use Rattle.listing.specs.Works.{madeWork, workPicture, workInput}
+use Rattle.listing_work.specs.{Work, madeWork, workPicture}
+use Rattle.listing.specs.Works.{workInput}
 use Rattle.listing.specs.declared.Listing.{Listing}
-use Rattle.listing.specs.declared.Work.{Work}
 
 -- the lines that tell what the calls left
 abbrev pub workLines : Work → List (List ℕ)

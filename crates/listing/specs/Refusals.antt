@@ -1,25 +1,16 @@
 -- When a listing is refused: the count line, the length, the picture's tests, and the run's.
-use Prim.Native.Nat.{ℕ, _+_, _-_, _*_}
-use mathlib.Core.Bool.{Bool, not, _&&_, _||_}
-use mathlib.Core.List.{List, [], _∷_}
+use Prim.Native.Nat.{ℕ, _+_}
+use mathlib.Core.Bool.{Bool, not, _&&_}
+use mathlib.Core.List.{List, _∷_}
 use lib.Dec.{ltb, leb, eqb}
-use lib.ListN.{length, drop, replicate}
-use Rattle.refusal.specs.{Row, row, BAD-COUNT, BAD-HEADER, BAD-SIZE, BAD-DEPTH, BAD-RASTER}
+use lib.ListN.{length, drop}
+use Rattle.refusal.specs.{Row, row, BAD-COUNT, BAD-SIZE}
 use Rattle.grammar.specs.{byteAt, lineFeed, decimal, digitsAt}
-use Rattle.p6_header.specs.{headerOf}
-use Rattle.p6.specs.{widthIn, heightIn, depthIn, startIn, badHeader, badSize, badDepth, badRaster}
+use Rattle.listing_test.specs.{smallRows}
 
 -- the most bytes of an input
 abbrev pub mostInput : ℕ
 mostInput = 65536
-
--- the most pixels of a picture that is listed
-abbrev pub mostListed : ℕ
-mostListed = 8192
-
--- 8,192 zeros: what every slice that a listing lends begins with
-unfoldable pub listedZeros : List ℕ
-listedZeros = replicate mostListed 0
 
 -- ---- the count line
 
@@ -40,16 +31,6 @@ pictureIn s = drop (digitsAt s 0 + 1) s
 -- an input over 65,536 bytes
 abbrev pub longInput : List ℕ → Bool
 longInput s = ltb mostInput (length s)
-
--- the picture's own, where over 8,192 pixels is BAD SIZE too: 12, 13, 14, 15
-abbrev pub smallRows : List ℕ → List Row
-smallRows p =
-    let h = headerOf p in
-    row (badHeader p) BAD-HEADER
-    ∷ row (badSize (widthIn h) (heightIn h) || ltb mostListed (widthIn h * heightIn h)) BAD-SIZE
-    ∷ row (badDepth (depthIn h)) BAD-DEPTH
-    ∷ row (badRaster (widthIn h) (heightIn h) (length p - startIn h)) BAD-RASTER
-    ∷ []
 
 -- the tests before the run, in their order
 abbrev pub inputRows : List ℕ → List Row

@@ -6,39 +6,21 @@
 //                 a malformed count line, 13 BAD SIZE for an input over 65,536 bytes, the
 //                 picture's own, 12, 13 (also for more than 8,192 pixels), 14, 15, and the run's,
 //                 4 and 5.
-// First every call is made: the tests of the count line in call.rt, those of a picture in test.rt,
-// table, run, palette and mapping in picture.rt. What they leave is a Work: a refusal's number, or
-// all that the lines tell. Then the crate listing_lines writes it.
+// First every call is made: the tests of the count line in call.rt, those of a picture in the crate
+// listing_test, table, run, palette and mapping in listing_work. What they leave is a Work: a
+// refusal's number, or all that the lines tell. Then the crate listing_lines writes it.
 //
 // Read next: specs/Lib.antt (what the words mean), proofs/Promises.antt (what is shown).
-use listing_lines::Summary;
 
 mod call;
-mod picture;
-mod test;
 
 pub use call::list_shades;
 
 // The most bytes of an input.
 pub const MOST_INPUT: usize = 65536;
 
-// The most pixels of a picture that is listed.
-pub const MOST_LISTED: u64 = 8192;
-
 // The bytes of a listing, zeros behind them, and how many they are.
 pub struct Listing {
     pub length: usize,
     pub text: [u8; 8448],
-}
-
-// What the calls on an input leave: 0 or the refusal's number; what the lines tell besides the
-// shades; how many shades there are, and their palette; how many pixels, and their index picture.
-// Zeros stand behind both, and a refusal leaves zeros.
-struct Work {
-    refusal: u8,
-    summary: Summary,
-    shades: usize,
-    palette: [u8; 192],
-    pixels: usize,
-    index: [u8; 8192],
 }

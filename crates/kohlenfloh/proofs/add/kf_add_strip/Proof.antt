@@ -11,6 +11,9 @@ record-in-requires c κs = search needs
 add-strip-requires : tie.Need-add-strip-requires
 add-strip-requires c κs = search needs
 
+record-left-requires : tie.Need-record-left-requires
+record-left-requires c κs = search needs
+
 cast-result : tie.Need-cast-result
 cast-result c = search needs
 
@@ -23,9 +26,19 @@ same-length-2 c = search needs
 returns : tie.Need-returns
 returns c =
     let p = c .before .before .before .before .before .before .before in
-    add-crosses (p .before .before .before .record-in .ensures) (p .add-strip .ensures)
+    add-crosses
+    (p .before .before .before .record-in .ensures)
+    (p .add-strip .ensures)
+    (c .before .before .record-left .ensures)
 
 pub kf-add-strip-spec : {M : Type 1} → statement M
 kf-add-strip-spec =
     tie.close
-    (tie.spec record-in-requires add-strip-requires cast-result same-length same-length-2 returns)
+    (tie.spec
+    record-in-requires
+    add-strip-requires
+    record-left-requires
+    cast-result
+    same-length
+    same-length-2
+    returns)

@@ -1,4 +1,4 @@
--- `kf_map_strip` meets its contract: what `map_strip` answers and leaves crosses, its mean as a number and a figure.
+-- `kf_map_strip` meets its contract: what `map_strip` answers and leaves crosses.
 use borrow.Author.Needs.{needs}
 use Rattle.kohlenfloh.proofs.Arrays.{map-crosses}
 use Rattle.kohlenfloh.proofs.picture.kf_map_strip.Statement.{statement}
@@ -7,11 +7,11 @@ use Rattle.kohlenfloh.proofs.picture.kf_map_strip.Tie as tie
 map-strip-requires : tie.Need-map-strip-requires
 map-strip-requires c κs = search needs
 
-has-mean-requires : tie.Need-has-mean-requires
-has-mean-requires c κs = search needs
+map-numbers-requires : tie.Need-map-numbers-requires
+map-numbers-requires c κs = search needs
 
-figure-in-requires : tie.Need-figure-in-requires
-figure-in-requires c κs = search needs
+map-figures-requires : tie.Need-map-figures-requires
+map-figures-requires c κs = search needs
 
 cast-result : tie.Need-cast-result
 cast-result c = search needs
@@ -21,19 +21,19 @@ same-length c = search needs
 
 returns : tie.Need-returns
 returns c =
-    let p = c .before .before .before .before .before .before .before .before .before in
+    let p = c .before .before .before .before .before in
     map-crosses
     (p .map-strip .ensures)
-    (c .before .before .before .before .has-mean .ensures)
-    (c .before .before .figure-in .ensures)
+    (c .before .before .map-numbers .ensures)
+    (c .before .map-figures .ensures)
 
 pub kf-map-strip-spec : {M : Type 1} → statement M
 kf-map-strip-spec =
     tie.close
     (tie.spec
     map-strip-requires
-    has-mean-requires
-    figure-in-requires
+    map-numbers-requires
+    map-figures-requires
     cast-result
     same-length
     returns)

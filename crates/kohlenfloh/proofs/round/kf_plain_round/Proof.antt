@@ -14,8 +14,8 @@ record-in-requires c κs = search needs
 plain-round-requires : tie.Need-plain-round-requires
 plain-round-requires c κs = search needs
 
-cast-t13 : tie.Need-cast-t13
-cast-t13 c = search needs
+round-numbers-requires : tie.Need-round-numbers-requires
+round-numbers-requires c κs = search needs
 
 cast-result : tie.Need-cast-result
 cast-result c = search needs
@@ -28,12 +28,12 @@ same-length-2 c = search needs
 
 returns : tie.Need-returns
 returns c =
-    let p = c .before .before .before .before .before .before .before in
+    let p = c .before .before .before .before .before .before in
     let q = p .before .before .before in
     let s = q .before .before .before .before .before .args in
     let a = stateOf (s .coordinates .now) (s .members .now) in
     round-crosses (ap (λ rec. plainRound rec (s .keys .now) (s .weights .now) a) (q .record-in .ensures))
-    (p .plain-round .ensures)
+    (p .plain-round .ensures) (c .before .round-numbers .ensures)
 
 pub kf-plain-round-spec : {M : Type 1} → statement M
 kf-plain-round-spec =
@@ -41,7 +41,7 @@ kf-plain-round-spec =
     (tie.spec
     record-in-requires
     plain-round-requires
-    cast-t13
+    round-numbers-requires
     cast-result
     same-length
     same-length-2

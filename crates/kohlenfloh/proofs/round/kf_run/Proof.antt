@@ -1,5 +1,4 @@
--- `kf_run` meets its contract: what `run` answers and leaves crosses, from the record that `record_in` read, settled as
--- the number that `bit` gave.
+-- `kf_run` meets its contract: what `run` answers and leaves crosses, from the record that `record_in` read.
 use borrow.Author.Needs.{needs}
 use Rattle.kohlenfloh.proofs.Arrays.{run-crosses}
 use mathlib.Core.Path.{ap}
@@ -13,11 +12,8 @@ record-in-requires c κs = search needs
 run-requires : tie.Need-run-requires
 run-requires c κs = search needs
 
-bit-requires : tie.Need-bit-requires
-bit-requires c κs = search needs
-
-cast-settled : tie.Need-cast-settled
-cast-settled c = search needs
+run-numbers-requires : tie.Need-run-numbers-requires
+run-numbers-requires c κs = search needs
 
 cast-result : tie.Need-cast-result
 cast-result c = search needs
@@ -30,13 +26,13 @@ same-length-2 c = search needs
 
 returns : tie.Need-returns
 returns c =
-    let p = c .before .before .before .before .before .before .before .before in
+    let p = c .before .before .before .before .before .before .before in
     let q = p .before .before .before in
     let s = q .before .before .before .before .before .args in
     run-crosses
     (ap (λ rec. runOf rec (s .keys .now) (s .weights .now) (s .count) (s .limit) (s .members .now) (s .totals .now))
     (q .record-in .ensures))
-    (p .run .ensures) (c .before .before .bit .ensures .0)
+    (p .run .ensures) (c .before .run-numbers .ensures)
 
 pub kf-run-spec : {M : Type 1} → statement M
 kf-run-spec =
@@ -44,8 +40,7 @@ kf-run-spec =
     (tie.spec
     record-in-requires
     run-requires
-    bit-requires
-    cast-settled
+    run-numbers-requires
     cast-result
     same-length
     same-length-2

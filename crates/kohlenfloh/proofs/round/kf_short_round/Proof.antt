@@ -14,8 +14,8 @@ record-in-requires c κs = search needs
 short-round-requires : tie.Need-short-round-requires
 short-round-requires c κs = search needs
 
-cast-t13 : tie.Need-cast-t13
-cast-t13 c = search needs
+round-numbers-requires : tie.Need-round-numbers-requires
+round-numbers-requires c κs = search needs
 
 cast-result : tie.Need-cast-result
 cast-result c = search needs
@@ -28,12 +28,12 @@ same-length-2 c = search needs
 
 returns : tie.Need-returns
 returns c =
-    let p = c .before .before .before .before .before .before .before in
+    let p = c .before .before .before .before .before .before in
     let q = p .before .before .before in
     let s = q .before .before .before .before .before .args in
     let a = stateOf (s .coordinates .now) (s .members .now) in
     round-crosses (ap (λ rec. shortRound rec (s .keys .now) (s .weights .now) a) (q .record-in .ensures))
-    (p .short-round .ensures)
+    (p .short-round .ensures) (c .before .round-numbers .ensures)
 
 pub kf-short-round-spec : {M : Type 1} → statement M
 kf-short-round-spec =
@@ -41,7 +41,7 @@ kf-short-round-spec =
     (tie.spec
     record-in-requires
     short-round-requires
-    cast-t13
+    round-numbers-requires
     cast-result
     same-length
     same-length-2

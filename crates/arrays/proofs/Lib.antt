@@ -1,0 +1,2 @@
+-- A record that is laid into an array and read again.
+pub mod Records

@@ -1,0 +1,79 @@
+-- `work_run` meets its contract: the palette is made, the raster mapped to it, and both are handed on.
+use Prim.Native.Nat.{ℕ}
+use mathlib.Core.Path.{sym, _∙_}
+use native.Mathlib.Omega.{arith}
+use lib.ListN.{length-replicate}
+use lib.Seq.{length-take-le}
+use denote.Ref.{now}
+use borrow.Author.Needs.{needs}
+use Rattle.listing_work.proofs.Works.{run-left}
+use Rattle.listing_work.proofs.picture.work_run.Statement.{statement}
+use Rattle.listing_work.proofs.picture.work_run.Tie as tie
+
+-- where the function begins
+abbrev st : tie.After-palette-from-shades → tie.Start
+st c = c .before .before .before .before .before
+
+-- where the palette is made
+abbrev made : tie.After-map-strip → tie.After-palette-from-shades
+made c = c .before .before .before .before
+
+mul-n : tie.Need-mul-n
+mul-n c = search needs
+
+array-share-prefix-shades : tie.Need-array-share-prefix-shades
+array-share-prefix-shades c = c .before .before .pre .1
+
+slice-aggregate-palette-from-shades : tie.Need-slice-aggregate-palette-from-shades
+slice-aggregate-palette-from-shades c = sym (length-take-le _ _ (c .before .before .before .pre .1))
+
+slice-aggregate-palette-from-shades-2 : tie.Need-slice-aggregate-palette-from-shades-2
+slice-aggregate-palette-from-shades-2 c = search needs
+
+palette-from-shades-requires : tie.Need-palette-from-shades-requires
+palette-from-shades-requires c κs = search needs
+
+array-share-prefix-palette : tie.Need-array-share-prefix-palette
+array-share-prefix-palette c = search needs
+
+slice-aggregate-map-strip : tie.Need-slice-aggregate-map-strip
+slice-aggregate-map-strip c =
+    let m = c .before .before in
+    let long = m .palette-from-shades .kept .1 .0 ∙ length-replicate {A = ℕ} 192 0 in
+    sym (length-take-le _ _ (omega (arith, long, st m .pre .0)))
+
+slice-aggregate-map-strip-2 : tie.Need-slice-aggregate-map-strip-2
+slice-aggregate-map-strip-2 c = search needs
+
+map-strip-requires : tie.Need-map-strip-requires
+map-strip-requires c κs = search needs
+
+bit-requires : tie.Need-bit-requires
+bit-requires c κs = search needs
+
+cast-t23 : tie.Need-cast-t23
+cast-t23 c = search needs
+
+returns : tie.Need-returns
+returns c =
+    let m = c .before .before in
+    let a = st (made m) .args in
+    run-left (now (a .raster)) (a .rec) (a .ran) (a .count) (made m .palette-from-shades .ensures)
+    (m .map-strip .ensures) (c .bit .ensures .0)
+
+pub work-run-spec : {M : Type 1} → statement M
+work-run-spec =
+    tie.close
+    (tie.spec
+    mul-n
+    array-share-prefix-shades
+    slice-aggregate-palette-from-shades
+    slice-aggregate-palette-from-shades-2
+    palette-from-shades-requires
+    array-share-prefix-palette
+    slice-aggregate-map-strip
+    slice-aggregate-map-strip-2
+    map-strip-requires
+    bit-requires
+    cast-t23
+    returns)

@@ -1,0 +1,26 @@
+-- Glossary.
+--   listedZeros          8,192 zeros
+--   tableOf, runOn       the table of a picture, and the run on it
+--   runTests             the run's tests, in their order
+--   paletteBytes, mappedRaster   the palette of a run's shades, and the raster mapped to it
+--   Work                 what the calls leave: a refusal's number, or all that the lines tell
+--   summaryOf, refusedWork   what is told besides the shades, and what a refusal leaves
+--   workRun, madeWork    what is left of a run, and of a picture whose run is accepted
+--   workPicture          of an accepted picture
+--   Fits                 at most 64 shades, and room for shades and pixels
+pub mod Works
+pub use declared.Work.{Work}
+unfoldable pub use Works.{
+  listedZeros,
+  tableOf,
+  runOn,
+  runTests,
+  paletteBytes,
+  mappedRaster,
+  summaryOf,
+  refusedWork,
+  workRun,
+  madeWork,
+  workPicture,
+}
+pub use Works.{Fits}

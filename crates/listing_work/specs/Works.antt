@@ -1,0 +1,95 @@
+-- What is listed, as values: what the calls on a picture leave, on every picture.
+use Prim.Native.Nat.{ℕ, _*_, _/_, _≤_}
+use mathlib.Core.List.{List}
+use lib.ListN.{length, take, replicate}
+use Rattle.number.specs.{bit}
+use Rattle.refusal.specs.{Row, done, outcomeOf}
+use Rattle.table.specs.{Record, Outcome, emptyRecord, addStrip}
+use Rattle.shades.specs.{mostShades, mostCoordinates}
+use Rattle.lloyd.specs.{Ran, RunOutcome, runOf, runRows}
+use Rattle.palette.specs.{paletteFromShades}
+use Rattle.mapping.specs.{MapOutcome, mapStrip}
+use Rattle.p6.specs.{rasterOf}
+use Rattle.listing_lines.specs.{Summary}
+use Rattle.listing_test.specs.{mostListed}
+use Rattle.listing_work.specs.declared.Work.{Work}
+
+-- ---- the calls on a picture
+
+-- 8,192 zeros: what every slice that a listing lends begins with
+unfoldable pub listedZeros : List ℕ
+listedZeros = replicate mostListed 0
+
+-- the table of a picture, in slices of 8,192 places
+abbrev pub tableOf : List ℕ → Outcome
+tableOf p = addStrip emptyRecord listedZeros listedZeros (rasterOf p)
+
+-- the run on it, with limit 0
+abbrev pub runOn : List ℕ → ℕ → RunOutcome
+runOn p count =
+    runOf (tableOf p .answer .rec) (tableOf p .keys) (tableOf p .weights) count 0 listedZeros
+    (replicate 20 0)
+
+-- the run's tests, in their order
+abbrev pub runTests : List ℕ → ℕ → List Row
+runTests p count =
+    runRows (tableOf p .answer .rec) (tableOf p .keys) (tableOf p .weights) count 0 listedZeros (replicate 20 0)
+
+-- the palette of the first shades of a run, zeros behind it
+abbrev pub paletteBytes : Ran → ℕ → List ℕ
+paletteBytes ran count =
+    paletteFromShades (take (3 * count) (ran .shades)) (replicate mostCoordinates 0) .palette
+
+-- a raster mapped to it
+abbrev pub mappedRaster : List ℕ → Ran → ℕ → MapOutcome
+mappedRaster raster ran count = mapStrip raster (take (3 * count) (paletteBytes ran count)) listedZeros 0
+
+-- ---- what they leave
+
+-- what is told besides the shades
+abbrev pub summaryOf : Record → Ran → ℕ → Summary
+summaryOf rec ran error = record {
+  used = rec .used;
+  pixels = rec .pixels;
+  rounds = ran .rounds;
+  settled = bit (ran .settled);
+  total = ran .total;
+  distances = ran .distances;
+  error = error;
+}
+
+-- what a refusal leaves: its number and zeros
+abbrev pub refusedWork : ℕ → Work
+refusedWork n = record {
+  refusal = n;
+  summary = record { used = 0; pixels = 0; rounds = 0; settled = 0; total = 0; distances = 0; error = 0 };
+  shades = 0;
+  palette = replicate mostCoordinates 0;
+  pixels = 0;
+  index = listedZeros;
+}
+
+-- what is left of a raster, its table and a run on it
+unfoldable pub workRun : List ℕ → Record → Ran → ℕ → Work
+workRun raster rec ran count = record {
+  refusal = done;
+  summary = summaryOf rec ran (mappedRaster raster ran count .answer .error);
+  shades = count;
+  palette = paletteBytes ran count;
+  pixels = length raster / 3;
+  index = mappedRaster raster ran count .index;
+}
+
+-- of a picture whose run is accepted
+abbrev pub madeWork : List ℕ → ℕ → Work
+madeWork p count = workRun (rasterOf p) (tableOf p .answer .rec) (runOn p count .answer) count
+
+-- of a picture that is accepted: that, or the run's refusal
+unfoldable pub workPicture : List ℕ → ℕ → Work
+workPicture p count = outcomeOf (runTests p count) (madeWork p count) refusedWork
+
+-- at most 64 shades, an entry of the palette for each, and a place of the index picture for each pixel
+pub record Fits (w : Work) : Type 0 where
+  pub few : w .shades ≤ mostShades
+  pub palette : 3 * w .shades ≤ length (w .palette)
+  pub index : w .pixels ≤ length (w .index)

@@ -1,0 +1,86 @@
+// The calls on a picture: its table, the run, the palette of its shades, and the mapping.
+ghost use mathlib.Core.Path.{_≡_};
+ghost use Prim.Native.Nat.{_*_, _≤_};
+ghost use lib.ListN.{length};
+ghost use Rattle.shades.specs.{mostShades};
+ghost use Rattle.listing_work.specs.Works.{refusedWork, workRun, workPicture};
+use super::Work;
+use listing_lines::Summary;
+use lloyd::Ran;
+use refusal::DONE;
+use table::Record;
+
+// What a refusal leaves: its number and zeros.
+pub fn refused(number: u8) -> Work
+    ensures { λ r. ⌜ r ≡ refusedWork number ⌝ }
+{
+    let summary = Summary {
+        used: 0,
+        pixels: 0,
+        rounds: 0,
+        settled: 0,
+        total: 0,
+        distances: 0,
+        error: 0,
+    };
+    Work {
+        refusal: number,
+        summary,
+        shades: 0,
+        palette: [0u8; 192],
+        pixels: 0,
+        index: [0u8; 8192],
+    }
+}
+
+// The palette of `count` shades of a run, the raster mapped to it, and what is told of both and of
+// the table. Requires at most 64 shades, and their coordinates.
+fn work_run(raster: &[u8], rec: Record, ran: Ran, count: usize) -> Work
+    requires { ⌜ (count ≤ mostShades) × (3 * count ≤ length (ran .shades)) ⌝ }
+    ensures { λ r. ⌜ r ≡ workRun (now (raster .entry)) rec ran count ⌝ }
+{
+    let shades = ran.shades;
+    let n = 3 * count;
+    let mut palette = [0u8; 192];
+    palette::palette_from_shades(&shades[..n], &mut palette);
+    let mut index = [0u8; 8192];
+    let mapped = mapping::map_strip(raster, &palette[..n], &mut index, 0);
+    let summary = Summary {
+        used: rec.used as u64,
+        pixels: rec.pixels,
+        rounds: ran.rounds as u64,
+        settled: bits::bit(ran.settled) as u64,
+        total: ran.total,
+        distances: ran.distances,
+        error: mapped.error,
+    };
+    Work {
+        refusal: DONE,
+        summary,
+        shades: count,
+        palette,
+        pixels: raster.len() / 3,
+        index,
+    }
+}
+
+// Makes the calls on a picture: its table is filled, the run made with the usual limit, and its
+// shades mapped. Refuses what the run refuses.
+pub fn work_picture(picture: &[u8], count: usize) -> Work
+    ensures { λ r. ⌜ r ≡ workPicture (now (picture .entry)) count ⌝ }
+{
+    let raster = p6::raster_of(picture);
+    let mut keys = [0u32; 8192];
+    let mut weights = [0u32; 8192];
+    let empty = Record { used: 0, pixels: 0 };
+    let added = table::add_strip(empty, &mut keys, &mut weights, raster);
+    let rec = added.rec;
+    let mut members = [0u32; 8192];
+    let mut totals = [0u64; 20];
+    let ran = lloyd::run(rec, &keys, &weights, count, 0, &mut members, &mut totals);
+    let number = ran.refusal;
+    if number != DONE {
+        return refused(number);
+    }
+    work_run(raster, rec, ran, count)
+}
