@@ -79,6 +79,11 @@ fn bad_size(header: &Header) -> Option<&'static str> {
     when(header.width * header.height > MOST_PIXELS, "a product above 16,777,216")
 }
 
+/// Of a picture that is listed: "over 8,192 pixels is BAD SIZE too".
+fn too_many_to_list(header: &Header) -> Option<&'static str> {
+    when(header.width * header.height > 8192, "a listing of more than 8,192 pixels")
+}
+
 /// BAD RASTER: "raster shorter or longer" than "exactly 3 × width × height raster bytes".
 fn bad_raster(header: &Header, input: &[u8]) -> Option<&'static str> {
     let bytes = (input.len() - header.raster) as u128;
@@ -87,6 +92,22 @@ fn bad_raster(header: &Header, input: &[u8]) -> Option<&'static str> {
 }
 
 impl Model {
+    /// The raster of a picture that is listed, or its refusal: "the picture's own refusals, where over 8,192 pixels is
+    /// BAD SIZE too".
+    pub(super) fn raster_to_list<'a>(&mut self, input: &'a [u8]) -> Result<&'a [u8], u32> {
+        let header = header(self, input).map_err(|_| BAD_HEADER)?;
+        let refusal = self.first_of(&[
+            (BAD_SIZE, bad_size(&header).or(too_many_to_list(&header))),
+            (BAD_DEPTH, when(header.depth != 255, "a depth not 255")),
+            (BAD_RASTER, bad_raster(&header, input)),
+        ]);
+        if refusal == 0 {
+            Ok(&input[header.raster..])
+        } else {
+            Err(refusal)
+        }
+    }
+
     /// "Picture: 12, 13, 14, 15." "BAD HEADER carries its offset".
     pub fn picture(&mut self, ask: &Picture) -> Outcome {
         let (refusal, answer) = match header(self, &ask.input) {

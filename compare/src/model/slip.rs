@@ -26,3 +26,22 @@ pub const SLIPS: [Slip; 9] = [
     Slip::CutsPaletteBytes,
     Slip::PutsTheOffsetOneTooFar,
 ];
+
+/// Slips of the listing program, which the calls of the library do not show.
+#[derive(Clone, Copy, Debug, PartialEq)]
+pub enum ListingSlip {
+    RunsWithALimitOfTwo,
+    PrintsEveryRunAsSettled,
+    TestsTheLengthBeforeTheCountLine,
+    ReadsNoByteMoreThanAnInputMayHave,
+    TakesTheRunsGroupsForTheMappedPixels,
+}
+
+/// Every slip of the listing program.
+pub const LISTING_SLIPS: [ListingSlip; 5] = [
+    ListingSlip::RunsWithALimitOfTwo,
+    ListingSlip::PrintsEveryRunAsSettled,
+    ListingSlip::TestsTheLengthBeforeTheCountLine,
+    ListingSlip::ReadsNoByteMoreThanAnInputMayHave,
+    ListingSlip::TakesTheRunsGroupsForTheMappedPixels,
+];

@@ -1,0 +1,78 @@
+//! Inputs of the listing program: a count line and a picture, good, damaged, and at the bounds of length and rounds.
+use super::colours::{levels, strip};
+use super::header::{damaged, Way};
+use crate::chance::Chance;
+use crate::model::listing::MOST_INPUT;
+use crate::model::Model;
+
+/// A count line, a plain header of these sides, and a raster.
+fn input(count: &str, sides: (usize, usize), raster: &[u8]) -> Vec<u8> {
+    let mut input = format!("{count}\nP6\n{} {}\n255\n", sides.0, sides.1).into_bytes();
+    input.extend_from_slice(raster);
+    input
+}
+
+/// The same, by chance: small sides, few levels, mostly a good count.
+fn by_chance(chance: &mut Chance) -> Vec<u8> {
+    let count = match chance.below(12) {
+        0 => chance.one_of(&["", "0", "00", "65", "99", "2 ", " 2", "002", "2\r", "x"]).to_string(),
+        1 => chance.between(10, 64).to_string(),
+        _ => chance.between(1, 9).to_string(),
+    };
+    let sides = match chance.below(10) {
+        0 => chance.one_of(&[(0, 1), (1, 0), (16_385, 1), (91, 91), (1, 8193), (4097, 4097)]),
+        _ => (chance.between(1, 9), chance.between(1, 9)),
+    };
+    let levels = levels(chance);
+    let pixels = (sides.0 * sides.1).min(100);
+    let raster = strip(chance, &levels, pixels);
+    let mut made = input(&count, sides, &raster);
+    if chance.one_in(5) {
+        let place = chance.below(made.len().min(20));
+        let byte = chance.one_of(b" \n\x0b#059P");
+        let way = chance.one_of(&[Way::Replaced(byte), Way::Before(byte), Way::Doubled, Way::Removed, Way::Cut]);
+        made = damaged(&made, place, way);
+    }
+    if chance.one_in(12) {
+        made.push(0);
+    }
+    made
+}
+
+/// The first picture by chance of so many pixels a side whose run with this count does not settle.
+fn unsettled(count: usize, side: usize) -> Vec<u8> {
+    let by_case = |case| {
+        let raster = Chance::of_case(7, case).bytes(3 * side * side);
+        input(&count.to_string(), (side, side), &raster)
+    };
+    let stays = |input: &Vec<u8>| {
+        let mut model = Model::default();
+        model.listing(input, None);
+        model.met.contains_key("not settled")
+    };
+    (0..).map(by_case).find(stays).expect("some run stays unsettled")
+}
+
+/// An input of so many bytes: a count line, and a picture of one pixel behind many white bytes.
+fn long(count: &str, bytes: usize) -> Vec<u8> {
+    let short = input(count, (1, 1), b"abc");
+    let place = count.len() + 3;
+    let blanks = vec![b' '; bytes - short.len()];
+    [&short[..place], &blanks, &short[place..]].concat()
+}
+
+/// The inputs that are stored: the scope's example first.
+pub fn inputs() -> Vec<Vec<u8>> {
+    let example = input("2", (2, 2), &[0, 0, 0, 0, 0, 0, 0, 0, 0, 10, 0, 0]);
+    let long_and_malformed = long("2x", MOST_INPUT + 1);
+    let mut inputs =
+        vec![example, unsettled(9, 24), unsettled(16, 20), long_and_malformed, long("1", MOST_INPUT + 1), Vec::new()];
+    inputs.extend((0..300).map(|case| by_chance(&mut Chance::of_case(11, case))));
+    inputs
+}
+
+/// Inputs as the program takes them: before each its length in five digits, and LF.
+pub fn stored(inputs: &[Vec<u8>]) -> Vec<u8> {
+    let one = |input: &Vec<u8>| [format!("{:05}\n", input.len()).into_bytes(), input.clone()].concat();
+    inputs.iter().flat_map(one).collect()
+}

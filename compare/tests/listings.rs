@@ -1,0 +1,68 @@
+//! The listings that are stored for the Rattle programs are those of the model, and tell every slip of the listing
+//! program apart. That the programs print what is stored is seen where they are run, by `rt`.
+use std::fs;
+use std::path::Path;
+
+use compare::make::listing::{inputs, stored};
+use compare::model::slip::{ListingSlip, LISTING_SLIPS};
+use compare::model::Model;
+
+/// A file of a program's crate.
+fn file(program: &str, name: &str) -> Vec<u8> {
+    let path = Path::new(env!("CARGO_MANIFEST_DIR")).join("../crates").join(program).join(name);
+    fs::read(&path).unwrap_or_else(|why| panic!("{}: {why}", path.display()))
+}
+
+/// What the model prints for all inputs, bent by a slip or not.
+fn printed(model: &mut Model, slip: Option<ListingSlip>) -> Vec<u8> {
+    inputs().iter().flat_map(|input| model.listing(input, slip)).collect()
+}
+
+#[test]
+fn the_stored_inputs_are_those_made_here() {
+    assert!(file("listing_many", "stdin") == stored(&inputs()));
+}
+
+#[test]
+fn the_stored_listings_are_the_models() {
+    let mut model = Model::default();
+    let due = printed(&mut model, None);
+    assert_eq!(String::from_utf8_lossy(&file("listing_many", "stdout")), String::from_utf8_lossy(&due));
+    let edges = [
+        "settled",
+        "not settled",
+        "more than two rounds",
+        "a tie",
+        "an empty group",
+        "other pixels mapped than grouped",
+        "a malformed count line",
+        "a malformed count line on a long input",
+        "a long input",
+        "a listing of more than 8,192 pixels",
+        "a side of 0",
+        "a side above 16,384",
+        "a product above 16,777,216",
+        "a depth not 255",
+        "a raster too short",
+        "a raster too long",
+        "a count of 0",
+        "a count above 64",
+        "more shades than used entries",
+    ];
+    let missed: Vec<_> = edges.into_iter().filter(|edge| !model.met.contains_key(edge)).collect();
+    assert_eq!(missed, Vec::<&str>::new());
+}
+
+#[test]
+fn the_programs_own_listing_is_the_models() {
+    let due = Model::default().listing(&file("listing_main", "stdin"), None);
+    assert_eq!(String::from_utf8_lossy(&file("listing_main", "stdout")), String::from_utf8_lossy(&due));
+}
+
+#[test]
+fn every_slip_of_the_listing_shows_in_a_stored_one() {
+    let stored = file("listing_many", "stdout");
+    for slip in LISTING_SLIPS {
+        assert!(printed(&mut Model::default(), Some(slip)) != stored, "{slip:?}");
+    }
+}
