@@ -6,7 +6,19 @@ use mathlib.Core.Path.{_≡_}
 use Rattle.number.specs.{sum, sumOf, most, Best}
 use Rattle.number.proofs.Promises.{most-is-best, best-is-most}
 use Rattle.colour.specs.{Point, distance}
-use Rattle.method.specs.Colouring.{Colours, Fair, pixelsIn, sumsOf, leastOf, costAt, meanOf, groupOf, drawn}
+use Rattle.method.specs.Colouring.{
+  Colours,
+  Fair,
+  pixelsIn,
+  sumsOf,
+  squaresOf,
+  squared,
+  leastOf,
+  costAt,
+  meanOf,
+  groupOf,
+  drawn,
+}
 use Rattle.method.specs.Rounding.{
   Rule,
   toMean,
@@ -76,6 +88,10 @@ total-by-groups = totals.total-by-groups
 -- Wherever a shade could stand, its group costs no more where Lloyd's rule puts it.
 pub to-mean-least : (q : ℕ) (G : Colours) (y z : Point) → costAt G (toMean q G y) ≤ costAt G z
 to-mean-least = costs.to-mean-least
+
+-- The least is a true difference: W·Q is never below S1² + S2² + S3², so that nothing is cut to 0.
+pub least-is-difference : (G : Colours) → leastOf G + squared (sumsOf G) ≡ pixelsIn G * squaresOf G
+least-is-difference = costs.least-is-difference
 
 -- A group's cost is never below the least that a fractional shade could give; both sides stand here times W.
 pub cost-at-least : (G : Colours) (z : Point) → leastOf G ≤ pixelsIn G * costAt G z
