@@ -89,10 +89,10 @@ module _ {rec : Record} {ks ws : List ℕ} (g : GoodTable rec ks ws) (B : Base) 
       start-stored B C k ms q few h ∙ next-given B (C .n) (C .c) q (startsFrom B (C .n) (C .c) q) l
 
   -- each start after the given ones is such a colour, for the starts before it
-  next-is-farthest : (q : ℕ) → 0 < rec .used → q < k → B .given ≤ q
+  chosen-is-farthest : (q : ℕ) → 0 < rec .used → q < k → B .given ≤ q
       → FarthestColour (rec .used) ks (startsFrom B (rec .used) (colourAt ks) q) q
       (shadeAt (beginFrom B (coloursOf (rec .used) ks ws) k ms .coordinates) q)
-  next-is-farthest q some h l =
+  chosen-is-farthest q some h l =
       let C = coloursOf (rec .used) ks ws in
       rw (start-stored B C k ms q few h, next-chosen B (C .n) (C .c) q (startsFrom B (C .n) (C .c) q) l)
       (most-is-farthest g some (startsFrom B (rec .used) (colourAt ks) q) q)
@@ -103,7 +103,7 @@ module _ {rec : Record} {ks ws : List ℕ} (g : GoodTable rec ks ws) (B : Base) 
       (shadeAt (beginFrom B (coloursOf (rec .used) ks ws) k ms .coordinates) q)
   start-is-farthest q some one h l =
       farthest-same (startsFrom B (rec .used) (colourAt ks) q) _ q _ one
-      (starts-stored B (coloursOf (rec .used) ks ws) k ms q few (omega arith)) (next-is-farthest q some h l)
+      (starts-stored B (coloursOf (rec .used) ks ws) k ms q few (omega arith)) (chosen-is-farthest q some h l)
 
   -- with no more shades than entries, it stands where none before it does
   pub starts-differ : (p q : ℕ) → k ≤ rec .used → p < q → q < k → B .given ≤ q

@@ -176,7 +176,8 @@ module _ {rec : Record} {ks ws : List ℕ} {k limit : ℕ} {ms ts : List ℕ} {r
       pixelsIn G * costAt (drawn (pixelsIn G) G) (sumsOf G) ≡ pixelsIn G * pixelsIn G * leastOf G)
   group-fraction-exactly q = fraction-exactly (groupAt (coloursOf (rec .used) ks ws) (left r members) q)
 
-  -- The same for whole numbers a1, a2, a3 of either sign: no fractional shade, also below 0, costs the group less.
+  -- The same for whole numbers a1, a2, a3 of either sign: wherever a fractional shade stands, also below 0, it costs
+  -- the group no less.
   pub group-signed-fraction-at-least : (q n : ℕ) (a : SignedPoint)
       → n * n * leastOf (groupAt (coloursOf (rec .used) ks ws) (left r members) q)
       ≤ pixelsIn (groupAt (coloursOf (rec .used) ks ws) (left r members) q)
