@@ -8,12 +8,13 @@ use Rattle.refusal.specs.{done}
 use Rattle.table_test.specs.{Record}
 use Rattle.table_test.proofs.Promises.{bad-table-exactly}
 use Rattle.shades.specs.{shadeAt}
-use Rattle.method.specs.{coloursOf, meanOf, onMean, starts, toMean, begin}
-use Rattle.method.proofs.Begins.{mean-low}
+use Rattle.method.specs.{coloursOf, pixelsIn, meanOf, onMean, toMean, begin, Joined}
+use Rattle.method.proofs.Begins.{begin-joined, mean-low}
 use Rattle.method.proofs.Costs.{to-mean-good}
 use Rattle.method.proofs.Sizes.{fair-of-table}
 use Rattle.rounds.specs.{Runnable}
 use Rattle.lloyd_tests.specs.{limitOf}
+use Rattle.lloyd_tests.proofs.Promises.{few-colours-exactly}
 use Rattle.lloyd_refusal.specs.{runRows}
 use Rattle.lloyd.specs.Beginning.{FarthestColour}
 use Rattle.lloyd.specs.Outcomes.{runOf, AcceptedRun}
@@ -56,10 +57,30 @@ module _ {rec : Record} {ks ws : List ℕ} {k limit : ℕ} {ms ts : List ℕ} {r
       beginnings.start-is-given (bad-table-exactly rec ks ws .0 (tests .table)) (onMean (coloursOf (rec .used) ks ws))
       k ms (able .few) 0 (able .some) (omega arith)
 
-  -- each next one is the farthest colour
+  -- each next one is the farthest colour from those before it
   pub start-is-farthest : (q : ℕ) → q + 1 < k
-      → FarthestColour (rec .used) ks (starts (coloursOf (rec .used) ks ws) (q + 1)) (q + 1)
+      → FarthestColour (rec .used) ks (begin (coloursOf (rec .used) ks ws) k ms .coordinates) (q + 1)
       (shadeAt (begin (coloursOf (rec .used) ks ws) k ms .coordinates) (q + 1))
   start-is-farthest q l =
       beginnings.start-is-farthest (bad-table-exactly rec ks ws .0 (tests .table))
-      (onMean (coloursOf (rec .used) ks ws)) k ms (able .few) (q + 1) (able .colours) l (omega arith)
+      (onMean (coloursOf (rec .used) ks ws)) k ms (able .few) (q + 1) (able .colours) (omega arith) l (omega arith)
+
+  -- no two stand in one place
+  pub starts-differ : (p q : ℕ) → p < q → q < k
+      → ¬ (shadeAt (begin (coloursOf (rec .used) ks ws) k ms .coordinates) p
+      ≡ shadeAt (begin (coloursOf (rec .used) ks ws) k ms .coordinates) q)
+  starts-differ p q l h =
+      beginnings.starts-differ (bad-table-exactly rec ks ws .0 (tests .table)) (onMean (coloursOf (rec .used) ks ws))
+      k ms (able .few) p q (few-colours-exactly rec k .0 (tests .colours)) l h (omega arith)
+
+  -- ---- pixels and distances
+
+  -- the record's pixels are those of the colours
+  pub pixels-are : rec .pixels ≡ pixelsIn (coloursOf (rec .used) ks ws)
+  pixels-are = bad-table-exactly rec ks ws .0 (tests .table) .pixels
+
+  -- every colour begins in a shade
+  pub joined : Joined (coloursOf (rec .used) ks ws) k (begin (coloursOf (rec .used) ks ws) k ms)
+  joined =
+      let C = coloursOf (rec .used) ks ws in
+      begin-joined (onMean C) C k ms (able .some) (able .members-room)

@@ -4,12 +4,15 @@ use Prim.Native.Nat.{ℕ, _+_, _-_, _*_, _≤_, _<_}
 use mathlib.Core.Bool.{true, false}
 use mathlib.Core.List.{List}
 use mathlib.Core.Path.{_≡_, refl, sym, ap, _∙_}
+use native.Mathlib.Nat.{le-refl, le-trans}
 use native.Mathlib.Omega.{arith}
 use lib.ListN.{getD, length}
 use lib.Dec.{eqb}
 use borrow.Author.Tests.{eqb-true}
-use Rattle.number.specs.{sum, sumOf}
+use Rattle.number.specs.{sum, sumOf, numbersBelow}
 use Rattle.number.proofs.Fills.{fill-at, fill-kept}
+use Rattle.number.proofs.ListSums.{sumOf-numbers}
+use Rattle.number.proofs.Sums.{sum-bound}
 use Rattle.colour.specs.{Point, distance}
 use Rattle.shades.specs.{shadeAt, OnGrid}
 use Rattle.method.specs.{
@@ -20,6 +23,7 @@ use Rattle.method.specs.{
   Fair,
   State,
   Fit,
+  Joined,
   Bounded,
   SumBounded,
   leastSum,
@@ -35,9 +39,10 @@ use Rattle.method.specs.{
   movedOf,
   finalOf,
   joins,
+  shortDistances,
   roundsMade,
 }
-use Rattle.method.proofs.Bounds.{sum-bounded}
+use Rattle.method.proofs.Bounds.{from-zero, sum-bounded}
 use Rattle.method.proofs.Ends.{
   shade-on-mean,
   shade-bounded,
@@ -49,6 +54,7 @@ use Rattle.method.proofs.Ends.{
 use Rattle.method.proofs.Falls.{
   after-more,
   after-fit,
+  after-joined,
   after-past,
   after-kept,
   rounds-fall,
@@ -56,6 +62,8 @@ use Rattle.method.proofs.Falls.{
   grouped-below,
 }
 use Rattle.method.proofs.Runs.{made-at-most, made-some, made-last, made-before}
+use Rattle.method.proofs.Sizes.{short-at-most-plain}
+use Rattle.method.proofs.Totals.{pixels-by-groups}
 use Rattle.lloyd.specs.Outcomes.{madeRun, left, RunMeets}
 use Rattle.lloyd.specs.declared.Ran.{Ran}
 
@@ -126,6 +134,19 @@ module _ {rule : Rule} {C : Colours} {k limit : ℕ} {a : State} {ts : List ℕ}
   pub member-below : (i : ℕ) → i < C .n → getD members i 0 < k
   member-below i l =
       rw members-last (grouped-below C k (after rule C k a (r .rounds - 1)) (fit-at (r .rounds - 1)) i l)
+
+  -- and the groups have all pixels
+  pub groups-have-all : pixelsIn C ≡ sum k (λ q. pixelsIn (groupAt C (left r members) q))
+  groups-have-all = pixels-by-groups C k (λ i. getD members i 0) member-below
+
+  -- the distances are at most one for each shade, colour and round
+  pub distances-at-most : Joined C k a → r .distances ≤ r .rounds * (C .n * k)
+  distances-at-most joined =
+      rw (ap (λ (x : Ran). x .distances) (m .meets .answer), rounds-made)
+      (sum-bound _ (C .n * k) (λ n. shortDistances C k (after rule C k a n))
+      (λ n l. le-trans
+      (short-at-most-plain C k (after rule C k a n) (after-joined rule C k a (m .good) (m .fair) (m .fit) joined n))
+      (sum-bound (C .n) k (λ i. k) (λ i l. le-refl k))))
 
   -- the shades are on the grid, and there are so many of them
   pub shades-fit : OnGrid (r .shades) × (3 * k ≤ length (r .shades))
@@ -214,6 +235,14 @@ module _ {rule : Rule} {C : Colours} {k limit : ℕ} {a : State} {ts : List ℕ}
     stands-on-mean q free l =
         rw (shades-last, members-last)
         (shade-on-mean rule C k (after rule C k a (r .rounds - 1)) (fit-at (r .rounds - 1)) f mean q free l)
+
+  -- where the rule goes to the mean throughout, the final total is bounded by the leasts of all groups
+  pub total-bounded : Means 0 rule
+      → SumBounded (leastSum (groupAt C (left r members)) (numbersBelow k)) (pixelsIn C) (r .total)
+  total-bounded mean =
+      let pixels = sumOf-numbers k (λ q. pixelsIn (groupAt C (left r members) q)) ∙ sym groups-have-all in
+      let cost = sumOf-numbers k (groupCost C (left r members)) ∙ sym total-is-groups in
+      rw (pixels, cost) at (groups-bounded 0 mean (numbersBelow k) (from-zero (numbersBelow k)))
 
   -- ---- a settled run
 

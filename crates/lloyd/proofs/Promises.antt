@@ -23,6 +23,8 @@ pub use Rattle.lloyd_rounds.proofs.Promises.{plain-accepted, short-accepted}
 pub use Rattle.lloyd_rounds.proofs.Promises.{plain-joined, short-joined}
 -- plain and shortened rounds leave the same
 pub use Rattle.lloyd_rounds.proofs.Promises.{short-leaves-plain}
+-- a shortened round works out at most as many distances as a plain one
+pub use Rattle.lloyd_rounds.proofs.Promises.{short-distances-at-most}
 -- members past the used entries stay
 pub use Rattle.lloyd_rounds.proofs.Promises.{plain-members-kept, short-members-kept}
 -- ---- Promises/Refusing.antt: a run's refusals
@@ -39,14 +41,22 @@ pub use Runs.{run-only}
 pub use Runs.{run-accepted}
 -- it begins with the rounded mean of the table, and then each time with the farthest colour
 pub use Runs.{first-is-mean, start-is-farthest}
+-- it begins with shades in different places
+pub use Runs.{starts-differ}
 -- it makes rounds up to the limit or the first that moves no shade
 pub use Runs.{rounds-within, settled-is, moved-before}
 -- the recorded totals are the method's, and never rise
 pub use Runs.{total-recorded, totals-never-rise, final-at-most-last}
+-- its distances are at most one for each shade, used entry and round
+pub use Runs.{distances-at-most}
 -- the final total: no whole shades do better, and fractional ones hardly, group by group and in sum
 pub use Runs.{final-is-least, total-is-groups, group-bounded, groups-bounded}
+-- all groups in one line, against the record's pixels, which are those of the groups
+pub use Runs.{total-bounded, groups-have-all}
 -- what fractional shades can do is no less than the least, and attains it
 pub use Runs.{group-fraction-at-least, group-fraction-exactly}
+-- the same for whole numbers of either sign
+pub use Runs.{group-signed-fraction-at-least, group-signed-fraction-exactly}
 -- the shades that are answered
 pub use Runs.{stands-on-mean, shades-low, shades-room, shades-past}
 -- what the slices have, and what stays in them

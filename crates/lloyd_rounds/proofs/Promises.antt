@@ -100,6 +100,12 @@ pub short-leaves-plain : (rec : Record) (ks ws : List ℕ) (a : State) → short
     × (shortRound rec ks ws a .answer .moved ≡ plainRound rec ks ws a .answer .moved)
 short-leaves-plain = rounds.short-leaves-plain
 
+-- Where a shortened round is accepted, it works out at most as many distances as the plain one.
+pub short-distances-at-most : (rec : Record) (ks ws : List ℕ) (a : State)
+    → shortRound rec ks ws a .answer .refusal ≡ done
+    → shortRound rec ks ws a .answer .distances ≤ plainRound rec ks ws a .answer .distances
+short-distances-at-most = rounds.short-distances-at-most
+
 -- ---- on every input
 
 -- Members past the used entries stay after a plain round, on every input.

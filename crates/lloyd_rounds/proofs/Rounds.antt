@@ -14,6 +14,7 @@ use Rattle.shades.specs.{colourAt, nearestShade, badCoordinates, badCentre}
 use Rattle.shades.proofs.Checks.{bad-coordinates-exactly, shades-of-tests}
 use Rattle.method.specs.{Colours, State, coloursOf, toMean, joins, plainDistances, shortDistances}
 use Rattle.method.proofs.Falls.{member-joined}
+use Rattle.method.proofs.Sizes.{short-at-most-plain}
 use Rattle.rounds_step.specs.{Steppable, Walkable}
 use Rattle.lloyd_tests.specs.{shortMembers, badMember}
 use Rattle.lloyd_rounds.specs.Refusals.{plainRows, memberRow, shortRows}
@@ -102,6 +103,15 @@ module _ (rec : Record) (ks ws : List ℕ) (a : State) where
   short-leaves-plain h =
       let g = short-good (short-refuses .accepted-exactly .0 h) in
       rw (plain-refuses .by-none (plain-none (g .0)), short-refuses .accepted-is h) (refl, refl, refl, refl)
+
+  -- and counts at least as many distances
+  pub short-distances-at-most : shortRound rec ks ws a .answer .refusal ≡ done
+      → shortRound rec ks ws a .answer .distances ≤ plainRound rec ks ws a .answer .distances
+  short-distances-at-most h =
+      let g = short-good (short-refuses .accepted-exactly .0 h) in
+      rw (plain-refuses .by-none (plain-none (g .0)), short-refuses .accepted-is h)
+      (short-at-most-plain (coloursOf (rec .used) ks ws) (length (a .coordinates) / 3) a
+      (short-walkable (g .0) (g .1) .joined))
 
   -- members past the used entries stay after a plain round
   pub plain-members-kept : (i : ℕ) → rec .used ≤ i

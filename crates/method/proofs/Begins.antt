@@ -1,7 +1,7 @@
 -- The state in which a run begins is fit for a round, and every member is shade 0.
 use Prim.Native.Nat.{ℕ, _+_, _*_, _≤_, _<_}
 use mathlib.Core.List.{List}
-use mathlib.Core.Path.{_≡_, _∙_}
+use mathlib.Core.Path.{_≡_, sym, _∙_}
 use native.Mathlib.Omega.{arith}
 use lib.ListN.{getD, length, replicate, length-replicate}
 use Rattle.number.proofs.Fills.{fill-at, fill-length, fill-kept, zeros-at}
@@ -69,6 +69,11 @@ module _ (B : Base) (C : Colours) (k : ℕ) (members : List ℕ) where
       place i l =
           over-at (startsFrom B (C .n) (C .c) k) (replicate mostCoordinates 0) i
           (omega (arith, starts-length B (C .n) (C .c) k)) (simp length-replicate (omega arith))
+
+  -- the first q of them are the q starts
+  pub starts-stored : (q : ℕ) → k ≤ mostShades → q ≤ k → (p : ℕ) → p < q
+      → shadeAt (startsFrom B (C .n) (C .c) q) p ≡ shadeAt (beginFrom B C k members .coordinates) p
+  starts-stored q few h p l = shade-of-starts B (C .n) (C .c) q p l ∙ sym (start-stored p few (omega arith))
 
 -- the mean of a table with a pixel is on the grid
 pub mean-low : (C : Colours) → Fair C → 0 < pixelsIn C → (q : ℕ) → Within mostCoordinate (onMean C .at q)

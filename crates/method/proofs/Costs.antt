@@ -11,7 +11,18 @@ use Rattle.number.proofs.Means.{mean-best, mean-bound, mean-fits}
 use Rattle.number.proofs.Sums.{sum-add, sum-none}
 use Rattle.colour.specs.{Point, Within, distance, mostCoordinate}
 use Rattle.colour.proofs.Distances.{each}
-use Rattle.method.specs.Colouring.{Colours, on, pixelsIn, sumsOf, leastOf, costAt, meanOf, drawn}
+use Rattle.method.specs.Colouring.{
+  Colours,
+  on,
+  pixelsIn,
+  sumsOf,
+  squaresOf,
+  squared,
+  leastOf,
+  costAt,
+  meanOf,
+  drawn,
+}
 use Rattle.method.specs.Rounding.{toMean, GoodRule, Means}
 
 -- a shade costs what its three coordinates cost
@@ -26,6 +37,10 @@ module _ (C : Colours) where
   -- colours that weigh nothing cost nothing
   pub empty-costs-nothing : pixelsIn C ≡ 0 → (z : Point) → costAt C z ≡ 0
   empty-costs-nothing e z = sum-none (C .n) (C .w) (λ i. distance (C .c i) z) e
+
+  -- the least is a true difference
+  pub least-is-difference : leastOf C + squared (sumsOf C) ≡ pixelsIn C * squaresOf C
+  least-is-difference = omega (arith, each (λ f. cauchy (on f C)))
 
   -- no whole shade costs less than the rounded mean
   mean-costs-least : 0 < pixelsIn C → (z : Point) → costAt C (meanOf C) ≤ costAt C z

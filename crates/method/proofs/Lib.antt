@@ -2,6 +2,8 @@
 pub mod Promises
 -- What a shade costs weighted colours, and Lloyd's rule.
 pub mod Costs
+-- Shades at fractions of whole numbers of either sign.
+pub mod Fractions
 -- A total is the sum of what the groups cost; the nearest grouping has the least.
 pub mod Totals
 -- Totals never rise, over any rule that costs a group no more than staying.
@@ -14,6 +16,8 @@ pub mod Ends
 pub mod Runs
 -- What a table's colours are at most.
 pub mod Sizes
+-- How far colours are from their nearest shade, and how many can stand on one.
+pub mod Covers
 -- The starting shades: read back one by one, and on the grid.
 pub mod Startings
 -- The state in which a run begins.

@@ -6,22 +6,41 @@ use mathlib.Core.Path.{_≡_}
 use Rattle.number.specs.{sum, sumOf, most, Best}
 use Rattle.number.proofs.Promises.{most-is-best, best-is-most}
 use Rattle.colour.specs.{Point, distance}
-use Rattle.method.specs.Colouring.{Colours, Fair, pixelsIn, sumsOf, leastOf, costAt, meanOf, groupOf, drawn}
+use Rattle.method.specs.Colouring.{
+  Colours,
+  Fair,
+  pixelsIn,
+  sumsOf,
+  squaresOf,
+  squared,
+  leastOf,
+  costAt,
+  meanOf,
+  groupOf,
+  drawn,
+}
 use Rattle.method.specs.Rounding.{
   Rule,
   toMean,
   GoodRule,
   State,
   Fit,
+  Joined,
   totalOf,
+  plainDistances,
+  shortDistances,
   finalOf,
   after,
 }
 use Rattle.method.specs.Starting.{Base, remote, nextShade}
 use Rattle.method.specs.Leasts.{Bounded, SumBounded, leastSum, From}
+use Rattle.method.specs.Fractions.{SignedPoint, asSigned, fractionCost}
 use Rattle.method.proofs.Bounds as bounds
 use Rattle.method.proofs.Costs as costs
+use Rattle.method.proofs.Covers as covers
 use Rattle.method.proofs.Falls as falls
+use Rattle.method.proofs.Fractions as fractions
+use Rattle.method.proofs.Sizes as sizes
 use Rattle.method.proofs.Startings as startings
 use Rattle.method.proofs.Totals as totals
 
@@ -38,6 +57,13 @@ next-is-farthest n c k s h = most-is-best n (λ i. remote s k (c i)) h
 pub farthest-only : (n : ℕ) (c : ℕ → Point) (k : ℕ) (s : List ℕ) → 0 < n → {i d : ℕ}
     → Best (λ a b. b < a) (λ j. j < n) (λ j. remote s k (c j)) i d → i ≡ most n (λ j. remote s k (c j))
 farthest-only n c k s h b = best-is-most n (λ j. remote s k (c j)) h b
+
+-- Of colours that all differ no more than k stand on one of k shades: while there are more colours than chosen shades,
+-- one is off them all, and so is the farthest.
+pub covered-at-most : (n : ℕ) (c : ℕ → Point) (s : List ℕ) (k : ℕ) → 0 < k
+    → ((i j : ℕ) → i < n → j < n → distance (c i) (c j) ≡ 0 → i ≡ j)
+    → ((i : ℕ) → i < n → remote s k (c i) ≡ 0) → n ≤ k
+covered-at-most = covers.covered-at-most
 
 -- Below their number a given shade is the next.
 pub next-is-given : (B : Base) (n : ℕ) (c : ℕ → Point) (k : ℕ) (s : List ℕ) → k < B .given
@@ -66,6 +92,13 @@ rounds-end = falls.rounds-end
 pub to-mean-good : GoodRule toMean
 to-mean-good = costs.to-mean-good
 
+-- ---- distances counted
+
+-- Where the members are numbers of shades, the shortened round counts at most as many distances as the plain one.
+pub short-at-most-plain : (C : Colours) (k : ℕ) (a : State) → Joined C k a
+    → shortDistances C k a ≤ plainDistances C k a
+short-at-most-plain = sizes.short-at-most-plain
+
 -- ---- a group
 
 -- A total is the sum of what the groups cost.
@@ -73,9 +106,18 @@ pub total-by-groups : (C : Colours) (k : ℕ) (m : ℕ → ℕ) (s : ℕ → Poi
     → sum (C .n) (λ i. C .w i * distance (C .c i) (s (m i))) ≡ sum k (λ q. costAt (groupOf C m q) (s q))
 total-by-groups = totals.total-by-groups
 
+-- And every colour joins one group: the groups' pixels add up to all pixels.
+pub pixels-by-groups : (C : Colours) (k : ℕ) (m : ℕ → ℕ) → ((i : ℕ) → i < C .n → m i < k)
+    → pixelsIn C ≡ sum k (λ q. pixelsIn (groupOf C m q))
+pixels-by-groups = totals.pixels-by-groups
+
 -- Wherever a shade could stand, its group costs no more where Lloyd's rule puts it.
 pub to-mean-least : (q : ℕ) (G : Colours) (y z : Point) → costAt G (toMean q G y) ≤ costAt G z
 to-mean-least = costs.to-mean-least
+
+-- The least is a true difference: W·Q is never below S1² + S2² + S3², so that nothing is cut to 0.
+pub least-is-difference : (G : Colours) → leastOf G + squared (sumsOf G) ≡ pixelsIn G * squaresOf G
+least-is-difference = costs.least-is-difference
 
 -- A group's cost is never below the least that a fractional shade could give; both sides stand here times W.
 pub cost-at-least : (G : Colours) (z : Point) → leastOf G ≤ pixelsIn G * costAt G z
@@ -107,3 +149,14 @@ fraction-at-least = costs.fraction-at-least
 pub fraction-exactly : (G : Colours)
     → pixelsIn G * costAt (drawn (pixelsIn G) G) (sumsOf G) ≡ pixelsIn G * pixelsIn G * leastOf G
 fraction-exactly = costs.fraction-exactly
+
+-- The same for whole numbers a1, a2, a3 of either sign: wherever a fractional shade stands, also below 0, it costs no
+-- less than the least.
+pub signed-fraction-at-least : (G : Colours) (n : ℕ) (a : SignedPoint)
+    → n * n * leastOf G ≤ pixelsIn G * fractionCost G n a
+signed-fraction-at-least = fractions.signed-fraction-at-least
+
+-- And equal to it where n is W and each a is its S.
+pub signed-fraction-exactly : (G : Colours)
+    → pixelsIn G * fractionCost G (pixelsIn G) (asSigned (sumsOf G)) ≡ pixelsIn G * pixelsIn G * leastOf G
+signed-fraction-exactly = fractions.signed-fraction-exactly

@@ -12,9 +12,9 @@ use Rattle.colour.proofs.Distances.{colour-within}
 use Rattle.table_entries.specs.{Tabled, mostEntries}
 use Rattle.shades.specs.{mostShades, OnGrid, toShade, worked}
 use Rattle.shades.proofs.Laying.{to-shade-most}
-use Rattle.shades.proofs.Nearest.{worked-at-most}
+use Rattle.shades.proofs.Nearest.{worked-at-most, worked-at-most-all}
 use Rattle.method.specs.Colouring.{Colours, coloursOf, Fair}
-use Rattle.method.specs.Rounding.{State, shortDistances}
+use Rattle.method.specs.Rounding.{State, plainDistances, shortDistances, Joined}
 
 -- the colours of a table that lies in two slices are fair
 pub fair-of-table : {n : ℕ} {ks ws : List ℕ} → Tabled n ks ws → Fair (coloursOf n ks ws)
@@ -23,6 +23,12 @@ fair-of-table {n} {ks} {ws} t = record {
   few = t .few;
   inside = λ i. colour-within (getD ks i 0);
 }
+
+-- where the members are numbers of shades, a shortened round works out no more distances than a plain one
+pub short-at-most-plain : (C : Colours) (k : ℕ) (a : State) → Joined C k a
+    → shortDistances C k a ≤ plainDistances C k a
+short-at-most-plain C k a joined =
+    sum-le (C .n) _ _ (λ i l. worked-at-most-all (a .coordinates) k (C .c i) (getD (a .members) i 0) (joined i l))
 
 module _ (C : Colours) (f : Fair C) where
   -- a weight is at most all pixels

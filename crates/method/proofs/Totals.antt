@@ -29,6 +29,14 @@ total-by-groups C k m s below =
     (λ q g. sum-eq (C .n) _ (λ i. cond (eqb (m i) q) (C .w i) 0 * distance (C .c i) (s q))
     (λ i l. sym (weight-times (eqb (m i) q) (C .w i) (distance (C .c i) (s q)))))
 
+-- and the groups' pixels are all pixels: every colour joins one group
+pub pixels-by-groups : (C : Colours) (k : ℕ) (m : ℕ → ℕ) → ((i : ℕ) → i < C .n → m i < k)
+    → pixelsIn C ≡ sum k (λ q. pixelsIn (groupOf C m q))
+pixels-by-groups C k m below =
+    sum-eq (C .n) (C .w) (λ i. sum k (λ q. cond (eqb (m i) q) (C .w i) 0))
+    (λ i l. sym (sum-only k (m i) (λ q. C .w i) (below i l)))
+    ∙ sum-swap (C .n) k (λ i q. cond (eqb (m i) q) (C .w i) 0)
+
 -- groups by members that agree weigh the same, whatever is counted
 pub group-sum-same : (C : Colours) (m l : ℕ → ℕ) (q : ℕ) (f : ℕ → ℕ) → ((i : ℕ) → i < C .n → m i ≡ l i)
     → sum (C .n) (λ i. groupOf C m q .w i * f i) ≡ sum (C .n) (λ i. groupOf C l q .w i * f i)

@@ -39,11 +39,16 @@
 --   From f qs            every number of the list is at least f
 --   Bounded C cost       a cost of at least the least, and at most three quarters a pixel above it
 --   SumBounded           the same of costs added up
+--   SignedPoint          three whole numbers a1, a2, a3, of either sign
+--   asSigned p           those of a point
+--   offSquare n x a      (n·x - a)², where a may lie below 0
+--   fractionCost C n a   the weighted sum of (n·coordinate - a)²: n² times what a shade at a / n costs
 pub mod Colouring
 pub mod Rounding
 pub mod Starting
 pub mod Running
 pub mod Leasts
+pub mod Fractions
 pub use Colouring.{Colours, Fair}
 unfoldable pub use Colouring.{
   coloursOf,
@@ -84,3 +89,5 @@ unfoldable pub use Starting.{remote, flat, listed, nextShade, startsFrom, onMean
 unfoldable pub use Running.{mostRounds, beginFrom, begin, roundsMade}
 pub use Leasts.{Fraction, Bounded, SumBounded}
 unfoldable pub use Leasts.{plus, leastSum, From}
+pub use Fractions.{SignedPoint}
+unfoldable pub use Fractions.{asSigned, offSquare, fractionCost}

@@ -1,10 +1,14 @@
 -- Laws of `sq`. `sq-law` says what a square is with no difference in it; the others list it at the right places,
--- and `omega` multiplies the products out.
-use mathlib.Core.Path.{_≡_}
-use Prim.Native.Nat.{ℕ, zero, suc, _+_, _*_, _≤_}
+-- and `omega` multiplies the products out. And the gap as a difference with a sign.
+use mathlib.Core.Bool.{Bool, true, false, cond}
+use mathlib.Core.Path.{_≡_, refl}
+use Prim.Native.Nat.{ℕ, zero, suc, _+_, _-_, _*_, _≤_}
 use native.Mathlib.Decide.{decLe}
 use native.Mathlib.Nat.{mul-le-mul}
 use native.Mathlib.Omega.{arith}
+use lib.Dec.{ltb}
+use lib.IntN.{pos, negsuc, natAbs, _-ℤ_}
+use borrow.Author.Tests.{ltb-true, ltb-false}
 use Rattle.number.specs.Square.{gap, sq}
 
 -- the square of a difference d from a up to b
@@ -46,3 +50,15 @@ sq-halves a b x = omega (arith, sq-law a b, sq-law x a, sq-law x b, sq-law (a + 
 pub sq-most : (a b m : ℕ) → a ≤ m → b ≤ m → sq a b ≤ m * m
 unfolding sq
 sq-most a b m h k = let near : gap a b ≤ m = omega arith in mul-le-mul near near
+
+-- ---- whole numbers with a sign
+
+-- the difference of two numbers is their gap, with or without a sign
+pub difference-is-gap : (a b : ℕ) → natAbs (pos a -ℤ pos b) ≡ gap a b
+difference-is-gap a zero = omega arith
+difference-is-gap a (suc b) = go (ltb a (suc b)) refl
+  where
+    go : (t : Bool) → ltb a (suc b) ≡ t
+        → natAbs (cond t (negsuc (suc b - suc a)) (pos (a - suc b))) ≡ gap a (suc b)
+    go true e = let h = ltb-true a (suc b) e in omega arith
+    go false e = let h = ltb-false a (suc b) e in omega arith

@@ -9,6 +9,7 @@ use native.Mathlib.Omega.{arith}
 use lib.Dec.{eqb}
 use borrow.Author.Tests.{eq-eqb, ne-eqb}
 use Rattle.number.specs.Count.{bit, howMany}
+use Rattle.number.specs.Sum.{sum}
 use Rattle.number.proofs.Cases.{bool, both, never}
 use Rattle.number.proofs.Counts.{howMany-at-most, howMany-counted}
 use Rattle.number.proofs.Searches.{below-or-last}
@@ -88,6 +89,12 @@ howMany-each (suc n) b e i l =
     (λ h. howMany-each n b (omega (arith, howMany-last n b, howMany-at-most n b, one-at-most (b n))) i h)
     (λ h. rw h (one-true (b n) (omega (arith, howMany-last n b, howMany-at-most n b))))
     (below-or-last n i (omega arith))
+
+-- a count is the sum of what each test adds
+pub howMany-sum : (n : ℕ) (b : ℕ → Bool) → howMany n b ≡ sum n (λ i. bit (b i))
+unfolding sum
+howMany-sum zero b = howMany-zero b
+howMany-sum (suc n) b = omega (arith, howMany-last n b, howMany-sum n b)
 
 -- where some pass, one is found
 pub howMany-find : (n : ℕ) (b : ℕ → Bool) → 0 < howMany n b → (i : ℕ) × (i < n) × (b i ≡ true)

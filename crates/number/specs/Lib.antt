@@ -1,6 +1,7 @@
 -- Glossary. Places are the numbers below a count; the count comes first.
 --   sum n f           f 0 + .. + f (n - 1)
 --   sumOf f xs        f added up over the elements of a list
+--   numbersBelow n    the list of the numbers below n
 --   bit test          1 where the test holds, else 0
 --   howMany n b       how many places below n pass the test b
 --   fill n f d        the list d with f 0 .. f (n - 1) in front, the rest kept
@@ -24,7 +25,7 @@ pub mod Fill
 pub mod Search
 pub mod Square
 pub mod Groups
-unfoldable pub use Sum.{sum, sumOf}
+unfoldable pub use Sum.{sum, sumOf, numbersBelow}
 unfoldable pub use Count.{bit, howMany}
 unfoldable pub use Fill.{fill, fillFrom}
 unfoldable pub use Search.{firstBest, least, most, lesserOf, greaterOf, peak, lowest, firstThat}

@@ -6,15 +6,16 @@ use mathlib.Core.Logic.{_⊎_, inl, inr, ⊎-elim}
 use mathlib.Core.Path.{_≡_, refl, sym, _∙_}
 use native.Mathlib.Decide.{decLe, ℕ-discrete}
 use native.Mathlib.Omega.{arith}
-use lib.Dec.{ltb}
+use lib.Dec.{ltb, leb}
 use borrow.Author.Tests.{le-leb, ne-eqb}
 use Rattle.number.specs.{Best}
 use Rattle.number.proofs.Cases.{never}
 use Rattle.number.proofs.Counts.{howMany-at-most}
 use Rattle.number.proofs.Peaks.{least-at-most}
 use Rattle.number.proofs.Searches.{first-below, first-is-best, best-is-first, best-keep, rising}
+use Rattle.number.proofs.Tallies.{howMany-others}
 use Rattle.colour.specs.{Point, distance}
-use Rattle.colour.proofs.Distances.{farther}
+use Rattle.colour.proofs.Distances.{distance-self, farther}
 use Rattle.shades.specs.Places.{mostShades, shadeAt}
 use Rattle.shades.specs.Distances.{toShade, nearestShade, tried, worked, pack, packedNearest}
 
@@ -98,3 +99,11 @@ module _ (s : List ℕ) (k : ℕ) (c : Point) (p : ℕ) where
 -- a search works out at most one distance more than there are shades
 pub worked-at-most : (s : List ℕ) (k : ℕ) (c : Point) (p : ℕ) → worked s k c p ≤ k + 1
 worked-at-most s k c p = omega (arith, howMany-at-most k (tried s c p))
+
+-- from one of the shades it works out at most one distance for each: d is that to p, and p is not among the others
+pub worked-at-most-all : (s : List ℕ) (k : ℕ) (c : Point) (p : ℕ) → p < k → worked s k c p ≤ k
+worked-at-most-all s k c p h =
+    let near : ℕ → Bool = λ q. leb (distance (shadeAt s p) (shadeAt s q)) (4 * toShade s c p) in
+    let zero-away = distance-self (shadeAt s p) in
+    let itself = le-leb (distance (shadeAt s p) (shadeAt s p)) (4 * toShade s c p) (omega arith) in
+    omega (arith, howMany-others k p near h itself, howMany-at-most k near)

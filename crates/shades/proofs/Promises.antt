@@ -8,7 +8,7 @@ use Rattle.number.specs.{Best}
 use Rattle.number.proofs.Promises.{least-is-best, best-is-least}
 use Rattle.colour.specs.{Point}
 use Rattle.shades.specs.Places.{mostShades, samePlace, OnGrid}
-use Rattle.shades.specs.Distances.{toShade, nearestShade, pack, packedNearest}
+use Rattle.shades.specs.Distances.{toShade, nearestShade, worked, pack, packedNearest}
 use Rattle.shades.specs.Tests.{badCoordinates, badCentre}
 use Rattle.shades.proofs.Laying as laying
 use Rattle.shades.proofs.Nearest as nearest
@@ -32,6 +32,10 @@ nearest-only s k c h b = best-is-least k (toShade s c) h b
 pub shortened-is-full : (s : List ℕ) (k : ℕ) (c : Point) (p : ℕ) → p < k → {m d : ℕ}
     → Best (λ a b. a < b) (LookedAt s k c p) (toShade s c) m d → m ≡ nearestShade s k c
 shortened-is-full = nearest.shortened-is-full
+
+-- From one of the k shades it works out at most k distances: never more than the plain search.
+pub worked-at-most-all : (s : List ℕ) (k : ℕ) (c : Point) (p : ℕ) → p < k → worked s k c p ≤ k
+worked-at-most-all = nearest.worked-at-most-all
 
 -- The least of the packed numbers is the nearest shade's.
 pub packed-least : (s : List ℕ) (k : ℕ) (c : Point) → 0 < k → k ≤ mostShades → (q : ℕ) → q < k

@@ -8,7 +8,7 @@ use mathlib.Core.Path.{_≡_, sym, _∙_}
 use native.Mathlib.Omega.{arith}
 use lib.ListN.{getD, length}
 use lib.Dec.{eqb}
-use Rattle.number.specs.{sum, sumOf}
+use Rattle.number.specs.{sum, sumOf, numbersBelow}
 use Rattle.refusal.specs.{done}
 use Rattle.table_test.specs.{Record}
 use Rattle.colour.specs.{Point, distance}
@@ -30,14 +30,17 @@ use Rattle.method.specs.{
   movedOf,
   totalOf,
   onMean,
-  starts,
   begin,
   leastSum,
+  SignedPoint,
+  asSigned,
+  fractionCost,
 }
 use Rattle.method.proofs.Begins.{begin-past, begin-kept}
 use Rattle.method.proofs.Bounds.{from-zero}
 use Rattle.method.proofs.Costs.{to-mean-means}
 use Rattle.method.proofs.Promises.{fraction-at-least, fraction-exactly}
+use Rattle.method.proofs.Promises.{signed-fraction-at-least, signed-fraction-exactly}
 use Rattle.lloyd_tests.specs.{limitOf}
 use Rattle.lloyd.specs.Beginning.{FarthestColour}
 use Rattle.lloyd.specs.Outcomes.{RunOutcome, RunMeets, AcceptedRun, runOf, madeRun, left}
@@ -73,12 +76,18 @@ module _ {rec : Record} {ks ws : List ℕ} {k limit : ℕ} {ms ts : List ℕ} {r
       ≡ meanOf (coloursOf (rec .used) ks ws)
   first-is-mean = accepted.first-is-mean h
 
-  -- Each next shade begins on the table colour whose distance to its nearest shade before it is greatest; every colour
-  -- with a lower key is strictly nearer.
+  -- Each next shade begins on the table colour whose distance to its nearest shade before it, of those that the run
+  -- begins with, is greatest; every colour with a lower key is strictly nearer.
   pub start-is-farthest : (q : ℕ) → q + 1 < k
-      → FarthestColour (rec .used) ks (starts (coloursOf (rec .used) ks ws) (q + 1)) (q + 1)
+      → FarthestColour (rec .used) ks (begin (coloursOf (rec .used) ks ws) k ms .coordinates) (q + 1)
       (shadeAt (begin (coloursOf (rec .used) ks ws) k ms .coordinates) (q + 1))
   start-is-farthest = accepted.start-is-farthest h
+
+  -- No starting shade is chosen twice: the run begins with k shades in k different places.
+  pub starts-differ : (p q : ℕ) → p < q → q < k
+      → ¬ (shadeAt (begin (coloursOf (rec .used) ks ws) k ms .coordinates) p
+      ≡ shadeAt (begin (coloursOf (rec .used) ks ws) k ms .coordinates) q)
+  starts-differ = accepted.starts-differ h
 
   -- ---- its rounds and their totals
 
@@ -110,6 +119,10 @@ module _ {rec : Record} {ks ws : List ℕ} {k limit : ℕ} {ms ts : List ℕ} {r
   pub totals-never-rise : (n : ℕ) → n + 1 < r .rounds → getD totals (n + 1) 0 ≤ getD totals n 0
   totals-never-rise = made.totals-never-rise (making h)
 
+  -- The summed distances are at most one for each shade, used entry and round.
+  pub distances-at-most : r .distances ≤ r .rounds * (rec .used * k)
+  distances-at-most = made.distances-at-most (making h) (accepted.joined h)
+
   -- ---- its final total
 
   -- The final total is not above the last recorded one.
@@ -139,6 +152,17 @@ module _ {rec : Record} {ks ws : List ℕ} {k limit : ℕ} {ms ts : List ℕ} {r
       (sumOf (groupCost (coloursOf (rec .used) ks ws) (left r members)) qs)
   groups-bounded qs = made.groups-bounded (making h) 0 to-mean-means qs (from-zero qs)
 
+  -- In one line, over all groups: the final total is never below what fractional shades could give this grouping, and
+  -- above it by at most three quarters of a squared sixteenth for each of the record's pixels.
+  pub total-bounded : SumBounded
+      (leastSum (groupAt (coloursOf (rec .used) ks ws) (left r members)) (numbersBelow k)) (rec .pixels) (r .total)
+  total-bounded = rw (accepted.pixels-are h) (made.total-bounded (making h) to-mean-means)
+
+  -- The groups' pixels add up to the record's.
+  pub groups-have-all : rec .pixels
+      ≡ sum k (λ q. pixelsIn (groupAt (coloursOf (rec .used) ks ws) (left r members) q))
+  groups-have-all = accepted.pixels-are h ∙ made.groups-have-all (making h)
+
   -- That this is the least: a shade at a / n costs the group no less; both sides stand here times W and n².
   pub group-fraction-at-least : (q n : ℕ) (a : Point)
       → n * n * leastOf (groupAt (coloursOf (rec .used) ks ws) (left r members) q)
@@ -151,6 +175,20 @@ module _ {rec : Record} {ks ws : List ℕ} {k limit : ℕ} {ms ts : List ℕ} {r
       → (let G = groupAt (coloursOf (rec .used) ks ws) (left r members) q in
       pixelsIn G * costAt (drawn (pixelsIn G) G) (sumsOf G) ≡ pixelsIn G * pixelsIn G * leastOf G)
   group-fraction-exactly q = fraction-exactly (groupAt (coloursOf (rec .used) ks ws) (left r members) q)
+
+  -- The same for whole numbers a1, a2, a3 of either sign: wherever a fractional shade stands, also below 0, it costs
+  -- the group no less.
+  pub group-signed-fraction-at-least : (q n : ℕ) (a : SignedPoint)
+      → n * n * leastOf (groupAt (coloursOf (rec .used) ks ws) (left r members) q)
+      ≤ pixelsIn (groupAt (coloursOf (rec .used) ks ws) (left r members) q)
+      * fractionCost (groupAt (coloursOf (rec .used) ks ws) (left r members) q) n a
+  group-signed-fraction-at-least q = signed-fraction-at-least (groupAt (coloursOf (rec .used) ks ws) (left r members) q)
+
+  -- And it is attained, where n is W and each a is its S.
+  pub group-signed-fraction-exactly : (q : ℕ)
+      → (let G = groupAt (coloursOf (rec .used) ks ws) (left r members) q in
+      pixelsIn G * fractionCost G (pixelsIn G) (asSigned (sumsOf G)) ≡ pixelsIn G * pixelsIn G * leastOf G)
+  group-signed-fraction-exactly q = signed-fraction-exactly (groupAt (coloursOf (rec .used) ks ws) (left r members) q)
 
   -- ---- the shades and members it leaves
 
