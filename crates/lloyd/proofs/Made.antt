@@ -4,14 +4,17 @@ use Prim.Native.Nat.{ℕ, _+_, _-_, _*_, _≤_, _<_}
 use mathlib.Core.Bool.{true, false}
 use mathlib.Core.List.{List}
 use mathlib.Core.Path.{_≡_, refl, sym, ap, _∙_}
+use native.Mathlib.Nat.{le-refl}
 use native.Mathlib.Omega.{arith}
 use lib.ListN.{getD, length}
 use lib.Dec.{eqb}
 use borrow.Author.Tests.{eqb-true}
 use Rattle.number.specs.{sum, sumOf}
 use Rattle.number.proofs.Fills.{fill-at, fill-kept}
-use Rattle.colour.specs.{Point, distance}
-use Rattle.shades.specs.{shadeAt, OnGrid}
+use Rattle.number.proofs.Sums.{sum-bound}
+use Rattle.colour.specs.{Point, distance, mostPixels, mostDistance}
+use Rattle.table_entries.specs.{mostEntries}
+use Rattle.shades.specs.{shadeAt, mostShades, OnGrid}
 use Rattle.method.specs.{
   Rule,
   GoodRule,
@@ -35,6 +38,7 @@ use Rattle.method.specs.{
   movedOf,
   finalOf,
   joins,
+  shortDistances,
   roundsMade,
 }
 use Rattle.method.proofs.Bounds.{sum-bounded}
@@ -55,6 +59,7 @@ use Rattle.method.proofs.Falls.{
   rounds-end,
   grouped-below,
 }
+use Rattle.method.proofs.Sizes.{spent-at-most, short-at-most}
 use Rattle.method.proofs.Runs.{made-at-most, made-some, made-last, made-before}
 use Rattle.lloyd.specs.Outcomes.{madeRun, left, RunMeets}
 use Rattle.lloyd.specs.declared.Ran.{Ran}
@@ -132,6 +137,24 @@ module _ {rule : Rule} {C : Colours} {k limit : ℕ} {a : State} {ts : List ℕ}
   shades-fit =
       let f = fit-at (roundsMade limit (quiet rule C k a)) .shades in
       rw (ap (λ (x : Ran). x .shades) (m .meets .answer)) (f .low, f .room)
+
+  -- ---- how large its numbers are
+
+  -- the final total is at most all pixels times the greatest distance
+  pub total-most : r .total ≤ mostPixels * mostDistance
+  total-most =
+      let z = after rule C k a (roundsMade limit (quiet rule C k a)) in
+      rw (ap (λ (x : Ran). x .total) (m .meets .answer))
+      (spent-at-most C (m .fair) (z .coordinates) (fit-at (roundsMade limit (quiet rule C k a)) .shades .low)
+      (λ i. getD (z .members) i 0) (C .n) (le-refl (C .n)))
+
+  -- each round works out at most 65 distances for each entry of a full table
+  pub distances-most : r .distances ≤ r .rounds * (mostEntries * (mostShades + 1))
+  distances-most =
+      rw (ap (λ (x : Ran). x .distances) (m .meets .answer), rounds-made)
+      (sum-bound (roundsMade limit (quiet rule C k a)) (mostEntries * (mostShades + 1))
+      (λ n. shortDistances C k (after rule C k a n))
+      (λ n l. short-at-most C (m .fair) k (after rule C k a n) (m .fit .shades .few)))
 
   -- ---- what stays
 
