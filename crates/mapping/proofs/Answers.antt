@@ -123,6 +123,10 @@ module _ (s p d : List ℕ) (a : ℕ) where
           blue = f _ (omega (arith, each .2));
         })
 
+    -- they are below 2 ^ 53
+    pub errors-below : Bytes s → Bytes p → OfEachError r (λ e. e < mostExact)
+    errors-below strip palette = errors-convert strip palette (λ e. e < mostExact) (λ e l. l)
+
     -- and the figure of each is the nearest
     pub figures-nearest : Bytes s → Bytes p → 0 < pixelCount s
         → OfEachError r (λ e. NearestTo (figure e (pixelCount s)) e (pixelCount s))

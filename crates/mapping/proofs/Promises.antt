@@ -11,7 +11,7 @@ use lib.ListN.{length, getD}
 use lib.Ieee.Exact.{HasValue}
 use Rattle.refusal.specs.{Refusal, numberOf, done, Given, NoneHolds}
 use Rattle.colour.specs.{Bytes, mostPixels}
-use Rattle.figures.specs.{figure, meanValues, NearestTo, zeroFigure}
+use Rattle.figures.specs.{mostExact, figure, meanValues, NearestTo, zeroFigure}
 use Rattle.map_blocks.specs.{pixelCount, NearestEntry, errorOf, errorsOf}
 use Rattle.mapping.specs.Outcomes.{
   manyPixels,
@@ -98,6 +98,11 @@ pub channels-add : (s p d : List ℕ) (a : ℕ)
     → mapStrip s p d a .answer .errors .red + mapStrip s p d a .answer .errors .green
     + mapStrip s p d a .answer .errors .blue ≡ mapStrip s p d a .answer .error
 channels-add = answers.channels-add
+
+-- Each of the four errors is below 2 ^ 53, so that it is converted without loss.
+pub errors-below : (s p d : List ℕ) (a : ℕ) → mapStrip s p d a .answer .refusal ≡ done → Bytes s → Bytes p
+    → OfEachError (mapStrip s p d a .answer) (λ e. e < mostExact)
+errors-below = answers.errors-below
 
 -- With no pixels the mean says so, and the channel means are zeros.
 pub mean-of-none : (s p d : List ℕ) (a : ℕ) → mapStrip s p d a .answer .refusal ≡ done → pixelCount s ≡ 0
