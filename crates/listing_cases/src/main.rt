@@ -1,5 +1,5 @@
-// Inputs listed one after the other, held to the file stdout beside src/: the scope's example, every
-// refusal that a listing can print, one shade, runs of more than two rounds and of 20, 64 shades,
+// Inputs listed one after the other, held to the file stdout beside src/: every refusal that a
+// listing can print, the scope's example, one shade, runs of more than two rounds and of 20, 64 shades,
 // 8,192 pixels and 8,193, 65,536 bytes and 65,537.
 use libc::STDOUT_FILENO;
 use listing::Listing;
@@ -10,11 +10,6 @@ fn show(input: &[u8]) {
     let text = l.text;
     let length = l.length;
     io::write_all(STDOUT_FILENO, &text[..length]);
-}
-
-// The scope's example.
-fn example() {
-    show(b"2\nP6\n2 2\n255\n\0\0\0\0\0\0\0\0\0\n\0\0");
 }
 
 // Count lines that are malformed, and counts that a run refuses: 4.
@@ -40,14 +35,12 @@ fn bad_pictures() {
     show(b"1\nP6 1 1 255 abcd");
 }
 
-// One shade, also with a leading zero in its count.
+// The scope's example; one shade, also with a leading zero in its count; two shades that settle in
+// the fourth round.
 fn accepted() {
+    show(b"2\nP6\n2 2\n255\n\0\0\0\0\0\0\0\0\0\n\0\0");
     show(b"1\nP6 2 1 255 abcdef");
     show(b"01\nP6\n1 2\n255\nabcdef");
-}
-
-// Two shades that settle in the fourth round.
-fn four_rounds() {
     show(b"2\nP6 5 1 255 abaaoksrtfkdtoo");
 }
 
@@ -120,11 +113,9 @@ fn most_bytes() {
 }
 
 fn main() {
-    example();
     bad_counts();
     bad_pictures();
     accepted();
-    four_rounds();
     not_settled();
     most_shades();
     most_pixels();
