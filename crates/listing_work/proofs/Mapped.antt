@@ -1,5 +1,5 @@
--- A picture that passes its tests, and an accepted run on it: its palette and its mapping are accepted, the index picture
--- has a number of a shade for every pixel, and every number that is told is small.
+-- A picture that passes its tests, and an accepted run on it: its palette and its mapping are accepted, the index
+-- picture has a number of a shade for every pixel, and every number that is told is small.
 use Prim.Native.Nat.{ℕ, _+_, _*_, _/_, _^_, _≤_, _<_}
 use mathlib.Core.Bool.{Bool, true, false}
 use mathlib.Core.List.{List}
