@@ -40,6 +40,10 @@ pub text-value : (n : ℕ) → n < 10 ^ mostDecimal
     → decimal (length (decimalText n)) (λ i. getD (decimalText n) i 0) ≡ n
 text-value = values.text-value mostDecimal
 
+-- So numbers of one text are one number.
+pub text-only : (a b : ℕ) → a < 10 ^ mostDecimal → b < 10 ^ mostDecimal → decimalText a ≡ decimalText b → a ≡ b
+text-only = values.text-only mostDecimal
+
 -- Every byte of it is a decimal digit.
 pub text-digits : (n : ℕ) → n < 10 ^ mostDecimal
     → (i : ℕ) → i < length (decimalText n) → isDigit (getD (decimalText n) i 0) ≡ true

@@ -80,6 +80,10 @@ text-value (suc most) n h = elim (shape most n h) [
       ∙ omega (arith, value-last (shortText most (n / 10)) (digitByte (n % 10)), text-value most (n / 10) t)
 ]
 
+-- so numbers of one text are one number
+pub text-only : (most a b : ℕ) → a < 10 ^ most → b < 10 ^ most → shortText most a ≡ shortText most b → a ≡ b
+text-only most a b h l e = sym (text-value most a h) ∙ ap valueOf e ∙ text-value most b l
+
 -- its bytes are digits
 pub text-digits : (most n : ℕ) → n < 10 ^ most → AllDigits (shortText most n)
 unfolding shortText
@@ -91,6 +95,23 @@ text-digits (suc most) n h = elim (shape most n h) [
       (digits-last (shortText most (n / 10)) (digitByte (n % 10)) (text-digits most (n / 10) t)
       (digit-byte (n % 10) (omega arith)))
 ]
+
+-- the first is one, of whatever number
+pub text-begins : (most n : ℕ) → 1 ≤ most → isDigit (getD (shortText most n) 0 0) ≡ true
+unfolding shortText
+text-begins zero n h = absurd (omega arith)
+text-begins (suc most) n h = elim (decLt n 10) [
+  | yes g ↦ rw (short-digit (suc most) n h g) (digit-byte n g)
+  | no g ↦ rw (short-more (suc most) n h (omega arith)) (go most (text-begins most (n / 10)))
+]
+  where
+    go : (k : ℕ) → (1 ≤ k → isDigit (getD (shortText k (n / 10)) 0 0) ≡ true)
+        → isDigit (getD (shortText (suc k - 1) (n / 10) ++ digitByte (n % 10) ∷ []) 0 0) ≡ true
+    go zero f = digit-byte (n % 10) (omega arith)
+    go (suc k) f =
+        let z : suc (suc k) - 1 ≡ suc k = omega arith in
+        let some = short-some (suc k) (n / 10) (omega arith) in
+        rw (z, List·getD-append (shortText (suc k) (n / 10)) (digitByte (n % 10) ∷ []) 0 0 some) (f (omega arith))
 
 -- a number above 0 does not begin with the digit 0
 first-digit : (most n : ℕ) → n < 10 ^ most → 1 ≤ n → getD (shortText most n) 0 0 ≡ digitZero → ⊥

@@ -1,20 +1,21 @@
--- The count line at the front of an input, and the picture behind it.
+-- The count line at the front of an input, exactly what it is, and the picture behind it.
 use Prim.Native.Nat.{ℕ, _+_, _-_, _≤_, _<_}
 use mathlib.Core.Bool.{Bool, true, false, not, _&&_}
 use mathlib.Core.List.{List}
-use mathlib.Core.Logic.{_⊎_, inl, inr}
+use mathlib.Core.Logic.{_↔_, _⊎_, inl, inr}
 use mathlib.Core.Path.{_≡_, refl, sym, ap, _∙_}
 use native.Mathlib.Decide.{ℕ-discrete}
 use native.Mathlib.Omega.{arith}
 use lib.Dec.{leb, eqb}
 use lib.ListN.{length, getD, take, drop, length-drop}
 use lib.Seq.{take-all}
-use borrow.Author.Tests.{lt-leb, le-leb, eq-eqb, ne-eqb}
-use Rattle.grammar.specs.{byteAt, lineFeed, digitsAt, numberAt, placeIn}
+use borrow.Author.Tests.{lt-leb, le-leb, leb-true, eq-eqb, ne-eqb, eqb-true, not-false}
+use Rattle.number.proofs.Cases.{both}
+use Rattle.grammar.specs.{byteAt, lineFeed, isDigit, mostDigits, digitsAt, numberAt, placeIn}
 use Rattle.grammar.specs.declared.Reading.the-variants.{Number, Failed}
-use Rattle.grammar.proofs.Spans.{kind-inside}
+use Rattle.grammar.proofs.Spans.{kind-inside, span-all, span-only}
 use Rattle.p6_header.specs.{readingNumber, readingValues}
-use Rattle.listing.specs.Refusals.{mostInput, badLine, countIn, pictureIn}
+use Rattle.listing.specs.Refusals.{mostInput, badLine, CountLine, countIn, pictureIn}
 
 -- ---- its number
 
@@ -51,6 +52,43 @@ last-fails false b = refl
 -- LF stands inside the input
 pub ended-inside : (s : List ℕ) (n : ℕ) → byteAt s n ≡ lineFeed → n < length s
 ended-inside s n e = kind-inside (λ b. eqb b lineFeed) refl s n (eq-eqb _ _ e)
+
+-- ---- exactly
+
+-- LF is no digit
+feed-not-digit : isDigit lineFeed ≡ false
+unfolding isDigit
+feed-not-digit = refl
+
+-- digits and LF are all digits that stand there
+line-digits : (s : List ℕ) (l : CountLine s) → l .digits ≡ digitsAt s 0
+line-digits s l =
+    let z : 0 + l .digits ≡ l .digits = omega arith in
+    span-only isDigit mostDigits s 0 (l .digits) (omega (arith, l .few)) (l .are)
+    (λ h. ap (λ n. isDigit (byteAt s n)) z ∙ ap isDigit (l .ended) ∙ feed-not-digit)
+
+-- a count line is malformed exactly unless it has 1 or 2 digits, and LF behind them
+pub bad-line-exactly : (s : List ℕ) → (badLine s ≡ false) ↔ CountLine s
+bad-line-exactly s = (
+  λ e.
+      let n = digitsAt s 0 in
+      let t = both (leb 1 n) (leb n 2 && eqb (byteAt s n) lineFeed) (not-false _ e) in
+      let u = both (leb n 2) (eqb (byteAt s n) lineFeed) (t .1) in
+      record {
+        digits = n;
+        some = leb-true 1 n (t .0);
+        few = leb-true n 2 (u .0);
+        are = span-all isDigit mostDigits s 0;
+        ended = eqb-true (byteAt s n) lineFeed (u .1);
+      },
+  λ l.
+      rw (
+        ← line-digits s l,
+        le-leb 1 (l .digits) (l .some),
+        le-leb (l .digits) 2 (l .few),
+        eq-eqb _ _ (l .ended),
+      ),
+)
 
 -- ---- a number that is read
 

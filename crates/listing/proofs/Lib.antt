@@ -8,3 +8,7 @@ pub mod Works
 pub mod Rooms
 -- The text of what they leave, and its length.
 pub mod Texts
+-- Which text is printed exactly when.
+pub mod Orders
+-- The numbers that are printed: the pixels add up, and each is small.
+pub mod Numbers

@@ -1,22 +1,31 @@
 -- What is shown of listings, each theorem in full; its body names the proof.
 -- `listingText s` is the text of the input s (specs/Listings.antt): the contract of `list_shades` says that its answer
 -- is this text in front of zeros, and its length, on every input.
-use Prim.Native.Nat.{ℕ, _≤_}
+use Prim.Native.Nat.{ℕ, suc, _+_, _*_, _^_, _≤_, _<_}
+use mathlib.Core.Bool.{false}
 use mathlib.Core.List.{List}
-use mathlib.Core.Logic.{_⊎_}
+use mathlib.Core.Logic.{_↔_, _⊎_}
 use mathlib.Core.Path.{_≡_, sym, _∙_}
-use lib.ListN.{length}
+use lib.ListN.{length, take, replicate}
+use Rattle.number.specs.{sum}
 use Rattle.refusal.specs.{Refusal, numberOf, done, firstOf, Given, NoneHolds, BAD-COUNT, FEW-COLOURS}
 use Rattle.colour.specs.{Bytes}
-use Rattle.p6.specs.{rasterOf}
+use Rattle.grammar.specs.{mostDecimal}
+use Rattle.shades.specs.{mostCoordinates}
+use Rattle.palette.specs.{paletteFromShades}
+use Rattle.p6.specs.{readPicture, rasterOf}
 use Rattle.texts.specs.{linesOf}
-use Rattle.listing_lines.specs.{mostText, refusedText}
+use Rattle.listing_lines.specs.{mostText, refusedText, fieldAt}
 use Rattle.listing_test.specs.{smallRows}
-use Rattle.listing_work.specs.{tableOf, runTests}
+use Rattle.listing_work.specs.{tableOf, runOn, runTests, mappedRaster}
 use Rattle.listing_work.proofs.Accepted as accepted
-use Rattle.listing.specs.Refusals.{countIn, pictureIn, inputRows}
+use Rattle.listing_work.proofs.Mapped as mapped
+use Rattle.listing.specs.Refusals.{badLine, CountLine, countIn, pictureIn, inputRows, listingRows}
 use Rattle.listing.specs.Listings.{listingLines, pictureText, listingText, listingOf}
 use Rattle.listing.specs.declared.Listing.{Listing}
+use Rattle.listing.proofs.Fronts as fronts
+use Rattle.listing.proofs.Numbers as numbers
+use Rattle.listing.proofs.Orders as orders
 use Rattle.listing.proofs.Texts as texts
 
 -- ---- the contract leaves one answer
@@ -49,6 +58,43 @@ pub run-accepted : (p : List ℕ) (count : ℕ) → NoneHolds (runTests p count)
     → pictureText p count ≡ linesOf (listingLines p count)
 run-accepted = texts.run-accepted
 
+-- ---- exactly when
+
+-- The count line is malformed exactly unless the input begins with one or two digits and LF.
+pub bad-line-exactly : (s : List ℕ) → (badLine s ≡ false) ↔ CountLine s
+bad-line-exactly = fronts.bad-line-exactly
+
+-- `refused N` is printed exactly when N is given by the first test that holds: those of the input, then those of the
+-- run.
+pub listing-refused-exactly : (s : List ℕ) (n : Refusal)
+    → (listingText s ≡ refusedText (numberOf n)) ↔ Given (listingRows s) n
+listing-refused-exactly = orders.listing-refused-exactly
+
+-- Lines are printed exactly when none holds.
+pub listing-accepted-exactly : (s : List ℕ)
+    → (listingText s ≡ linesOf (listingLines (pictureIn s) (countIn s))) ↔ NoneHolds (listingRows s)
+listing-accepted-exactly = orders.listing-accepted-exactly
+
+-- ---- the numbers in the lines
+
+-- There is a line for each shade, one before them and one behind.
+pub lines-count : (s : List ℕ) → NoneHolds (listingRows s)
+    → length (listingLines (pictureIn s) (countIn s)) ≡ countIn s + 2
+lines-count = numbers.lines-of-input
+
+-- The pixels mapped to the shades, the last fields of their lines, add up to the pixels in line 1, and these are
+-- width × height.
+pub pixels-add : (s : List ℕ) → NoneHolds (listingRows s)
+    → (let lines = listingLines (pictureIn s) (countIn s) in
+    (sum (countIn s) (λ q. fieldAt lines (suc q) 4) ≡ fieldAt lines 0 1)
+    × (fieldAt lines 0 1 ≡ readPicture (pictureIn s) .width * readPicture (pictureIn s) .height))
+pixels-add = numbers.pixels-of-input
+
+-- Every number printed is below 10 ^ 20, so that its text is that of the number, whole.
+pub numbers-small : (s : List ℕ) → NoneHolds (listingRows s) → Bytes s → (i j : ℕ)
+    → fieldAt (listingLines (pictureIn s) (countIn s)) i j < 10 ^ mostDecimal
+numbers-small = numbers.numbers-of-input
+
 -- ---- what is never refused there
 
 -- Adding a picture that passes its tests is accepted: there is room for as many colours as it has pixels.
@@ -59,3 +105,13 @@ adding-accepted = accepted.adding-accepted
 pub run-refusals : (p : List ℕ) → firstOf (smallRows p) ≡ done → Bytes (rasterOf p) → (count : ℕ) (n : Refusal)
     → Given (runTests p count) n → (n ≡ BAD-COUNT) ⊎ (n ≡ FEW-COLOURS)
 run-refusals = accepted.run-refusals
+
+-- Where that run is accepted, making the palette of its shades is accepted.
+pub palette-accepted : (p : List ℕ) (count : ℕ) → firstOf (smallRows p) ≡ done → firstOf (runTests p count) ≡ done
+    → paletteFromShades (take (3 * count) (runOn p count .answer .shades)) (replicate mostCoordinates 0) .answer ≡ done
+palette-accepted = mapped.palette-accepted
+
+-- And so is mapping the picture to it.
+pub mapping-accepted : (p : List ℕ) (count : ℕ) → firstOf (smallRows p) ≡ done → firstOf (runTests p count) ≡ done
+    → mappedRaster (rasterOf p) (runOn p count .answer) count .answer .refusal ≡ done
+mapping-accepted = mapped.mapping-accepted

@@ -2,8 +2,10 @@
 -- what they leave of the crate listing_work.
 --   mostInput            65536
 --   badLine, countIn, pictureIn   the count line: malformed, the count it names, the picture behind it
+--   CountLine            the input begins with 1 or 2 digits and LF
 --   longInput            an input over 65,536 bytes
 --   inputRows            the tests before the run, in their order
+--   listingRows          all tests: these, and then the run's
 --   workInput            what the calls leave of an input
 --   workLines, workText  the lines of what is left, and its text
 --   listingLines         the lines of a picture
@@ -22,7 +24,9 @@ unfoldable pub use Refusals.{
   pictureIn,
   longInput,
   inputRows,
+  listingRows,
 }
+pub use Refusals.{CountLine}
 unfoldable pub use Works.{workInput}
 unfoldable pub use Listings.{
   workLines,

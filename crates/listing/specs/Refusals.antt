@@ -1,12 +1,14 @@
 -- When a listing is refused: the count line, the length, the picture's tests, and the run's.
-use Prim.Native.Nat.{ℕ, _+_}
+use Prim.Native.Nat.{ℕ, _+_, _≤_}
 use mathlib.Core.Bool.{Bool, not, _&&_}
-use mathlib.Core.List.{List, _∷_}
+use mathlib.Core.List.{List, _∷_, _++_}
+use mathlib.Core.Path.{_≡_}
 use lib.Dec.{ltb, leb, eqb}
 use lib.ListN.{length, drop}
 use Rattle.refusal.specs.{Row, row, BAD-COUNT, BAD-SIZE}
-use Rattle.grammar.specs.{byteAt, lineFeed, decimal, digitsAt}
+use Rattle.grammar.specs.{byteAt, lineFeed, decimal, digitsAt, Digits}
 use Rattle.listing_test.specs.{smallRows}
+use Rattle.listing_work.specs.{runTests}
 
 -- the most bytes of an input
 abbrev pub mostInput : ℕ
@@ -17,6 +19,14 @@ mostInput = 65536
 -- it is malformed: anything but 1 or 2 digits and LF
 abbrev pub badLine : List ℕ → Bool
 badLine s = not (leb 1 (digitsAt s 0) && (leb (digitsAt s 0) 2 && eqb (byteAt s (digitsAt s 0)) lineFeed))
+
+-- the input begins with one: 1 or 2 digits, and LF
+pub record CountLine (s : List ℕ) : Type 0 where
+  pub digits : ℕ
+  pub some : 1 ≤ digits
+  pub few : digits ≤ 2
+  pub are : Digits s 0 digits
+  pub ended : byteAt s digits ≡ lineFeed
 
 -- the shade count that it names
 abbrev pub countIn : List ℕ → ℕ
@@ -35,3 +45,7 @@ longInput s = ltb mostInput (length s)
 -- the tests before the run, in their order
 abbrev pub inputRows : List ℕ → List Row
 inputRows s = row (badLine s) BAD-COUNT ∷ row (longInput s) BAD-SIZE ∷ smallRows (pictureIn s)
+
+-- all tests: those before the run, and then the run's
+abbrev pub listingRows : List ℕ → List Row
+listingRows s = inputRows s ++ runTests (pictureIn s) (countIn s)

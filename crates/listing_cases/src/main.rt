@@ -1,5 +1,6 @@
 // Inputs listed one after the other, held to the file stdout beside src/: every refusal that a
-// listing can print, one shade, 64 shades, 8,192 pixels and 8,193, 65,536 bytes and 65,537.
+// listing can print, the scope's example, one shade, runs of four rounds and of 20, 64 shades, 8,192
+// pixels and 8,193, 65,536 bytes and 65,537.
 use libc::STDOUT_FILENO;
 use listing::Listing;
 
@@ -34,10 +35,40 @@ fn bad_pictures() {
     show(b"1\nP6 1 1 255 abcd");
 }
 
-// One shade, also with a leading zero in its count.
+// The scope's example; one shade, also with a leading zero in its count; two shades that settle in
+// the fourth round.
 fn accepted() {
+    show(b"2\nP6\n2 2\n255\n\0\0\0\0\0\0\0\0\0\n\0\0");
     show(b"1\nP6 2 1 255 abcdef");
     show(b"01\nP6\n1 2\n255\nabcdef");
+    show(b"2\nP6 5 1 255 abaaoksrtfkdtoo");
+}
+
+// A run that is not settled at 20 rounds: 80 colours on a line, six shades.
+fn not_settled() {
+    let mut input = [0u8; 254];
+    texts::put_word(&mut input, 0, b"6\nP6 80 1 255 ");
+    texts::put_word(
+        &mut input,
+        14,
+        b"!!!!!#!!$!!%!!&!!'!!(!!*!!+!!,!!-!!.!!0!!1!!2!!3!!4!!5!!6!!7!!9!",
+    );
+    texts::put_word(
+        &mut input,
+        78,
+        b"!:!!;!!<!!=!!>!!@!!A!!B!!C!!D!!F!!G!!H!!I!!J!!K!!L!!M!!N!!O!!P!!",
+    );
+    texts::put_word(
+        &mut input,
+        142,
+        b"R!!T!!U!!V!!W!!X!!Y!!Z!![!!]!!^!!_!!a!!b!!c!!d!!e!!f!!g!!h!!i!!j",
+    );
+    texts::put_word(
+        &mut input,
+        206,
+        b"!!k!!l!!m!!n!!q!!r!!u!!v!!w!!x!!y!!z!!{!!|!!}!!~",
+    );
+    show(&input);
 }
 
 // 64 shades of 64 colours.
@@ -70,12 +101,13 @@ fn most_pixels() {
 }
 
 // 65,536 bytes are not too long, so that the blanks after the count line are told: 12. One more is:
-// 13.
+// 13, but a malformed count line is told first: 4.
 fn most_bytes() {
     let mut fits = [32u8; 65536];
     texts::put_word(&mut fits, 0, b"1\n");
     show(&fits);
     let mut long = [32u8; 65537];
+    show(&long);
     texts::put_word(&mut long, 0, b"1\n");
     show(&long);
 }
@@ -84,6 +116,7 @@ fn main() {
     bad_counts();
     bad_pictures();
     accepted();
+    not_settled();
     most_shades();
     most_pixels();
     most_bytes();

@@ -4,3 +4,5 @@ pub mod Promises
 pub mod Lines
 -- The lines of the shades, and all lines.
 pub mod Rows
+-- The lines one by one and their fields; and that no lines are the line of a refusal.
+pub mod Fields

@@ -8,6 +8,7 @@
 --   headFields s         line 1
 --   shadeFields, shadeRows   a shade's line, and those of the first k shades
 --   linesFor s palette index   all lines
+--   fieldAt lines i j    field j of line i, both counted from 0
 pub mod Texts
 pub use declared.Summary.{Summary}
 unfoldable pub use Texts.{
@@ -20,4 +21,5 @@ unfoldable pub use Texts.{
   shadeFields,
   shadeRows,
   linesFor,
+  fieldAt,
 }

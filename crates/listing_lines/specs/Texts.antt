@@ -49,3 +49,7 @@ shadeRows (suc k) palette pixels = shadeRows k palette pixels ++ shadeFields pal
 abbrev pub linesFor : Summary → List ℕ → List ℕ → List (List ℕ)
 linesFor s palette index =
     headFields s ∷ (shadeRows (length palette / 3) palette (mappedTo index) ++ (s .error ∷ []) ∷ [])
+
+-- field j of line i, both counted from 0; where there is none it is 0
+abbrev pub fieldAt : List (List ℕ) → ℕ → ℕ → ℕ
+fieldAt lines i j = getD (getD lines i []) j 0

@@ -39,22 +39,32 @@ module _ (p : List ℕ) (w h d n : ℕ) (e : headerOf p ≡ Read w h d n) where
   small-rest t few = picture-refuses p .number-is ∙ rw (e, t, le-ltb mostListed (w * h) few)
 
 module _ (p : List ℕ) (e : firstOf (smallRows p) ≡ done) where
-  -- a picture that passes is accepted, and its raster has three bytes for each pixel, which are at most 8,192
+  -- a picture that passes is accepted
+  pub small-accepted : readPicture p .refusal ≡ done
+  small-accepted =
+      let none = done-exactly (smallRows p) .0 e in
+      let h = headerOf p in
+      let size = neither (badSize (widthIn h) (heightIn h)) _ (none .1 .0) in
+      picture-refuses p .accepted-exactly .1 (none .0, (size .0, (none .1 .1 .0, (none .1 .1 .1 .0, tt))))
+
+  -- its raster has three bytes for each pixel, which are at most 8,192
   raster-is : (length (rasterOf p) ≡ 3 * (widthIn (headerOf p) * heightIn (headerOf p)))
       × (widthIn (headerOf p) * heightIn (headerOf p) ≤ mostListed)
   raster-is =
       let none = done-exactly (smallRows p) .0 e in
       let h = headerOf p in
-      let size = neither (badSize (widthIn h) (heightIn h)) _ (none .1 .0) in
-      let ok : readPicture p .refusal ≡ done =
-      picture-refuses p .accepted-exactly .1 (none .0, (size .0, (none .1 .1 .0, (none .1 .1 .1 .0, tt)))) in (
-        rw (picture-refuses p .accepted-is ok) at (raster-length p ok),
+      let size = neither (badSize (widthIn h) (heightIn h)) _ (none .1 .0) in (
+        rw (picture-refuses p .accepted-is small-accepted) at (raster-length p small-accepted),
         ltb-false mostListed (widthIn h * heightIn h) (size .1),
       )
 
   -- so it has at most 8,192 pixels
   pub small-raster : length (rasterOf p) / 3 ≤ mostListed
   small-raster = omega (arith, raster-is .0, raster-is .1)
+
+  -- as many as its sides say
+  pub small-pixels : length (rasterOf p) / 3 ≡ readPicture p .width * readPicture p .height
+  small-pixels = omega (arith, raster-length p small-accepted)
 
   -- and whole ones
   pub small-whole : length (rasterOf p) % 3 ≡ 0

@@ -61,7 +61,7 @@ empty-good ks ws = record {
 
 module _ (p : List ℕ) (ok : firstOf (smallRows p) ≡ done) where
   -- the raster is a whole strip
-  raster-whole : badStrip (rasterOf p) ≡ false
+  pub raster-whole : badStrip (rasterOf p) ≡ false
   raster-whole = whole-exactly (rasterOf p) .1 (small-whole p ok)
 
   -- adding it is never refused: there is room for as many colours as it has pixels
@@ -89,7 +89,7 @@ module _ (p : List ℕ) (ok : firstOf (smallRows p) ≡ done) where
     table-good = stays-good emptyRecord listedZeros listedZeros (rasterOf p) bytes (empty-good listedZeros listedZeros)
 
     -- it has at most 8,192 entries
-    few-entries : tableOf p .answer .rec .used ≤ mostListed
+    pub few-entries : tableOf p .answer .rec .used ≤ mostListed
     few-entries =
         let s = rasterOf p in
         let good = bad-table-exactly emptyRecord listedZeros listedZeros .1 (empty-good listedZeros listedZeros) in

@@ -4,3 +4,5 @@ pub mod Works
 pub mod Rooms
 -- What is never refused there: adding the picture, and of the run's tests all but two.
 pub mod Accepted
+-- That palette and mapping are accepted, and what they leave: numbers of shades, and small numbers.
+pub mod Mapped

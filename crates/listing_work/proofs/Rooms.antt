@@ -38,12 +38,12 @@ unfolding listedZeros
 zeros-length = length-replicate {A = ℕ} mostListed 0
 
 -- the lent palette stays as long
-palette-length : (c d : List ℕ) → length (paletteFromShades c d .palette) ≡ length d
+pub palette-length : (c d : List ℕ) → length (paletteFromShades c d .palette) ≡ length d
 palette-length c d =
     refuses-all (palette-refuses c d) (λ o. length (o .palette) ≡ length d) (fill-length (length c) _ d) (λ n. refl)
 
 -- and so does the index picture
-index-length : (s p d : List ℕ) (a : ℕ) → length (mapStrip s p d a .index) ≡ length d
+pub index-length : (s p d : List ℕ) (a : ℕ) → length (mapStrip s p d a .index) ≡ length d
 index-length s p d a =
     refuses-all (map-refuses s p d a) (λ o. length (o .index) ≡ length d) (from-length a (length s / 3) _ d) (λ n. refl)
 

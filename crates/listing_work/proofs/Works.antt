@@ -11,7 +11,7 @@ use Rattle.refusal.proofs.Promises.{done-exactly}
 use Rattle.refusal.proofs.Outcomes.{outcome-made, outcome-refused, refuses}
 use Rattle.table.specs.{Record, Added, AddMeets, emptyRecord, addStrip}
 use Rattle.shades.specs.{mostShades}
-use Rattle.lloyd.specs.{Ran, RunMeets, runOf}
+use Rattle.lloyd.specs.{Ran, RunMeets, AcceptedRun, runOf}
 use Rattle.lloyd.proofs.Promises.{bad-count-exactly, shades-room}
 use Rattle.lloyd.proofs.Wholes.{run-refuses}
 use Rattle.palette.specs.{PaletteMeets, paletteFromShades}
@@ -80,14 +80,18 @@ module _ (p : List ℕ) (count : ℕ) where
   pub run-count : firstOf (runTests p count) ≡ done → count ≤ mostShades
   run-count e = bad-count-exactly count .0 (done-exactly (runTests p count) .0 e .1 .0) .1
 
-  -- and their coordinates are there
+  -- and the run is accepted
+  pub run-is : firstOf (runTests p count) ≡ done
+      → AcceptedRun (tableOf p .answer .rec) (tableOf p .keys) (tableOf p .weights) count 0 listedZeros (replicate 20 0)
+      (runOn p count .answer) (runOn p count .members) (runOn p count .totals)
+  run-is e = record {
+    meets = record { answer = refl; members-are = refl; totals-are = refl };
+    accepted = run-number ∙ e;
+  }
+
+  -- so their coordinates are there
   run-room : firstOf (runTests p count) ≡ done → 3 * count ≤ length (runOn p count .answer .shades)
-  run-room e =
-      shades-room
-      (record {
-        meets = record { answer = refl; members-are = refl; totals-are = refl };
-        accepted = run-number ∙ e;
-      })
+  run-room e = shades-room (run-is e)
 
 -- what the calls answered is the table and the run of the picture
 pub record Ready (p : List ℕ) (count : ℕ) (rec : Record) (ran : Ran) : Type 0 where

@@ -4,7 +4,7 @@ use Prim.Native.Nat.{ℕ, _+_, _-_, _*_, _≤_, _<_}
 use mathlib.Core.Bool.{true, false}
 use mathlib.Core.List.{List}
 use mathlib.Core.Path.{_≡_, refl, sym, ap, _∙_}
-use native.Mathlib.Nat.{le-refl, le-trans}
+use native.Mathlib.Nat.{le-refl, le-trans, mul-le-mul, mul-le-mul-left}
 use native.Mathlib.Omega.{arith}
 use lib.ListN.{getD, length}
 use lib.Dec.{eqb}
@@ -13,8 +13,9 @@ use Rattle.number.specs.{sum, sumOf, numbersBelow}
 use Rattle.number.proofs.Fills.{fill-at, fill-kept}
 use Rattle.number.proofs.ListSums.{sumOf-numbers}
 use Rattle.number.proofs.Sums.{sum-bound}
-use Rattle.colour.specs.{Point, distance}
-use Rattle.shades.specs.{shadeAt, OnGrid}
+use Rattle.colour.specs.{Point, distance, mostPixels, mostDistance}
+use Rattle.table_entries.specs.{mostEntries}
+use Rattle.shades.specs.{shadeAt, mostShades, OnGrid}
 use Rattle.method.specs.{
   Rule,
   GoodRule,
@@ -62,7 +63,7 @@ use Rattle.method.proofs.Falls.{
   grouped-below,
 }
 use Rattle.method.proofs.Runs.{made-at-most, made-some, made-last, made-before}
-use Rattle.method.proofs.Sizes.{short-at-most-plain}
+use Rattle.method.proofs.Sizes.{spent-at-most, short-at-most-plain}
 use Rattle.method.proofs.Totals.{pixels-by-groups}
 use Rattle.lloyd.specs.Outcomes.{madeRun, left, RunMeets}
 use Rattle.lloyd.specs.declared.Ran.{Ran}
@@ -153,6 +154,22 @@ module _ {rule : Rule} {C : Colours} {k limit : ℕ} {a : State} {ts : List ℕ}
   shades-fit =
       let f = fit-at (roundsMade limit (quiet rule C k a)) .shades in
       rw (ap (λ (x : Ran). x .shades) (m .meets .answer)) (f .low, f .room)
+
+  -- ---- how large its numbers are
+
+  -- the final total is at most all pixels times the greatest distance
+  pub total-most : r .total ≤ mostPixels * mostDistance
+  total-most =
+      let z = after rule C k a (roundsMade limit (quiet rule C k a)) in
+      rw (ap (λ (x : Ran). x .total) (m .meets .answer))
+      (spent-at-most C (m .fair) (z .coordinates) (fit-at (roundsMade limit (quiet rule C k a)) .shades .low)
+      (λ i. getD (z .members) i 0) (C .n) (le-refl (C .n)))
+
+  -- and the distances are at most 64 for each entry of a full table in each round
+  pub distances-most : Joined C k a → r .distances ≤ r .rounds * (mostEntries * mostShades)
+  distances-most joined =
+      le-trans (distances-at-most joined)
+      (mul-le-mul-left (r .rounds) (mul-le-mul (m .fair .few) (m .fit .shades .few)))
 
   -- ---- what stays
 

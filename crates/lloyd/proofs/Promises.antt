@@ -61,5 +61,7 @@ pub use Runs.{group-signed-fraction-at-least, group-signed-fraction-exactly}
 pub use Runs.{stands-on-mean, shades-low, shades-room, shades-past}
 -- what the slices have, and what stays in them
 pub use Runs.{member-below, members-kept, totals-kept}
+-- how large the final total and the distances can be
+pub use Runs.{total-most, distances-most}
 -- a settled run: the final total is the last recorded, and every colour is with its nearest shade
 pub use Runs.{settled-final, settled-joined}

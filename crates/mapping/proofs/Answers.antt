@@ -4,20 +4,41 @@ use mathlib.Core.Bool.{false}
 use mathlib.Core.List.{List, [], _∷_}
 use mathlib.Core.Path.{_≡_, refl, sym, ap, _∙_, subst}
 use native.Mathlib.Omega.{arith}
+use lib.Ieee.{Float}
 use lib.ListN.{length, getD}
 use lib.Ieee.Exact.{HasValue}
+use lib.Pow.{pow-pos}
 use borrow.Author.Tests.{ltb-false}
-use Rattle.refusal.specs.{done}
+use Rattle.refusal.specs.{Refusal, numberOf, done}
 use Rattle.refusal.proofs.Outcomes.{outcome-all}
 use Rattle.colour.specs.{Bytes, mostPixels}
 use Rattle.shades.proofs.Checks.{bad-coordinates-exactly}
-use Rattle.figures.specs.{mostExact, figure, meanFigure, channelMeans, meanValues, NearestTo, zeroFigure}
+use Rattle.figures.specs.{
+  Means,
+  mostExact,
+  figure,
+  meanFigure,
+  channelMeans,
+  meanNumber,
+  meanValues,
+  NearestTo,
+  zeroFigure,
+}
 use Rattle.figures.proofs.Promises as figures
 use Rattle.figures.proofs.Nearest.{power-le}
 use Rattle.map_blocks.specs.{pixelCount, NearestEntry, errorOf, errorsOf}
 use Rattle.map_blocks.proofs.Promises as strips
 use Rattle.map_blocks.proofs.Totals.{errors-most}
-use Rattle.mapping.specs.Outcomes.{MapOutcome, mapRows, madeMap, keptMap, mapStrip, OfEachError}
+use Rattle.mapping.specs.Outcomes.{
+  MapOutcome,
+  mapRows,
+  madeMap,
+  keptMap,
+  mapStrip,
+  OfEachError,
+  OfEachFigure,
+  NoFigure,
+}
 use Rattle.mapping.specs.declared.Mapped.{Mapped}
 use Rattle.mapping.proofs.Meaning.{map-refuses, index-at}
 
@@ -34,6 +55,12 @@ module _ (s p d : List ℕ) (a : ℕ) where
       (λ (o : MapOutcome).
       o .answer .errors .red + o .answer .errors .green + o .answer .errors .blue ≡ o .answer .error)
       (strips.channels-add p s (pixelCount s)) (λ n. refl)
+
+  -- a refusal holds no figure
+  pub none-of-refused : (n : Refusal) → r .refusal ≡ numberOf n → NoFigure r
+  none-of-refused n e =
+      rw (ap (λ (o : MapOutcome). o .answer) (map-refuses s p d a .refused-is n e))
+      (record { number = refl; values = refl; zeros = refl })
 
   module _ (ok : r .refusal ≡ done) where
     -- an accepted answer is that of the strip
@@ -96,6 +123,10 @@ module _ (s p d : List ℕ) (a : ℕ) where
           blue = f _ (omega (arith, each .2));
         })
 
+    -- they are below 2 ^ 53
+    pub errors-below : Bytes s → Bytes p → OfEachError r (λ e. e < mostExact)
+    errors-below strip palette = errors-convert strip palette (λ e. e < mostExact) (λ e l. l)
+
     -- and the figure of each is the nearest
     pub figures-nearest : Bytes s → Bytes p → 0 < pixelCount s
         → OfEachError r (λ e. NearestTo (figure e (pixelCount s)) e (pixelCount s))
@@ -109,3 +140,40 @@ module _ (s p d : List ℕ) (a : ℕ) where
     figures-exact k strip palette is =
         let low : k ≤ 24 = power-le k 24 (rw (← is) few) in
         errors-convert strip palette _ (λ e l. figures.figure-exact e k l (omega arith))
+
+    -- ---- the figures that are answered
+
+    -- with no pixels there is none
+    pub none-of-no-pixels : pixelCount s ≡ 0 → NoFigure r
+    none-of-no-pixels z = record {
+      number = ap meanNumber (means-are .0 ∙ ap (meanFigure (r .error)) z);
+      values = mean-of-none z .0;
+      zeros = mean-of-none z .1;
+    }
+
+    -- with some, what holds of the figure of each error holds of each figure answered
+    each-figure : (F : Float → ℕ → Type 0) → 0 < pixelCount s → OfEachError r (λ e. F (figure e (pixelCount s)) e)
+        → OfEachFigure r F
+    each-figure F some each =
+        let made = mean-of-some some .1 in
+        record {
+          number = ap meanNumber (means-are .0) ∙ figures.mean-of-some (r .error) (pixelCount s) some .0;
+          mean = figure (r .error) (pixelCount s);
+          values = mean-of-some some .0;
+          whole = each .whole;
+          red = subst (λ x. F x (r .errors .red)) (sym (ap (λ (m : Means). m .red) made)) (each .red);
+          green = subst (λ x. F x (r .errors .green)) (sym (ap (λ (m : Means). m .green) made)) (each .green);
+          blue = subst (λ x. F x (r .errors .blue)) (sym (ap (λ (m : Means). m .blue) made)) (each .blue);
+        }
+
+    -- so each is the nearest
+    pub means-nearest : Bytes s → Bytes p → 0 < pixelCount s → OfEachFigure r (λ x e. NearestTo x e (pixelCount s))
+    means-nearest strip palette some =
+        each-figure (λ x e. NearestTo x e (pixelCount s)) some (figures-nearest strip palette some)
+
+    -- or exact
+    pub means-exact : (k : ℕ) → Bytes s → Bytes p → pixelCount s ≡ 2 ^ k
+        → OfEachFigure r (λ x e. HasValue x false e (pixelCount s))
+    means-exact k strip palette is =
+        each-figure (λ x e. HasValue x false e (pixelCount s)) (rw is (pow-pos k))
+        (rw is (figures-exact k strip palette is))

@@ -11,7 +11,7 @@ use lib.ListN.{length, getD}
 use lib.Ieee.Exact.{HasValue}
 use Rattle.refusal.specs.{Refusal, numberOf, done, Given, NoneHolds}
 use Rattle.colour.specs.{Bytes, mostPixels}
-use Rattle.figures.specs.{figure, meanValues, NearestTo, zeroFigure}
+use Rattle.figures.specs.{mostExact, figure, meanValues, NearestTo, zeroFigure}
 use Rattle.map_blocks.specs.{pixelCount, NearestEntry, errorOf, errorsOf}
 use Rattle.mapping.specs.Outcomes.{
   manyPixels,
@@ -21,6 +21,8 @@ use Rattle.mapping.specs.Outcomes.{
   mapStrip,
   MapMeets,
   OfEachError,
+  OfEachFigure,
+  NoFigure,
 }
 use Rattle.mapping.specs.Pieces.{joinedStrips, EachWhole, leftBy, inStrips, EachAccepted}
 use Rattle.mapping.specs.declared.Mapped.{Mapped}
@@ -97,6 +99,11 @@ pub channels-add : (s p d : List ℕ) (a : ℕ)
     + mapStrip s p d a .answer .errors .blue ≡ mapStrip s p d a .answer .error
 channels-add = answers.channels-add
 
+-- Each of the four errors is below 2 ^ 53, so that it is converted without loss.
+pub errors-below : (s p d : List ℕ) (a : ℕ) → mapStrip s p d a .answer .refusal ≡ done → Bytes s → Bytes p
+    → OfEachError (mapStrip s p d a .answer) (λ e. e < mostExact)
+errors-below = answers.errors-below
+
 -- With no pixels the mean says so, and the channel means are zeros.
 pub mean-of-none : (s p d : List ℕ) (a : ℕ) → mapStrip s p d a .answer .refusal ≡ done → pixelCount s ≡ 0
     → (meanValues (mapStrip s p d a .answer .mean) ≡ [])
@@ -124,6 +131,27 @@ pub figures-exact : (s p d : List ℕ) (a : ℕ) → mapStrip s p d a .answer .r
     → pixelCount s ≡ 2 ^ k → OfEachError (mapStrip s p d a .answer)
     (λ e. HasValue (figure e (2 ^ k)) false e (2 ^ k))
 figures-exact = answers.figures-exact
+
+-- So with pixels the answered mean holds one figure, the binary64 number nearest to error by pixels, and each answered
+-- channel mean is the nearest to its own error by pixels.
+pub means-nearest : (s p d : List ℕ) (a : ℕ) → mapStrip s p d a .answer .refusal ≡ done → Bytes s → Bytes p
+    → 0 < pixelCount s → OfEachFigure (mapStrip s p d a .answer) (λ x e. NearestTo x e (pixelCount s))
+means-nearest = answers.means-nearest
+
+-- With a pixel count that is a power of two each of these four is of the value error / pixels itself.
+pub means-exact : (s p d : List ℕ) (a : ℕ) → mapStrip s p d a .answer .refusal ≡ done → (k : ℕ) → Bytes s → Bytes p
+    → pixelCount s ≡ 2 ^ k → OfEachFigure (mapStrip s p d a .answer) (λ x e. HasValue x false e (pixelCount s))
+means-exact = answers.means-exact
+
+-- With no pixels the answered mean says so: it holds no figure, and the channel means are zeros.
+pub none-of-no-pixels : (s p d : List ℕ) (a : ℕ) → mapStrip s p d a .answer .refusal ≡ done → pixelCount s ≡ 0
+    → NoFigure (mapStrip s p d a .answer)
+none-of-no-pixels = answers.none-of-no-pixels
+
+-- And so of every refusal.
+pub none-of-refused : (s p d : List ℕ) (a : ℕ) (n : Refusal) → mapStrip s p d a .answer .refusal ≡ numberOf n
+    → NoFigure (mapStrip s p d a .answer)
+none-of-refused = answers.none-of-refused
 
 -- ---- a picture in strips
 

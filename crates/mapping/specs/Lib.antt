@@ -10,6 +10,8 @@
 --   mapStrip             the outcome of a call
 --   MapMeets             the contract: answer and index picture are those of the outcome
 --   OfEachError          a fact of each of the four errors in an answer
+--   OfEachFigure         the mean holds one figure, and a fact of each of the four figures and its own error
+--   NoFigure             the mean says "no pixels", and the channel means are zeros
 --   joinedStrips ss      strips joined from first to last
 --   EachWhole            every strip has whole pixels
 --   Pieced, inStrips     what calls one after the other leave: index picture and errors added up
@@ -29,6 +31,6 @@ unfoldable pub use Outcomes.{
   keptMap,
   mapStrip,
 }
-pub use Outcomes.{MapOutcome, MapMeets, OfEachError}
+pub use Outcomes.{MapOutcome, MapMeets, OfEachError, OfEachFigure, NoFigure}
 unfoldable pub use Pieces.{joinedStrips, EachWhole, leftBy, inStrips, EachAccepted}
 pub use Pieces.{Pieced}

@@ -4,12 +4,13 @@ use mathlib.Core.Bool.{Bool}
 use mathlib.Core.List.{List, [], _∷_}
 use mathlib.Core.Path.{_≡_}
 use lib.Dec.{ltb}
+use lib.Ieee.{Float}
 use lib.ListN.{length}
 use Rattle.number.specs.{fillFrom}
 use Rattle.refusal.specs.{Row, row, outcomeOf, done, BAD-STRIP, BAD-PALETTE, MANY-PIXELS, SHORT-ROOM}
 use Rattle.colour.specs.{badStrip, mostPixels}
 use Rattle.palette.specs.{badPalette}
-use Rattle.figures.specs.{meanFigure, channelMeans}
+use Rattle.figures.specs.{zeroFigure, meanFigure, channelMeans, meanNumber, meanValues}
 use Rattle.map_errors.specs.{Errors}
 use Rattle.map_blocks.specs.{pixelCount, entryFor, errorsOf, errorOf}
 use Rattle.mapping.specs.declared.Mapped.{Mapped}
@@ -84,3 +85,19 @@ pub record OfEachError (r : Mapped) (F : ℕ → Type 0) : Type 0 where
   pub red : F (r .errors .red)
   pub green : F (r .errors .green)
   pub blue : F (r .errors .blue)
+
+-- the mean holds one figure, and a fact of each of the four figures in an answer and its own error
+pub record OfEachFigure (r : Mapped) (F : Float → ℕ → Type 0) : Type 0 where
+  pub number : meanNumber (r .mean) ≡ 1
+  pub mean : Float
+  pub values : meanValues (r .mean) ≡ mean ∷ []
+  pub whole : F mean (r .error)
+  pub red : F (r .means .red) (r .errors .red)
+  pub green : F (r .means .green) (r .errors .green)
+  pub blue : F (r .means .blue) (r .errors .blue)
+
+-- the mean says "no pixels", and the channel means are zeros
+pub record NoFigure (r : Mapped) : Type 0 where
+  pub number : meanNumber (r .mean) ≡ 0
+  pub values : meanValues (r .mean) ≡ []
+  pub zeros : r .means ≡ record { red = zeroFigure; green = zeroFigure; blue = zeroFigure }

@@ -6,7 +6,7 @@ pub mod Sums
 pub mod ListSums
 -- Laws of counts: one place more, and no more than the places.
 pub mod Counts
--- Counts of tests that agree, of places in a row, of all, of some, of all but one, of two.
+-- Counts of tests that agree, of places in a row, of all, of some, of all but one, of two, and by value.
 pub mod Tallies
 -- Values that all differ are no more than the numbers that they can be.
 pub mod Pigeonholes

@@ -1,5 +1,5 @@
 -- More laws of `howMany`: counts of tests that agree, of places in a row, of all, of some, of all but one and of two;
--- and a loop that counts.
+-- counts by value, added up; and a loop that counts.
 use mathlib.Core.Bool.{Bool, true, false, cond, not, _&&_}
 use mathlib.Core.Logic.{inl, inr, ⊎-elim}
 use mathlib.Core.Path.{_≡_, refl, sym, ap, _∙_}
@@ -13,6 +13,7 @@ use Rattle.number.specs.Sum.{sum}
 use Rattle.number.proofs.Cases.{bool, both, never}
 use Rattle.number.proofs.Counts.{howMany-at-most, howMany-counted}
 use Rattle.number.proofs.Searches.{below-or-last}
+use Rattle.number.proofs.Sums.{sum-eq, sum-add, sum-zero, sum-only}
 
 -- a count goes up by what the test adds
 step : (t : Bool) (n : ℕ) → cond t (n + 1) n ≡ n + bit t
@@ -166,6 +167,20 @@ howMany-another n p b h e two =
     let f = howMany-find n (other b p) (omega (arith, howMany-others n p b h e)) in
     let t = both (not (eqb (f .0) p)) (b (f .0)) (f .2) in
     (f .0, f .1, (λ x. never (sym (t .0) ∙ ap not (eq-eqb (f .0) p x))), t .1)
+
+-- where every place has a value below k, the counts of these values add up to the places
+pub howMany-values : (n k : ℕ) (f : ℕ → ℕ) → ((i : ℕ) → i < n → f i < k)
+    → sum k (λ q. howMany n (λ i. eqb (f i) q)) ≡ n
+howMany-values zero k f h =
+    sum-eq k (λ q. howMany 0 (λ i. eqb (f i) q)) (λ q. 0) (λ q l. howMany-zero (λ i. eqb (f i) q)) ∙ sum-zero k
+howMany-values (suc n) k f h =
+    omega (
+      arith,
+      sum-add k (λ q. howMany (suc n) (λ i. eqb (f i) q)) (λ q. howMany n (λ i. eqb (f i) q))
+          (λ q. cond (eqb (f n) q) 1 0) (λ q l. howMany-last n (λ i. eqb (f i) q)),
+      howMany-values n k f (λ i l. h i (omega arith)),
+      sum-only k (f n) (λ q. 1) (h n (omega arith)),
+    )
 
 -- ---- a loop that counts
 

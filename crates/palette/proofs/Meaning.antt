@@ -7,11 +7,11 @@ use mathlib.Core.Path.{_≡_, refl, ap}
 use native.Mathlib.Omega.{arith}
 use lib.ListN.{length, getD}
 use borrow.Author.Tests.{ltb-true, ltb-false, lt-ltb}
-use Rattle.number.proofs.Fills.{fill-at, fill-kept}
+use Rattle.number.proofs.Fills.{fill-at, fill-kept, fill-at-most}
 use Rattle.refusal.specs.{Refusal, numberOf, done, Refuses}
-use Rattle.refusal.proofs.Outcomes.{refuses}
-use Rattle.colour.specs.{mostLevel, mostCoordinate, sixteenth}
-use Rattle.shades.specs.{mostShades}
+use Rattle.refusal.proofs.Outcomes.{refuses, refuses-all}
+use Rattle.colour.specs.{Bytes, mostLevel, mostCoordinate, sixteenth}
+use Rattle.shades.specs.{mostShades, OnGrid}
 use Rattle.shades.proofs.Checks.{bad-coordinates-exactly}
 use Rattle.palette.specs.Palettes.{levelOf, paletteOf}
 use Rattle.palette.specs.Outcomes.{
@@ -60,6 +60,17 @@ module _ (s d : List ℕ) where
   pub palette-refused-kept : (n : Refusal) → paletteFromShades s d .answer ≡ numberOf n
       → paletteFromShades s d .palette ≡ d
   palette-refused-kept n e = ap (λ (o : PaletteOutcome). o .palette) (palette-refuses .refused-is n e)
+
+  -- of shades on the grid the palette is bytes, if what was lent is
+  pub palette-bytes : OnGrid s → Bytes d → Bytes (paletteFromShades s d .palette)
+  palette-bytes low bytes i =
+      omega (
+        arith,
+        refuses-all palette-refuses (λ o. getD (o .palette) i 0 ≤ mostLevel)
+            (fill-at-most (length s) mostLevel (λ j. levelOf (getD s j 0)) d (λ j. level-most (getD s j 0) (low j))
+            (λ j. omega (arith, bytes j)) i)
+            (λ n. omega (arith, bytes i)),
+      )
 
   module _ (ok : paletteFromShades s d .answer ≡ done) where
     -- what is accepted is made

@@ -2,7 +2,7 @@
 -- `paletteFromShades s d` is the outcome of a call (specs/Outcomes.antt): the contract of `palette_from_shades` says
 -- that its answer and the lent bytes are those of this outcome, on every input.
 use Prim.Native.Nat.{ℕ, _+_, _*_, _/_, _≤_, _<_}
-use mathlib.Core.Bool.{true, false}
+use mathlib.Core.Bool.{Bool, true, false}
 use mathlib.Core.List.{List}
 use mathlib.Core.Logic.{_↔_}
 use mathlib.Core.Path.{_≡_, sym, _∙_}
@@ -14,12 +14,16 @@ use Rattle.palette.specs.Palettes.{levelOf}
 use Rattle.palette.specs.Outcomes.{badPalette, shortPalette, paletteRows, paletteFromShades, PaletteMeets}
 use Rattle.palette.proofs.Meaning as meaning
 
--- ---- the contract leaves one answer
+-- ---- the contracts leave one answer
 
 -- Whatever meets the contract of `palette_from_shades` on an input has one answer and one content of the lent bytes.
 pub palette-only : (s d : List ℕ) {r r′ : ℕ} {x x′ : List ℕ} → PaletteMeets (paletteFromShades s d) r x
     → PaletteMeets (paletteFromShades s d) r′ x′ → (r ≡ r′) × (x ≡ x′)
 palette-only s d a b = (a .answer ∙ sym (b .answer), a .palette-is ∙ sym (b .palette-is))
+
+-- Whatever meets the contract of `bad_palette` on an input is one answer.
+pub bad-palette-only : (p : List ℕ) {r r′ : Bool} → r ≡ badPalette p → r′ ≡ badPalette p → r ≡ r′
+bad-palette-only p a b = a ∙ sym b
 
 -- ---- refusals
 

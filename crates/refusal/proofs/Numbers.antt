@@ -1,8 +1,9 @@
 -- A refusal's number tells which refusal it is. The refusals are laid out by number, and each is found at its own.
-use Prim.Native.Nat.{ℕ, zero, suc}
+use Prim.Native.Nat.{ℕ, zero, suc, _≤_}
 use mathlib.Core.Path.{_≡_, refl, sym, ap, _∙_}
 use mathlib.Core.List.{List, [], _∷_}
 use mathlib.Core.Option.{Option, none, some, Option·none-ne-some, Option·some-injective}
+use native.Mathlib.Omega.{arith}
 use Rattle.refusal.specs.Numbers.{
   Refusal,
   BAD-STRIP,
@@ -62,3 +63,21 @@ number-only a b e = Option·some-injective a b (sym (found a) ∙ ap (nth refusa
 -- no refusal has the number of `done`
 pub number-not-done : (a : Refusal) → ¬ (numberOf a ≡ done)
 number-not-done a e = Option·none-ne-some a (sym (ap (nth refusals) e) ∙ found a)
+
+-- the numbers go up to 15
+pub number-most : (a : Refusal) → numberOf a ≤ 15
+number-most BAD-STRIP = omega arith
+number-most BAD-TABLE = omega arith
+number-most FULL = omega arith
+number-most BAD-COUNT = omega arith
+number-most FEW-COLOURS = omega arith
+number-most BAD-LIMIT = omega arith
+number-most SHORT-ROOM = omega arith
+number-most BAD-CENTRE = omega arith
+number-most BAD-MEMBER = omega arith
+number-most BAD-PALETTE = omega arith
+number-most MANY-PIXELS = omega arith
+number-most BAD-HEADER = omega arith
+number-most BAD-SIZE = omega arith
+number-most BAD-DEPTH = omega arith
+number-most BAD-RASTER = omega arith

@@ -55,6 +55,21 @@ pub none-front : (rows more : List Row) → NoneHolds (rows ++ more) → NoneHol
 none-front [] more g = tt
 none-front (r ∷ rows) more (t, g) = (t, none-front rows more g)
 
+-- and none of the others
+pub none-back : (rows more : List Row) → NoneHolds (rows ++ more) → NoneHolds more
+none-back [] more g = g
+none-back (r ∷ rows) more (t, g) = none-back rows more g
+
+-- what is given is given by the first rows, or by the others where none of the first holds
+pub given-split : (rows more : List Row) (n : Refusal) → Given (rows ++ more) n
+    → Given rows n ⊎ (NoneHolds rows × Given more n)
+given-split [] more n g = inr (tt, g)
+given-split (r ∷ rows) more n (inl g) = inl (inl g)
+given-split (r ∷ rows) more n (inr (t, g)) = elim (given-split rows more n g) [
+  | inl f ↦ inl (inr (t, f))
+  | inr f ↦ inr ((t, f .0), f .1)
+]
+
 -- ---- one of the two
 
 -- no test holds, or a refusal is given

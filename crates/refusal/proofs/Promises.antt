@@ -1,5 +1,5 @@
 -- What is shown of the refusals, for whoever cites them. Each body names the proof.
-use Prim.Native.Nat.{ℕ}
+use Prim.Native.Nat.{ℕ, _≤_}
 use mathlib.Core.Path.{_≡_}
 use mathlib.Core.List.{List}
 use mathlib.Core.Logic.{_↔_, _⊎_}
@@ -17,6 +17,10 @@ number-only = numbers.number-only
 -- No refusal has the number that says "done".
 pub number-not-done : (a : Refusal) → ¬ (numberOf a ≡ done)
 number-not-done = numbers.number-not-done
+
+-- The numbers go up to 15.
+pub number-most : (a : Refusal) → numberOf a ≤ 15
+number-most = numbers.number-most
 
 -- A refusal's number is answered exactly when its row is the first whose test holds.
 pub first-exactly : (rows : List Row) (n : Refusal) → (firstOf rows ≡ numberOf n) ↔ Given rows n

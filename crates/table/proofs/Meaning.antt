@@ -4,7 +4,7 @@ use mathlib.Core.Path.{_≡_, refl, sym, ap, _∙_}
 use mathlib.Core.Bool.{true, false}
 use mathlib.Core.Logic.{_↔_, inl, inr}
 use mathlib.Core.List.{List}
-use Prim.Native.Nat.{ℕ, _+_, _≤_, _<_}
+use Prim.Native.Nat.{ℕ, _+_, _/_, _≤_, _<_}
 use native.Mathlib.Omega.{arith}
 use lib.ListN.{length, getD, drop}
 use borrow.Author.Tests.{lt-ltb, ltb-true, ltb-false}
@@ -12,6 +12,7 @@ use Rattle.number.proofs.Cases.{bool}
 use Rattle.refusal.specs.{Refusal, numberOf, done, Refuses}
 use Rattle.refusal.proofs.Outcomes.{refuses}
 use Rattle.colour.specs.{badStrip, Bytes, mostPixels}
+use Rattle.colour.proofs.Strips.{whole-exactly}
 use Rattle.table_entries.specs.{
   Entry,
   entries,
@@ -26,9 +27,9 @@ use Rattle.table_entries.specs.{
   takenOf,
   withTaken,
 }
-use Rattle.table_entries.proofs.Gives.{keys-take, putAll-weight, putAll-sound}
+use Rattle.table_entries.proofs.Gives.{keys-take, putAll-weight, putAll-pixels, putAll-sound}
 use Rattle.table_entries.proofs.Slices.{entries-length, entries-laid, laid-length, laid-kept}
-use Rattle.table_entries.proofs.Strips.{byte-keys}
+use Rattle.table_entries.proofs.Strips.{byte-keys, strip-length}
 use Rattle.table_entries.proofs.Takes.{Prefix, taken-prefix, prefix-only, taken-at-most, taken-all, taken-fits}
 use Rattle.table_test.specs.{Record, roomOf, recordOf, badTable, GoodTable}
 use Rattle.table.specs.Refusals.{full, addRows, addRefusal}
@@ -42,7 +43,7 @@ use Rattle.table.specs.Outcomes.{
   addStrip,
   tableAfter,
 }
-use Rattle.table_test.proofs.Goods.{Good, test-of-good, table-of-good, good-of-table}
+use Rattle.table_test.proofs.Goods.{Good, good-of-test, test-of-good, table-of-good, good-of-table}
 use Rattle.table.proofs.Adds.{outcome-bad-strip, outcome-bad-table, outcome-full, outcome-done}
 
 -- ---- when each refusal is given
@@ -129,6 +130,17 @@ module _ (rec : Record) (ks ws s : List ℕ) where
       (stripKeys s)
   accepted-weights h c =
       ap (weightOf c) (after-accepted (accepted-of-done rec ks ws s h)) ∙ putAll-weight c es ps
+
+  -- the pixels go up by those of the strip
+  pub accepted-pixels : addStrip rec ks ws s .answer .refusal ≡ done
+      → addStrip rec ks ws s .answer .rec .pixels ≡ rec .pixels + length s / 3
+  accepted-pixels h =
+      let a = accepted-of-done rec ks ws s h in
+      let whole = whole-exactly s .0 (a .whole) in
+      let before : pixelsOf es ≡ rec .pixels = ap (λ (r : Record). r .pixels) (good-of-test rec ks ws (a .good) .is) in
+      let after : addStrip rec ks ws s .answer .rec .pixels ≡ pixelsOf (putAll es ps) =
+      ap (λ (r : Record). r .pixels) (taken-after (a .whole) (a .good) .1) ∙ ap pixelsOf (after-accepted a) in
+      omega (arith, before, after, putAll-pixels es ps, strip-length (length s / 3) s (omega arith))
 
   -- ---- a good table stays good
 

@@ -5,7 +5,7 @@ use mathlib.Core.Path.{_≡_, sym, _∙_}
 use mathlib.Core.Bool.{true, false}
 use mathlib.Core.Logic.{_↔_}
 use mathlib.Core.List.{List, [], _++_}
-use Prim.Native.Nat.{ℕ, _+_, _%_, _<_}
+use Prim.Native.Nat.{ℕ, _+_, _/_, _%_, _<_}
 use lib.ListN.{length, getD, drop}
 use Rattle.refusal.specs.{Refusal, numberOf, done, Given, NoneHolds}
 use Rattle.table_entries.specs.{entries, weightOf, stripKeys, countOf, stops, takenOf, withTaken}
@@ -73,6 +73,11 @@ empty-strip-done = joins.empty-strip
 pub accepted-weights : (rec : Record) (ks ws s : List ℕ) → addStrip rec ks ws s .answer .refusal ≡ done → (c : ℕ)
     → weightOf c (tableAfter (addStrip rec ks ws s)) ≡ weightOf c (entries (rec .used) ks ws) + countOf c (stripKeys s)
 accepted-weights = meaning.accepted-weights
+
+-- The pixel total goes up by the pixels of the strip.
+pub accepted-pixels : (rec : Record) (ks ws s : List ℕ) → addStrip rec ks ws s .answer .refusal ≡ done
+    → addStrip rec ks ws s .answer .rec .pixels ≡ rec .pixels + length s / 3
+accepted-pixels = meaning.accepted-pixels
 
 -- A good table is good after any call: keys rise strictly and are keys, weights are at least 1, the pixels are the
 -- sum of the weights.

@@ -11,8 +11,9 @@ use lib.Dec.{eqb}
 use Rattle.number.specs.{sum, sumOf, numbersBelow}
 use Rattle.refusal.specs.{done}
 use Rattle.table_test.specs.{Record}
-use Rattle.colour.specs.{Point, distance}
-use Rattle.shades.specs.{shadeAt, colourAt, nearestShade, OnGrid}
+use Rattle.colour.specs.{Point, distance, mostPixels, mostDistance}
+use Rattle.table_entries.specs.{mostEntries}
+use Rattle.shades.specs.{mostShades, shadeAt, colourAt, nearestShade, OnGrid}
 use Rattle.method.specs.{
   Bounded,
   SumBounded,
@@ -224,6 +225,16 @@ module _ {rec : Record} {ks ws : List ℕ} {k limit : ℕ} {ms ts : List ℕ} {r
   -- Totals past the rounds made stay.
   pub totals-kept : (i : ℕ) → r .rounds ≤ i → getD totals i 0 ≡ getD ts i 0
   totals-kept = made.totals-kept (making h)
+
+  -- ---- how large its numbers are
+
+  -- The final total is at most the most pixels times the greatest distance.
+  pub total-most : r .total ≤ mostPixels * mostDistance
+  total-most = made.total-most (making h)
+
+  -- Each round works out at most 65 distances for each entry of a full table.
+  pub distances-most : r .distances ≤ r .rounds * (mostEntries * mostShades)
+  distances-most = made.distances-most (making h) (accepted.joined h)
 
   -- ---- where it is settled
 

@@ -1,0 +1,130 @@
+-- The numbers of a listing: the pixels of the shades add up to the picture's, and every number has at most 20 digits.
+use Prim.Native.Nat.{ℕ, suc, _+_, _*_, _/_, _^_, _<_}
+use mathlib.Core.List.{List}
+use mathlib.Core.Path.{_≡_, sym, _∙_, subst}
+use native.Mathlib.Omega.{arith}
+use lib.ListN.{length, getD, take}
+use lib.Seq.{getD-drop}
+use Rattle.number.specs.{sum}
+use Rattle.refusal.specs.{done, firstOf, NoneHolds}
+use Rattle.refusal.proofs.Order.{none-front, none-back}
+use Rattle.refusal.proofs.Promises.{done-exactly}
+use Rattle.colour.specs.{Bytes}
+use Rattle.grammar.specs.{mostDecimal, digitsAt}
+use Rattle.p6.specs.{readPicture, rasterOf}
+use Rattle.p6.proofs.Promises.{raster-is-stretch}
+use Rattle.listing_lines.specs.{Summary, mappedTo, fieldAt}
+use Rattle.listing_lines.proofs.Fields.{lines-count, pixels-add, every-field, mapped-most}
+use Rattle.listing_test.specs.{smallRows}
+use Rattle.listing_test.proofs.Smalls.{small-accepted, small-pixels, small-raster}
+use Rattle.listing_work.specs.{tableOf, runOn, runTests, paletteBytes, mappedRaster, summaryOf, workRun}
+use Rattle.listing_work.proofs.Works.{run-count}
+use Rattle.listing_work.proofs.Mapped.{
+  entries-count,
+  entries-bytes,
+  index-count,
+  index-below,
+  table-pixels,
+  head-small,
+  error-small,
+}
+use Rattle.listing.specs.Refusals.{countIn, pictureIn, inputRows, listingRows}
+use Rattle.listing.specs.Listings.{listingLines}
+
+module _ (p : List ℕ) (count : ℕ) (small : firstOf (smallRows p) ≡ done) (ok : firstOf (runTests p count) ≡ done) where
+  -- what is told besides the shades
+  abbrev told : Summary
+  told =
+      summaryOf (tableOf p .answer .rec) (runOn p count .answer)
+      (mappedRaster (rasterOf p) (runOn p count .answer) count .answer .error)
+
+  -- the palette of the shades
+  abbrev palette : List ℕ
+  palette = take (3 * count) (paletteBytes (runOn p count .answer) count)
+
+  -- the index picture
+  abbrev index : List ℕ
+  index = take (length (rasterOf p) / 3) (mappedRaster (rasterOf p) (runOn p count .answer) count .index)
+
+  -- there is a line for each shade, one before them and one behind
+  lines-printed : length (listingLines p count) ≡ count + 2
+  unfolding workRun
+  lines-printed = omega (arith, lines-count told palette index, entries-count p count small ok)
+
+  -- line 1 has the picture's pixels
+  pixels-printed : fieldAt (listingLines p count) 0 1 ≡ readPicture p .width * readPicture p .height
+  unfolding workRun
+  pixels-printed = table-pixels p count small ok ∙ small-pixels p small
+
+  -- those of the shades add up to them
+  shades-add : sum count (λ q. fieldAt (listingLines p count) (suc q) 4) ≡ fieldAt (listingLines p count) 0 1
+  unfolding workRun
+  shades-add =
+      let entries = entries-count p count small ok in
+      let places = index-count p count small ok in
+      subst (λ k. sum k (λ q. fieldAt (listingLines p count) (suc q) 4) ≡ tableOf p .answer .rec .pixels) entries
+      (pixels-add told palette index
+      (λ i h. omega (arith, entries, index-below p count small ok i (omega (arith, places))))
+      ∙ places ∙ sym (table-pixels p count small ok))
+
+  -- every number has at most 20 digits
+  numbers-small : Bytes (rasterOf p) → (i j : ℕ) → fieldAt (listingLines p count) i j < 10 ^ mostDecimal
+  unfolding workRun
+  numbers-small bytes =
+      every-field told palette index (λ n. n < 10 ^ mostDecimal) (omega arith) (head-small p count small ok bytes)
+      (λ q h. (
+        omega (arith, entries-count p count small ok, run-count p count ok),
+        (
+          byte (3 * q),
+          (byte (3 * q + 1), (byte (3 * q + 2), (mapped q, tt))),
+        ),
+      )) (error-small p count small ok bytes)
+    where
+      byte : (i : ℕ) → getD palette i 0 < 10 ^ mostDecimal
+      byte i = omega (arith, entries-bytes p count small ok i)
+
+      mapped : (q : ℕ) → mappedTo index q < 10 ^ mostDecimal
+      mapped q = omega (arith, mapped-most index q, index-count p count small ok, small-raster p small)
+
+-- ---- of an input
+
+module _ (s : List ℕ) (none : NoneHolds (listingRows s)) where
+  -- the picture passes its tests
+  small-of : firstOf (smallRows (pictureIn s)) ≡ done
+  small-of =
+      let rows = runTests (pictureIn s) (countIn s) in
+      done-exactly (smallRows (pictureIn s)) .1 (none-front (inputRows s) rows none .1 .1)
+
+  -- the run is accepted
+  run-of : firstOf (runTests (pictureIn s) (countIn s)) ≡ done
+  run-of =
+      let rows = runTests (pictureIn s) (countIn s) in
+      done-exactly rows .1 (none-back (inputRows s) rows none)
+
+  -- the raster is bytes where the input is
+  raster-bytes : Bytes s → Bytes (rasterOf (pictureIn s))
+  raster-bytes bytes i =
+      let p = pictureIn s in
+      rw (
+        raster-is-stretch p (small-accepted p small-of),
+        getD-drop (readPicture p .start) p i 0,
+        getD-drop (digitsAt s 0 + 1) s (readPicture p .start + i) 0,
+      ) (bytes (digitsAt s 0 + 1 + (readPicture p .start + i)))
+
+  -- a line for each shade, one before them and one behind
+  pub lines-of-input : length (listingLines (pictureIn s) (countIn s)) ≡ countIn s + 2
+  lines-of-input = lines-printed (pictureIn s) (countIn s) small-of run-of
+
+  -- the pixels of the shades add up to the picture's
+  pub pixels-of-input : (let lines = listingLines (pictureIn s) (countIn s) in
+      (sum (countIn s) (λ q. fieldAt lines (suc q) 4) ≡ fieldAt lines 0 1)
+      × (fieldAt lines 0 1 ≡ readPicture (pictureIn s) .width * readPicture (pictureIn s) .height))
+  pixels-of-input = (
+    shades-add (pictureIn s) (countIn s) small-of run-of,
+    pixels-printed (pictureIn s) (countIn s) small-of run-of,
+  )
+
+  -- every number has at most 20 digits
+  pub numbers-of-input : Bytes s → (i j : ℕ)
+      → fieldAt (listingLines (pictureIn s) (countIn s)) i j < 10 ^ mostDecimal
+  numbers-of-input bytes = numbers-small (pictureIn s) (countIn s) small-of run-of (raster-bytes bytes)

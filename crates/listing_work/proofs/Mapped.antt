@@ -1,0 +1,178 @@
+-- A picture that passes its tests, and an accepted run on it: its palette and its mapping are accepted, the index
+-- picture has a number of a shade for every pixel, and every number that is told is small.
+use Prim.Native.Nat.{ℕ, _+_, _*_, _/_, _^_, _≤_, _<_}
+use mathlib.Core.Bool.{Bool, true, false}
+use mathlib.Core.List.{List}
+use mathlib.Core.Path.{_≡_, refl}
+use native.Mathlib.Omega.{arith}
+use lib.ListN.{length, getD, take, replicate, length-replicate}
+use lib.Seq.{length-take-le, getD-take}
+use borrow.Author.Tests.{le-ltb}
+use Rattle.number.specs.{bit}
+use Rattle.number.proofs.Fills.{zeros-at}
+use Rattle.number.proofs.Parts.{take-at-most}
+use Rattle.refusal.specs.{done, firstOf}
+use Rattle.refusal.proofs.Promises.{done-exactly}
+use Rattle.colour.specs.{Bytes, mostLevel, mostCoordinate, mostPixels}
+use Rattle.table.specs.{emptyRecord}
+use Rattle.table.proofs.Promises.{accepted-pixels}
+use Rattle.shades.specs.{mostShades, mostCoordinates, badCoordinates, OnGrid}
+use Rattle.shades.proofs.Checks.{bad-coordinates-exactly, bad-centre-exactly}
+use Rattle.lloyd.specs.{Ran}
+use Rattle.lloyd.proofs.Promises.{
+  bad-count-exactly,
+  limit-is,
+  shades-low,
+  shades-room,
+  rounds-within,
+  total-most,
+  distances-most,
+}
+use Rattle.palette.specs.{paletteFromShades}
+use Rattle.palette.proofs.Meaning.{palette-bytes}
+use Rattle.palette.proofs.Promises.{palette-accepted-exactly}
+use Rattle.mapping.proofs.Promises.{map-accepted-exactly, index-is-nearest, errors-below}
+use Rattle.p6.specs.{rasterOf}
+use Rattle.listing_lines.specs.{Summary, headFields}
+use Rattle.listing_lines.proofs.Fields.{Each}
+use Rattle.listing_test.specs.{smallRows}
+use Rattle.listing_test.proofs.Smalls.{small-raster}
+use Rattle.listing_work.specs.Works.{
+  listedZeros,
+  tableOf,
+  runOn,
+  runTests,
+  paletteBytes,
+  mappedRaster,
+  summaryOf,
+}
+use Rattle.listing_work.proofs.Accepted.{raster-whole, adding-accepted, few-entries}
+use Rattle.listing_work.proofs.Rooms.{zeros-length, palette-length, index-length}
+use Rattle.listing_work.proofs.Works.{run-is}
+
+-- a test as a number is small
+bit-small : (t : Bool) → bit t < 10 ^ 20
+bit-small true = omega arith
+bit-small false = omega arith
+
+module _ (p : List ℕ) (count : ℕ) (small : firstOf (smallRows p) ≡ done) (ok : firstOf (runTests p count) ≡ done) where
+  -- the run's answer
+  abbrev ran : Ran
+  ran = runOn p count .answer
+
+  -- the coordinates of its shades
+  abbrev coordinates : List ℕ
+  coordinates = take (3 * count) (ran .shades)
+
+  -- their palette
+  abbrev palette : List ℕ
+  palette = take (3 * count) (paletteBytes ran count)
+
+  -- the pixels
+  abbrev pixels : ℕ
+  pixels = length (rasterOf p) / 3
+
+  -- there are 1 to 64 shades
+  count-within : (1 ≤ count) × (count ≤ mostShades)
+  count-within = bad-count-exactly count .0 (done-exactly (runTests p count) .0 ok .1 .0)
+
+  -- three places for each are whole shades
+  three-each : (l : List ℕ) → length l ≡ 3 * count → badCoordinates (length l) ≡ false
+  three-each l e =
+      let within = count-within in
+      bad-coordinates-exactly (length l) .1 (omega (arith, e), omega (arith, e), omega (arith, e))
+
+  -- ---- the palette
+
+  -- the coordinates are on the grid
+  on-grid : OnGrid coordinates
+  on-grid = take-at-most (3 * count) mostCoordinate (ran .shades) (shades-low (run-is p count ok))
+
+  -- a palette from them is accepted
+  pub palette-accepted : paletteFromShades coordinates (replicate mostCoordinates 0) .answer ≡ done
+  palette-accepted =
+      let long = length-take-le (3 * count) (ran .shades) (shades-room (run-is p count ok)) in
+      let room : 3 * (length coordinates / 3) ≤ length (replicate {A = ℕ} mostCoordinates 0) =
+      omega (arith, long, count-within .1, length-replicate {A = ℕ} mostCoordinates 0) in
+      palette-accepted-exactly coordinates (replicate mostCoordinates 0) .1
+      (three-each coordinates long, (bad-centre-exactly coordinates .1 on-grid, (le-ltb _ _ room, tt)))
+
+  -- it has three bytes for each shade
+  palette-long : length palette ≡ 3 * count
+  palette-long =
+      length-take-le (3 * count) (paletteBytes ran count)
+      (omega (
+        arith,
+        count-within .1,
+        palette-length coordinates (replicate mostCoordinates 0),
+        length-replicate {A = ℕ} mostCoordinates 0,
+      ))
+
+  -- so it has an entry for each
+  pub entries-count : length palette / 3 ≡ count
+  entries-count = omega (arith, palette-long)
+
+  -- they are bytes
+  pub entries-bytes : Bytes palette
+  entries-bytes i =
+      let each = palette-bytes coordinates (replicate mostCoordinates 0) on-grid
+      (λ j. omega (arith, zeros-at mostCoordinates j)) in
+      omega (arith, take-at-most (3 * count) mostLevel (paletteBytes ran count) (λ j. omega (arith, each j)) i)
+
+  -- ---- the mapping
+
+  -- mapping the raster to it is accepted
+  pub mapping-accepted : mappedRaster (rasterOf p) ran count .answer .refusal ≡ done
+  mapping-accepted =
+      let few = small-raster p small in
+      let room : 0 + pixels ≤ length listedZeros = omega (arith, zeros-length) in
+      let most : pixels ≤ mostPixels = omega arith in
+      map-accepted-exactly (rasterOf p) palette listedZeros 0 .1
+      (raster-whole p small, (three-each palette palette-long, (le-ltb _ _ most, (le-ltb _ _ room, tt))))
+
+  -- there is an index for each pixel
+  pub index-count : length (take pixels (mappedRaster (rasterOf p) ran count .index)) ≡ pixels
+  index-count =
+      length-take-le pixels (mappedRaster (rasterOf p) ran count .index)
+      (omega (arith, small-raster p small, index-length (rasterOf p) palette listedZeros 0, zeros-length))
+
+  -- each is the number of a shade
+  pub index-below : (i : ℕ) → i < pixels → getD (take pixels (mappedRaster (rasterOf p) ran count .index)) i 0 < count
+  index-below i h =
+      let z : 0 + i ≡ i = omega arith in
+      let near = index-is-nearest (rasterOf p) palette listedZeros 0 mapping-accepted i h in
+      rw (getD-take pixels (mappedRaster (rasterOf p) ran count .index) i 0 h)
+      (omega (arith, rw z at (near .entry), entries-count))
+
+  -- ---- the numbers that are told
+
+  -- the table has the picture's pixels
+  pub table-pixels : tableOf p .answer .rec .pixels ≡ pixels
+  table-pixels =
+      omega (arith, accepted-pixels emptyRecord listedZeros listedZeros (rasterOf p) (adding-accepted p small))
+
+  -- what is told besides the shades
+  abbrev told : Summary
+  told = summaryOf (tableOf p .answer .rec) ran (mappedRaster (rasterOf p) ran count .answer .error)
+
+  module _ (bytes : Bytes (rasterOf p)) where
+    -- the numbers of line 1 have at most 20 digits
+    pub head-small : Each (λ n. n < 10 ^ 20) (headFields told)
+    head-small =
+        let run = run-is p count ok in
+        let few = small-raster p small in
+        let rounds : ran .rounds ≤ 20 = omega (arith, rounds-within run .1, limit-is 0 .0 refl) in (
+          omega (arith, few-entries p small bytes count),
+          (
+            omega (arith, table-pixels),
+            (
+              omega arith,
+              (bit-small (ran .settled), (omega (arith, total-most run), (omega (arith, distances-most run), tt))),
+            ),
+          ),
+        )
+
+    -- and so has the error
+    pub error-small : told .error < 10 ^ 20
+    error-small =
+        omega (arith, errors-below (rasterOf p) palette listedZeros 0 mapping-accepted bytes entries-bytes .whole)
