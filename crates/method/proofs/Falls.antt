@@ -26,6 +26,7 @@ use Rattle.method.specs.Rounding.{
   step,
   after,
   Fit,
+  Joined,
 }
 use Rattle.method.proofs.Totals.{total-by-groups, nearest-total-least}
 
@@ -105,6 +106,12 @@ module _ (rule : Rule) (C : Colours) (k : ℕ) (a : State) where
     unfolding after
     after-fit zero = f
     after-fit (suc r) = step-fit C k (after rule C k a r) (after-fit r) rule good fair
+
+    -- and members that are shades' numbers, where they were before
+    pub after-joined : Joined C k a → (r : ℕ) → Joined C k (after rule C k a r)
+    unfolding after
+    after-joined joined zero = joined
+    after-joined joined (suc r) = grouped-below C k (after rule C k a r) (after-fit r)
 
     module _ (r : ℕ) where
       -- what round r leaves costs no more than its total
