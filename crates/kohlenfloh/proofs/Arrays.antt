@@ -1,7 +1,7 @@
 -- An outcome crosses: what meets the contract beneath meets that of the boundary, its answer laid into arrays.
 use Prim.Native.Nat.{ℕ}
 use mathlib.Core.List.{List, [], _∷_}
-use mathlib.Core.Path.{_≡_, ap, _∙_}
+use mathlib.Core.Path.{_≡_, sym, ap, _∙_}
 use lib.Ieee.{Float}
 use Rattle.table.specs.{Record, Added, Outcome, AddMeets, addStrip}
 use Rattle.lloyd.specs.{Rounded, RoundOutcome, RoundMeets, Ran, RunOutcome, RunMeets}
@@ -44,6 +44,16 @@ round-crosses same meets laid = record {
   members-are = meets .members-are ∙ ap (λ b. b .state .members) same;
   answer-is = laid ∙ ap roundNumbers (meets .answer) ∙ ap (λ b. roundNumbers (b .answer)) same;
 }
+
+-- the contract of a round leaves one number, and one content of each slice and array
+pub round-only : {o : RoundOutcome} {r r′ : ℕ} {x x′ y y′ t t′ : List ℕ}
+    → RoundCrosses o r x y t → RoundCrosses o r′ x′ y′ t′ → (r ≡ r′) × (x ≡ x′) × (y ≡ y′) × (t ≡ t′)
+round-only a b = (
+  a .number ∙ sym (b .number),
+  a .coordinates-are ∙ sym (b .coordinates-are),
+  a .members-are ∙ sym (b .members-are),
+  a .answer-is ∙ sym (b .answer-is),
+)
 
 -- a run
 pub run-crosses : {made o : RunOutcome} {a : Ran} {members totals answer : List ℕ}

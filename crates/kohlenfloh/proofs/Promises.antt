@@ -2,33 +2,38 @@
 -- A contract here is that of the call beneath (AddCrosses, RoundCrosses and so on, specs/Crossing.antt): the number is
 -- the refusal of its outcome, and slices and arrays are those of its outcome. Which outcome that is, and what is shown
 -- of it, stands in the promises of table, lloyd, palette, mapping and p6.
-use Prim.Native.Nat.{ℕ}
+use Prim.Native.Nat.{ℕ, _+_, _-_, _*_, _≤_, _<_}
 use mathlib.Core.List.{List, [], _∷_}
 use mathlib.Core.Bool.{true}
 use mathlib.Core.Path.{_≡_, sym, _∙_}
 use lib.Ieee.{Float}
-use lib.ListN.{replicate}
-use Rattle.refusal.specs.{Refusal, numberOf}
-use Rattle.shades.specs.{mostCoordinates}
+use lib.ListN.{getD, length, replicate}
+use Rattle.number.specs.{sum}
+use Rattle.refusal.specs.{Refusal, numberOf, done}
+use Rattle.colour.specs.{Point, distance}
+use Rattle.shades.specs.{mostCoordinates, colourAt}
 use Rattle.figures.specs.{zeroFigure}
-use Rattle.table.specs.{Record, Outcome, handsBack, addStrip}
-use Rattle.method.specs.{State}
-use Rattle.lloyd.specs.{RoundOutcome, RunOutcome, plainRound, shortRound, runOf}
-use Rattle.mapping.specs.{MapOutcome, mapStrip}
+use Rattle.table.specs.{Record, handsBack, addStrip}
+use Rattle.method.specs.{Bounded, State, stateOf, coloursOf, groupAt, groupCost}
+use Rattle.lloyd.specs.{plainRound, shortRound, runOf}
+use Rattle.mapping.specs.{mapStrip}
 use Rattle.p6_header.specs.{headerOf, offsetIn}
-use Rattle.p6.specs.{Picture, readPicture}
+use Rattle.p6.specs.{readPicture}
 use Rattle.arrays.specs.{recordIn, recordNumbers}
 use Rattle.arrays.proofs.Records as records
 use Rattle.kohlenfloh.specs.Crossing.{AddCrosses, RoundCrosses, RunCrosses, MapCrosses, PictureCrosses}
+use Rattle.kohlenfloh.proofs.Arrays as arrays
 use Rattle.kohlenfloh.proofs.Refusing as refusing
+use Rattle.kohlenfloh.proofs.Runs as runs
 
--- ---- each contract leaves one number, and one content of each slice and array
+-- ---- each contract leaves one number, and one content of each slice and array, on every input
 
 -- Of kf_add_strip.
-pub add-only : (o : Outcome) {r r′ : ℕ} {rec rec′ ks ks′ ws ws′ t t′ : List ℕ}
-    → AddCrosses o r rec ks ws t → AddCrosses o r′ rec′ ks′ ws′ t′
-    → (r ≡ r′) × (rec ≡ rec′) × (ks ≡ ks′) × (ws ≡ ws′) × (t ≡ t′)
-add-only o a b = (
+pub add-only : (s ks ws strip : List ℕ) {r r′ : ℕ} {rec rec′ x x′ y y′ t t′ : List ℕ}
+    → AddCrosses (addStrip (recordIn s) ks ws strip) r rec x y t
+    → AddCrosses (addStrip (recordIn s) ks ws strip) r′ rec′ x′ y′ t′
+    → (r ≡ r′) × (rec ≡ rec′) × (x ≡ x′) × (y ≡ y′) × (t ≡ t′)
+add-only s ks ws strip a b = (
   a .number ∙ sym (b .number),
   a .rec-is ∙ sym (b .rec-is),
   a .keys-are ∙ sym (b .keys-are),
@@ -36,22 +41,26 @@ add-only o a b = (
   a .taken-is ∙ sym (b .taken-is),
 )
 
--- Of kf_plain_round and kf_short_round.
-pub round-only : (o : RoundOutcome) {r r′ : ℕ} {cs cs′ ms ms′ s s′ : List ℕ}
-    → RoundCrosses o r cs ms s → RoundCrosses o r′ cs′ ms′ s′
-    → (r ≡ r′) × (cs ≡ cs′) × (ms ≡ ms′) × (s ≡ s′)
-round-only o a b = (
-  a .number ∙ sym (b .number),
-  a .coordinates-are ∙ sym (b .coordinates-are),
-  a .members-are ∙ sym (b .members-are),
-  a .answer-is ∙ sym (b .answer-is),
-)
+-- Of kf_plain_round.
+pub plain-only : (s ks ws cs ms : List ℕ) {r r′ : ℕ} {x x′ y y′ t t′ : List ℕ}
+    → RoundCrosses (plainRound (recordIn s) ks ws (stateOf cs ms)) r x y t
+    → RoundCrosses (plainRound (recordIn s) ks ws (stateOf cs ms)) r′ x′ y′ t′
+    → (r ≡ r′) × (x ≡ x′) × (y ≡ y′) × (t ≡ t′)
+plain-only s ks ws cs ms = arrays.round-only
+
+-- Of kf_short_round.
+pub short-only : (s ks ws cs ms : List ℕ) {r r′ : ℕ} {x x′ y y′ t t′ : List ℕ}
+    → RoundCrosses (shortRound (recordIn s) ks ws (stateOf cs ms)) r x y t
+    → RoundCrosses (shortRound (recordIn s) ks ws (stateOf cs ms)) r′ x′ y′ t′
+    → (r ≡ r′) × (x ≡ x′) × (y ≡ y′) × (t ≡ t′)
+short-only s ks ws cs ms = arrays.round-only
 
 -- Of kf_run.
-pub run-only : (o : RunOutcome) {r r′ : ℕ} {ms ms′ ts ts′ shades shades′ s s′ : List ℕ}
-    → RunCrosses o r ms ts shades s → RunCrosses o r′ ms′ ts′ shades′ s′
-    → (r ≡ r′) × (ms ≡ ms′) × (ts ≡ ts′) × (shades ≡ shades′) × (s ≡ s′)
-run-only o a b = (
+pub run-only : (s ks ws : List ℕ) (k limit : ℕ) (ms ts : List ℕ) {r r′ : ℕ} {x x′ y y′ shades shades′ t t′ : List ℕ}
+    → RunCrosses (runOf (recordIn s) ks ws k limit ms ts) r x y shades t
+    → RunCrosses (runOf (recordIn s) ks ws k limit ms ts) r′ x′ y′ shades′ t′
+    → (r ≡ r′) × (x ≡ x′) × (y ≡ y′) × (shades ≡ shades′) × (t ≡ t′)
+run-only s ks ws k limit ms ts a b = (
   a .number ∙ sym (b .number),
   a .members-are ∙ sym (b .members-are),
   a .totals-are ∙ sym (b .totals-are),
@@ -60,9 +69,10 @@ run-only o a b = (
 )
 
 -- Of kf_map_strip. That of kf_palette_from_shades is `palette-only` of palette: its contract is the one beneath.
-pub map-only : (o : MapOutcome) {r r′ : ℕ} {x x′ s s′ : List ℕ} {m m′ : List Float}
-    → MapCrosses o r x s m → MapCrosses o r′ x′ s′ m′ → (r ≡ r′) × (x ≡ x′) × (s ≡ s′) × (m ≡ m′)
-map-only o a b = (
+pub map-only : (strip p d : List ℕ) (first : ℕ) {r r′ : ℕ} {x x′ s s′ : List ℕ} {m m′ : List Float}
+    → MapCrosses (mapStrip strip p d first) r x s m → MapCrosses (mapStrip strip p d first) r′ x′ s′ m′
+    → (r ≡ r′) × (x ≡ x′) × (s ≡ s′) × (m ≡ m′)
+map-only strip p d first a b = (
   a .number ∙ sym (b .number),
   a .index-is ∙ sym (b .index-is),
   a .answer-is ∙ sym (b .answer-is),
@@ -70,9 +80,9 @@ map-only o a b = (
 )
 
 -- Of kf_read_picture.
-pub picture-only : (p : Picture) {r r′ : ℕ} {s s′ : List ℕ}
-    → PictureCrosses p r s → PictureCrosses p r′ s′ → (r ≡ r′) × (s ≡ s′)
-picture-only p a b = (a .number ∙ sym (b .number), a .answer-is ∙ sym (b .answer-is))
+pub picture-only : (input : List ℕ) {r r′ : ℕ} {s s′ : List ℕ}
+    → PictureCrosses (readPicture input) r s → PictureCrosses (readPicture input) r′ s′ → (r ≡ r′) × (s ≡ s′)
+picture-only input a b = (a .number ∙ sym (b .number), a .answer-is ∙ sym (b .answer-is))
 
 -- ---- the record
 
@@ -87,6 +97,11 @@ pub add-refused : (s ks ws strip : List ℕ) (n : Refusal) → handsBack (number
     → {rec ks′ ws′ t : List ℕ} → AddCrosses (addStrip (recordIn s) ks ws strip) (numberOf n) rec ks′ ws′ t
     → (rec ≡ recordNumbers (recordIn s)) × (ks′ ≡ ks) × (ws′ ≡ ws) × (t ≡ 0 ∷ [])
 add-refused = refusing.add-refused
+
+-- The record's array, which has two numbers, is then as it came.
+pub record-as-it-came : (s ks ws strip : List ℕ) (n : Refusal) → handsBack (numberOf n) ≡ true → length s ≡ 2
+    → {rec ks′ ws′ t : List ℕ} → AddCrosses (addStrip (recordIn s) ks ws strip) (numberOf n) rec ks′ ws′ t → rec ≡ s
+record-as-it-came = refusing.record-as-it-came
 
 -- A refused plain round leaves zeros in the answer, and both slices as they came.
 pub plain-refused : (rec : Record) (ks ws : List ℕ) (a : State) (n : Refusal) {cs ms s : List ℕ}
@@ -117,3 +132,29 @@ map-refused = refusing.map-refused
 pub picture-refused : (input : List ℕ) (n : Refusal) {s : List ℕ}
     → PictureCrosses (readPicture input) (numberOf n) s → s ≡ offsetIn (headerOf input) ∷ 0 ∷ 0 ∷ 0 ∷ []
 picture-refused = refusing.picture-refused
+
+-- ---- what an accepted run leaves: its number is 0; in the answer's array the rounds made stand at place 0, the final
+-- total at place 3
+
+module _ (s ks ws : List ℕ) (k limit : ℕ) (ms ts : List ℕ) {members totals shades answer : List ℕ}
+    (h : RunCrosses (runOf (recordIn s) ks ws k limit ms ts) done members totals shades answer) where
+  -- The recorded totals never rise.
+  pub totals-never-rise : (n : ℕ) → n + 1 < getD answer 0 0 → getD totals (n + 1) 0 ≤ getD totals n 0
+  totals-never-rise = runs.totals-never-rise s ks ws k limit ms ts h
+
+  -- The final total is not above the last recorded one.
+  pub final-at-most-last : getD answer 3 0 ≤ getD totals (getD answer 0 0 - 1) 0
+  final-at-most-last = runs.final-at-most-last s ks ws k limit ms ts h
+
+  -- For the grouping in the members no other shades, with any whole coordinates, give a smaller total.
+  pub final-is-least : (z : ℕ → Point)
+      → getD answer 3 0
+      ≤ sum (recordIn s .used) (λ i. getD ws i 0 * distance (colourAt ks i) (z (getD members i 0)))
+  final-is-least = runs.final-is-least s ks ws k limit ms ts h
+
+  -- Group by group, times 4W: the cost is never below the least that fractional shades could give this grouping, and
+  -- above it by at most three quarters of a squared sixteenth a pixel; an empty group costs nothing.
+  pub group-bounded : (q : ℕ)
+      → Bounded (groupAt (coloursOf (recordIn s .used) ks ws) (stateOf shades members) q)
+      (groupCost (coloursOf (recordIn s .used) ks ws) (stateOf shades members) q)
+  group-bounded = runs.group-bounded s ks ws k limit ms ts h

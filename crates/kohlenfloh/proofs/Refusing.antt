@@ -4,7 +4,7 @@ use mathlib.Core.List.{List, [], _∷_}
 use mathlib.Core.Bool.{true}
 use mathlib.Core.Path.{_≡_, ap, sym, _∙_}
 use lib.Ieee.{Float}
-use lib.ListN.{replicate}
+use lib.ListN.{length, replicate}
 use Rattle.refusal.specs.{Refusal, numberOf}
 use Rattle.shades.specs.{mostCoordinates}
 use Rattle.figures.specs.{zeroFigure}
@@ -27,6 +27,7 @@ use Rattle.arrays.specs.{
   mapFigures,
   pictureNumbers,
 }
+use Rattle.arrays.proofs.Records.{array-kept}
 use Rattle.kohlenfloh.specs.Crossing.{AddCrosses, RoundCrosses, RunCrosses, MapCrosses, PictureCrosses}
 
 -- an add that hands everything back
@@ -40,6 +41,11 @@ add-refused s ks ws strip n back c =
       c .weights-are ∙ ap (λ o. o .weights) e,
       c .taken-is ∙ ap (λ o. o .answer .taken ∷ []) e,
     )
+
+-- in an array of two numbers the record is as it came
+pub record-as-it-came : (s ks ws strip : List ℕ) (n : Refusal) → handsBack (numberOf n) ≡ true → length s ≡ 2
+    → {rec ks′ ws′ t : List ℕ} → AddCrosses (addStrip (recordIn s) ks ws strip) (numberOf n) rec ks′ ws′ t → rec ≡ s
+record-as-it-came s ks ws strip n back two c = add-refused s ks ws strip n back c .0 ∙ array-kept s two
 
 -- a round whose outcome is that of a refusal
 round-refused : {o : RoundOutcome} (a : State) (n : ℕ) → o ≡ keptRound a n

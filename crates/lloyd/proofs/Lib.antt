@@ -10,3 +10,7 @@ pub mod Beginnings
 pub mod Made
 -- What every accepted run answers and leaves.
 pub mod Accepted
+-- A run depends on the used entries alone.
+pub mod Used
+-- The rounds of a run as calls of single rounds, and what a settled run leaves lent to one.
+pub mod Calls

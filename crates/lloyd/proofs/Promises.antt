@@ -16,7 +16,7 @@ pub use Rattle.lloyd_rounds.proofs.Promises.{plain-accepted-exactly, short-acce
 -- a refused one answers its number and zeros, and no slice changes
 pub use Rattle.lloyd_rounds.proofs.Promises.{plain-refused, short-refused}
 -- the contract determines the answer and both lent slices
-pub use Rattle.lloyd_rounds.proofs.Promises.{round-only}
+pub use Rattle.lloyd_rounds.proofs.Promises.{plain-only, short-only}
 -- an accepted round is a round of Lloyd's rule, with its distances counted
 pub use Rattle.lloyd_rounds.proofs.Promises.{plain-accepted, short-accepted}
 -- each used member becomes the nearest shade
@@ -35,8 +35,6 @@ pub use Refusing.{run-refused-exactly, run-accepted-exactly}
 pub use Refusing.{run-refused}
 -- ---- Promises/Runs.antt: runs
 pub mod Runs
--- the contract determines the answer and both lent slices
-pub use Runs.{run-only}
 -- an accepted run makes rounds of Lloyd's rule from the starting shades
 pub use Runs.{run-accepted}
 -- it begins with the rounded mean of the table, and then each time with the farthest colour
@@ -65,3 +63,13 @@ pub use Runs.{member-below, members-kept, totals-kept}
 pub use Runs.{total-most, distances-most}
 -- a settled run: the final total is the last recorded, and every colour is with its nearest shade
 pub use Runs.{settled-final, settled-joined}
+-- ---- Promises/Calls.antt: the calls beside one another
+pub mod Calls
+-- the contract of a run determines the answer and both lent slices
+pub use Calls.{run-only}
+-- a run depends on the used entries alone
+pub use Calls.{run-of-used}
+-- its rounds are calls of short_round, one after the other, each accepted, with its totals and distances
+pub use Calls.{calls-are-rounds, call-accepted, call-total, call-moved, calls-distances, calls-leave}
+-- a single round on what a settled run leaves changes nothing
+pub use Calls.{settled-short, settled-plain}

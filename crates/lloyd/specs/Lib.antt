@@ -12,8 +12,12 @@
 --   AcceptedRun            answer and slices are those of a run that is accepted
 --   FarthestColour         a table colour is the farthest from its nearest shade, lowest key at a tie
 --   left r members         the shades and the members that a run leaves
+--   shortCalls             what calls of short_round leave, each on what the one before left
+--   lentStart              where a run begins, three coordinates for each shade
+--   Stays o a total        a round is accepted and changes nothing, and answers this total
 pub mod Outcomes
 pub mod Beginning
+pub mod Calling
 unfoldable pub use Rattle.lloyd_tests.specs.{
   usualLimit,
   limitOf,
@@ -41,3 +45,5 @@ unfoldable pub use Rattle.lloyd_refusal.specs.{runRows}
 pub use Outcomes.{RunOutcome, RunMeets, AcceptedBy, AcceptedRun}
 unfoldable pub use Outcomes.{refusedRun, keptRun, madeRun, runBy, runOf, left}
 pub use Beginning.{FarthestColour}
+pub use Calling.{Stays}
+unfoldable pub use Calling.{shortCalls, lentStart}

@@ -4,3 +4,5 @@ pub mod Promises
 pub mod Rounds
 -- The ways out of a single round.
 pub mod Ways
+-- Single rounds that are accepted.
+pub mod Accepts

@@ -3,7 +3,7 @@
 use Prim.Native.Nat.{ℕ, _/_, _≤_, _<_}
 use mathlib.Core.List.{List}
 use mathlib.Core.Logic.{_↔_}
-use mathlib.Core.Path.{_≡_, sym, _∙_}
+use mathlib.Core.Path.{_≡_}
 use lib.ListN.{getD, length}
 use Rattle.refusal.specs.{Refusal, numberOf, done, Given, NoneHolds}
 use Rattle.table_test.specs.{Record}
@@ -11,7 +11,6 @@ use Rattle.shades.specs.{colourAt, nearestShade}
 use Rattle.method.specs.{State, coloursOf, toMean, plainDistances, shortDistances}
 use Rattle.lloyd_rounds.specs.Refusals.{plainRows, shortRows}
 use Rattle.lloyd_rounds.specs.Outcomes.{
-  RoundOutcome,
   RoundMeets,
   plainRound,
   shortRound,
@@ -57,11 +56,17 @@ short-refused rec ks ws a = rounds.short-refuses rec ks ws a .refused-is
 
 -- ---- the contract
 
--- A single round's contract determines its answer and the final contents of both lent slices.
-pub round-only : (o : RoundOutcome) (r r′ : Rounded) (cs cs′ ms ms′ : List ℕ) → RoundMeets o r cs ms
-    → RoundMeets o r′ cs′ ms′ → (r ≡ r′) × (cs ≡ cs′) × (ms ≡ ms′)
-round-only o r r′ cs cs′ ms ms′ a b =
-    (a .answer ∙ sym (b .answer), a .coordinates-are ∙ sym (b .coordinates-are), a .members-are ∙ sym (b .members-are))
+-- Whatever meets the contract of `plain_round` on an input has one answer and one content of each lent slice.
+pub plain-only : (rec : Record) (ks ws : List ℕ) (a : State) {r r′ : Rounded} {cs cs′ ms ms′ : List ℕ}
+    → RoundMeets (plainRound rec ks ws a) r cs ms → RoundMeets (plainRound rec ks ws a) r′ cs′ ms′
+    → (r ≡ r′) × (cs ≡ cs′) × (ms ≡ ms′)
+plain-only rec ks ws a = rounds.meets-only
+
+-- And so has whatever meets that of `short_round`.
+pub short-only : (rec : Record) (ks ws : List ℕ) (a : State) {r r′ : Rounded} {cs cs′ ms ms′ : List ℕ}
+    → RoundMeets (shortRound rec ks ws a) r cs ms → RoundMeets (shortRound rec ks ws a) r′ cs′ ms′
+    → (r ≡ r′) × (cs ≡ cs′) × (ms ≡ ms′)
+short-only rec ks ws a = rounds.meets-only
 
 -- ---- an accepted round
 

@@ -2,7 +2,7 @@
 use Prim.Native.Nat.{ℕ, _/_, _≤_, _<_}
 use mathlib.Core.Bool.{false}
 use mathlib.Core.List.{List, [], _∷_}
-use mathlib.Core.Path.{_≡_, refl}
+use mathlib.Core.Path.{_≡_, refl, sym, _∙_}
 use lib.ListN.{getD, length}
 use borrow.Author.Tests.{ltb-false}
 use Rattle.number.proofs.Fills.{fill-kept}
@@ -18,11 +18,25 @@ use Rattle.method.proofs.Sizes.{short-at-most-plain}
 use Rattle.rounds_step.specs.{Steppable, Walkable}
 use Rattle.lloyd_tests.specs.{shortMembers, badMember}
 use Rattle.lloyd_rounds.specs.Refusals.{plainRows, memberRow, shortRows}
-use Rattle.lloyd_rounds.specs.Outcomes.{RoundOutcome, madeRound, keptRound, plainRound, shortRound}
+use Rattle.lloyd_rounds.specs.Outcomes.{
+  RoundOutcome,
+  RoundMeets,
+  madeRound,
+  keptRound,
+  plainRound,
+  shortRound,
+}
+use Rattle.lloyd_rounds.specs.declared.Rounded.{Rounded}
 use Rattle.lloyd_tests.proofs.Checks.{bad-member-exactly}
 use Rattle.lloyd_tests.proofs.Tables.{tabled-of-test}
 
 -- ---- a round of either kind
+
+-- the contract of an outcome leaves one answer and one content of each lent slice
+pub meets-only : {o : RoundOutcome} {r r′ : Rounded} {cs cs′ ms ms′ : List ℕ} → RoundMeets o r cs ms
+    → RoundMeets o r′ cs′ ms′ → (r ≡ r′) × (cs ≡ cs′) × (ms ≡ ms′)
+meets-only a b =
+    (a .answer ∙ sym (b .answer), a .coordinates-are ∙ sym (b .coordinates-are), a .members-are ∙ sym (b .members-are))
 
 -- members past the used entries stay, on every input
 outcome-kept : {rows : List Row} {o : RoundOutcome} (C : Colours) (k : ℕ) (a : State)

@@ -7,10 +7,9 @@ use lib.Dec.{ltb}
 use lib.ListN.{length, getD, replicate, length-replicate}
 use Rattle.number.specs.{fill}
 use Rattle.number.proofs.Fills.{fill-at, fill-at-most, fill-length, fill-same, zeros-at}
-use Rattle.number.proofs.Searches.{first-same}
 use Rattle.colour.specs.{Point, Bytes, distance, mostCoordinate}
 use Rattle.shades.specs.{mostCoordinates, shadeAt, toShade, nearestShade, Shades}
-use Rattle.shades.proofs.Nearest.{nearest-below}
+use Rattle.shades.proofs.Nearest.{nearest-below, nearest-same}
 use Rattle.map_errors.specs.{Errors, pixelAt, missesOf}
 use Rattle.map_block.specs.{nearestTo}
 use Rattle.map_blocks.specs.Meaning.{entryCount, entryFor, errorsOf}
@@ -25,13 +24,9 @@ module _ (s t : List ℕ) (k : ℕ) (agree : (i : ℕ) → i < 3 * k → getD s 
   shade-same q l =
       rw (agree (3 * q) (omega arith), agree (3 * q + 1) (omega arith), agree (3 * q + 2) (omega arith))
 
-  -- so they have the same nearest
-  nearest-same : (c : Point) → nearestShade s k c ≡ nearestShade t k c
-  nearest-same c = first-same ltb k (toShade s c) (toShade t c) (λ q l. ap (distance c) (shade-same q l))
-
-  -- which stands where it stands in the other
+  -- so the nearest stands where it stands in the other
   nearest-stands : 0 < k → (c : Point) → shadeAt s (nearestShade s k c) ≡ shadeAt t (nearestShade t k c)
-  nearest-stands some c = ap (shadeAt s) (nearest-same c) ∙ shade-same _ (nearest-below t k c some)
+  nearest-stands some c = ap (shadeAt s) (nearest-same s t k shade-same c) ∙ shade-same _ (nearest-below t k c some)
 
   -- and a strip misses them alike
   misses-agree : 0 < k → (strip : List ℕ) (n : ℕ)

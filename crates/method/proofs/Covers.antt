@@ -4,13 +4,11 @@ use mathlib.Core.List.{List}
 use mathlib.Core.Path.{_≡_, ap, _∙_}
 use Prim.Native.Nat.{ℕ, _≤_, _<_}
 use native.Mathlib.Omega.{arith}
-use lib.Dec.{ltb}
 use Rattle.number.proofs.Pigeonholes.{pigeonhole}
-use Rattle.number.proofs.Searches.{first-same}
 use Rattle.colour.specs.{Point, distance}
 use Rattle.colour.proofs.Distances.{distance-sym, distance-halves}
 use Rattle.shades.specs.{shadeAt, toShade, nearestShade}
-use Rattle.shades.proofs.Nearest.{nearest-below}
+use Rattle.shades.proofs.Nearest.{nearest-below, nearest-same}
 use Rattle.method.specs.Starting.{remote}
 
 -- where the first k shades of two lists agree, a colour is as far from the nearest of either
@@ -18,7 +16,7 @@ pub remote-same : (s t : List ℕ) (k : ℕ) (c : Point) → 0 < k → ((p : ℕ
     → remote s k c ≡ remote t k c
 remote-same s t k c some same =
     ap (distance c) (same (nearestShade s k c) (nearest-below s k c some))
-    ∙ ap (toShade t c) (first-same ltb k (toShade s c) (toShade t c) (λ p l. ap (distance c) (same p l)))
+    ∙ ap (toShade t c) (nearest-same s t k same c)
 
 -- colours that all differ, each at distance 0 from its nearest of k shades, are at most k
 pub covered-at-most : (n : ℕ) (c : ℕ → Point) (s : List ℕ) (k : ℕ) → 0 < k

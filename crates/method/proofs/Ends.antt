@@ -2,28 +2,31 @@
 -- for its group and near the least. By any rule, where no shade moved the grouping costs just the round's total.
 use mathlib.Core.Bool.{cond, not}
 use mathlib.Core.Path.{_≡_, refl, sym, ap, ap₂, _∙_}
-use Prim.Native.Nat.{ℕ, zero, suc, _*_, _≤_, _<_}
+use Prim.Native.Nat.{ℕ, zero, suc, _*_, _/_, _%_, _≤_, _<_}
 use native.Mathlib.Decide.{decLt}
 use native.Mathlib.Nat.{le-refl}
 use native.Mathlib.Omega.{arith}
-use lib.Dec.{eqb, ltb}
+use lib.Dec.{eqb}
 use lib.ListN.{getD}
 use borrow.Author.Tests.{ne-eqb}
-use Rattle.number.specs.{sum}
+use Rattle.number.specs.{sum, fill}
 use Rattle.number.proofs.Counts.{howMany-none}
 use Rattle.number.proofs.Cases.{not-not}
-use Rattle.number.proofs.Searches.{first-same}
+use Rattle.number.proofs.Fills.{fill-again, fill-self}
 use Rattle.number.proofs.Sums.{sum-eq, sum-le, sum-zero}
 use Rattle.colour.specs.{Point, distance}
-use Rattle.shades.specs.{shadeAt, samePlace, toShade}
-use Rattle.shades.proofs.Laying.{same-place-is}
+use Rattle.shades.specs.{shadeAt, axis, coordinateOf, samePlace}
+use Rattle.shades.proofs.Laying.{same-place-is, coordinate-read}
+use Rattle.shades.proofs.Nearest.{nearest-same}
 use Rattle.method.specs.Colouring.{Colours, pixelsIn, costAt, meanOf, groupOf}
 use Rattle.method.specs.Rounding.{
   Rule,
   toMean,
   Means,
   State,
+  stateOf,
   joins,
+  grouped,
   groupIn,
   totalOf,
   finalOf,
@@ -175,5 +178,26 @@ module _ (rule : Rule) (C : Colours) (k : ℕ) (a : State) (f : Fit C k a) (stil
       → getD (step rule C k a .members) i 0 ≡ joins C k (step rule C k a .coordinates) i
   still-joined i h =
       member-joined C k a f i h
-      ∙ first-same ltb k (toShade (a .coordinates) (C .c i)) (toShade (step rule C k a .coordinates) (C .c i))
-      (λ q l. ap (distance (C .c i)) (sym (still-shades q l)))
+      ∙ nearest-same (a .coordinates) (step rule C k a .coordinates) k (λ q l. sym (still-shades q l)) (C .c i)
+
+  -- every coordinate is what it was
+  still-coordinates : step rule C k a .coordinates ≡ a .coordinates
+  still-coordinates =
+      fill-self (3 * k) (coordinateOf (movedTo rule C k a)) (a .coordinates)
+      (λ i l. sym (ap (axis (i % 3)) (shade-stays (i / 3) (omega arith)) ∙ coordinate-read (a .coordinates) i))
+
+  -- so another round moves no shade
+  pub still-moves-none : movedOf rule C k (step rule C k a) ≡ 0
+  still-moves-none = ap (λ cs. movedOf rule C k (stateOf cs (a .members))) still-coordinates ∙ still
+
+  -- has the same total
+  pub still-total : totalOf C k (step rule C k a) ≡ totalOf C k a
+  still-total = ap (λ cs. totalOf C k (stateOf cs (a .members))) still-coordinates
+
+  -- and leaves everything as it is
+  pub still-again : step rule C k (step rule C k a) ≡ step rule C k a
+  still-again =
+      ap₂ stateOf
+      (ap (λ cs. step rule C k (stateOf cs (a .members)) .coordinates) still-coordinates)
+      (ap (λ cs. fill (C .n) (joins C k cs) (grouped C k a)) still-coordinates
+      ∙ fill-again (C .n) (joins C k (a .coordinates)) (joins C k (a .coordinates)) (a .members))

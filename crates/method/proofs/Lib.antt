@@ -22,3 +22,7 @@ pub mod Covers
 pub mod Startings
 -- The state in which a run begins.
 pub mod Begins
+-- A round of k shades reads and moves the first 3k coordinates alone.
+pub mod Fronts
+-- Rounds and runs depend on the places that a table has, and on nothing past them.
+pub mod Used

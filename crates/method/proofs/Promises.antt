@@ -24,12 +24,14 @@ use Rattle.method.specs.Rounding.{
   toMean,
   GoodRule,
   State,
+  frontOf,
   Fit,
   Joined,
   totalOf,
   plainDistances,
   shortDistances,
   finalOf,
+  step,
   after,
 }
 use Rattle.method.specs.Starting.{Base, remote, nextShade}
@@ -40,6 +42,7 @@ use Rattle.method.proofs.Costs as costs
 use Rattle.method.proofs.Covers as covers
 use Rattle.method.proofs.Falls as falls
 use Rattle.method.proofs.Fractions as fractions
+use Rattle.method.proofs.Fronts as fronts
 use Rattle.method.proofs.Sizes as sizes
 use Rattle.method.proofs.Startings as startings
 use Rattle.method.proofs.Totals as totals
@@ -74,6 +77,14 @@ next-is-given = startings.next-given
 pub next-is-chosen : (B : Base) (n : ℕ) (c : ℕ → Point) (k : ℕ) (s : List ℕ) → B .given ≤ k
     → nextShade B n c k s ≡ c (most n (λ i. remote s k (c i)))
 next-is-chosen = startings.next-chosen
+
+-- ---- a round's coordinates
+
+-- A round of k shades reads and moves the first 3k coordinates alone: lent these, with the members, it leaves these of
+-- what it leaves otherwise.
+pub front-step : (C : Colours) (k : ℕ) (a : State) (rule : Rule)
+    → step rule C k (frontOf k a) ≡ frontOf k (step rule C k a)
+front-step = fronts.front-step
 
 -- ---- totals never rise
 

@@ -16,6 +16,7 @@
 --   GoodRule rule        it costs the group no more than staying, and keeps to the grid
 --   Means f rule         from shade f on it goes to the mean
 --   State, stateOf       coordinates and members
+--   frontOf k a          its first k shades, three coordinates each, and its members
 --   joins, grouped       the shade that a colour joins; the members after a grouping
 --   groupIn              the group of a shade in a round
 --   totalOf              a round's total, against the shades as they stand
@@ -68,6 +69,7 @@ unfoldable pub use Rounding.{
   Rule,
   toMean,
   stateOf,
+  frontOf,
   joins,
   grouped,
   groupIn,

@@ -4,7 +4,7 @@ use mathlib.Core.Bool.{Bool, cond, not}
 use mathlib.Core.List.{List}
 use mathlib.Core.Path.{_≡_}
 use lib.Dec.{eqb}
-use lib.ListN.{getD, length}
+use lib.ListN.{getD, length, take}
 use Rattle.number.specs.{sum, howMany, fill}
 use Rattle.colour.specs.{Point, Within, mostCoordinate}
 use Rattle.shades.specs.{shadeAt, laid, samePlace, Shades, toShade, nearestShade, worked}
@@ -37,6 +37,10 @@ pub record State : Type 0 where
 -- the state of these coordinates and members
 abbrev pub stateOf : List ℕ → List ℕ → State
 stateOf coordinates members = record { coordinates = coordinates; members = members }
+
+-- the first k shades of a state, three coordinates each, and its members
+abbrev pub frontOf : ℕ → State → State
+frontOf k a = stateOf (take (3 * k) (a .coordinates)) (a .members)
 
 -- the members against the shades: the sum over colours of weight times distance to the member's shade
 abbrev pub finalOf : Colours → State → ℕ

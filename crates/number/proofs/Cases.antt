@@ -31,6 +31,12 @@ pub not-not : (a : Bool) → not a ≡ false → a ≡ true
 not-not true h = refl
 not-not false h = never h
 
+-- tests that fail together are one
+pub fail-together : (a b : Bool) → (a ≡ false → b ≡ false) → (b ≡ false → a ≡ false) → a ≡ b
+fail-together true true f g = refl
+fail-together true false f g = g refl
+fail-together false b f g = sym (f refl)
+
 -- how x stands to k, and what the tests say then
 pub data Cmp (x k : ℕ) : Type 0 where
   lt : x < k → ltb x k ≡ true → Cmp x k

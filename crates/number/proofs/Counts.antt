@@ -47,3 +47,9 @@ pub none-howMany : (n : ℕ) (b : ℕ → Bool) → ((i : ℕ) → i < n → b i
 unfolding howMany
 none-howMany zero b h = refl
 none-howMany (suc n) b h = rw (h n (omega arith)) (none-howMany n b (λ i l. h i (omega arith)))
+
+-- tests that agree count alike
+pub howMany-same : (n : ℕ) (b d : ℕ → Bool) → ((i : ℕ) → i < n → b i ≡ d i) → howMany n b ≡ howMany n d
+unfolding howMany
+howMany-same zero b d e = refl
+howMany-same (suc n) b d e = rw (e n (omega arith), howMany-same n b d (λ i l. e i (omega arith)))

@@ -4,7 +4,7 @@ use mathlib.Core.Path.{_≡_, refl, ap}
 use Prim.Native.Nat.{ℕ, zero, suc, _+_, _≤_, _<_}
 use native.Mathlib.Numerals.{add-one}
 use native.Mathlib.Omega.{arith}
-use lib.ListN.{length, getD, set, replicate}
+use lib.ListN.{length, getD, set, take, replicate}
 use Rattle.number.specs.Fill.{fill}
 
 -- filling keeps the length
@@ -78,6 +78,13 @@ fill-same (suc n) f g (x ∷ d) e =
     rw (e zero (omega arith))
     (ap {B = List ℕ} (λ l. g zero ∷ l)
     (fill-same n (λ i. f (suc i)) (λ i. g (suc i)) d (λ i l. e (suc i) (omega arith))))
+
+-- the front of a filled list is the front, filled
+pub fill-take : (n : ℕ) (f : ℕ → ℕ) (d : List ℕ) → take n (fill n f d) ≡ fill n f (take n d)
+unfolding fill
+fill-take zero f d = refl
+fill-take (suc n) f [] = refl
+fill-take (suc n) f (x ∷ d) = ap {B = List ℕ} (λ l. f zero ∷ l) (fill-take n (λ i. f (suc i)) d)
 
 -- of no places none is filled
 pub fill-nil : (n : ℕ) (f : ℕ → ℕ) → fill n f [] ≡ []

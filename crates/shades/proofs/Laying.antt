@@ -4,8 +4,10 @@ use mathlib.Core.Bool.{true}
 use mathlib.Core.List.{List}
 use mathlib.Core.Logic.{_↔_}
 use mathlib.Core.Path.{_≡_, refl, sym, ap, _∙_}
+use native.Mathlib.Decide.{decLt}
 use native.Mathlib.Omega.{arith}
-use lib.ListN.{length}
+use lib.ListN.{getD, length, take, length-take, List·getD-eq-default}
+use lib.Seq.{getD-take}
 use lib.Dec.{eqb}
 use borrow.Author.Tests.{eqb-true, eq-eqb}
 use Rattle.number.proofs.Cases.{both}
@@ -41,6 +43,40 @@ pub first-coordinate : (f : ℕ → Point) (q : ℕ) → coordinateOf f (3 * q) 
 first-coordinate f q =
     let z : 3 * q ≡ 3 * q + 0 = omega arith in
     rw z (coordinate-at f q 0 (omega arith))
+
+-- coordinate e of a shade that lies in a list stands at place 3q + e
+axis-at : (s : List ℕ) (q e : ℕ) → e < 3 → axis e (shadeAt s q) ≡ getD s (3 * q + e) 0
+axis-at s q zero h = let z : 3 * q ≡ 3 * q + 0 = omega arith in ap (λ n. getD s n 0) z
+axis-at s q (suc zero) h = refl
+axis-at s q (suc (suc zero)) h = refl
+axis-at s q (suc (suc (suc e))) h = absurd (omega arith)
+
+-- so the coordinates of the shades of a list are those of the list
+pub coordinate-read : (s : List ℕ) (i : ℕ) → coordinateOf (shadeAt s) i ≡ getD s i 0
+coordinate-read s i =
+    let z : 3 * (i / 3) + i % 3 ≡ i = omega arith in
+    axis-at s (i / 3) (i % 3) (omega arith) ∙ ap (λ n. getD s n 0) z
+
+-- ---- the front of a list
+
+-- a shade of the front is a shade of the whole
+pub front-shade : (s : List ℕ) (k q : ℕ) → q < k → shadeAt (take (3 * k) s) q ≡ shadeAt s q
+front-shade s k q h =
+    rw (
+      getD-take (3 * k) s (3 * q) 0 (omega arith),
+      getD-take (3 * k) s (3 * q + 1) 0 (omega arith),
+      getD-take (3 * k) s (3 * q + 2) 0 (omega arith),
+    )
+
+-- the front of coordinates on the grid is on the grid
+pub front-low : (s : List ℕ) (n : ℕ) → OnGrid s → OnGrid (take n s)
+front-low s n low i =
+    elim (decLt i n) [
+      | yes l ↦ rw (getD-take n s i 0 l) (low i)
+      | no l ↦ omega (arith, List·getD-eq-default (take n s) 0 {n = i} (omega (arith, length-take n s)))
+    ]
+
+-- ---- shades laid in
 
 module _ (k : ℕ) (f : ℕ → Point) (d : List ℕ) where
   -- a shade that was laid in is read back

@@ -1,18 +1,18 @@
 -- The nearest shade: by the least packed number, and by the shades that the shortened search looks at.
 use Prim.Native.Nat.{ℕ, _+_, _*_, _/_, _%_, _≤_, _<_}
-use mathlib.Core.Bool.{Bool, true, false}
+use mathlib.Core.Bool.{Bool, true, false, not, _&&_}
 use mathlib.Core.List.{List}
 use mathlib.Core.Logic.{_⊎_, inl, inr, ⊎-elim}
-use mathlib.Core.Path.{_≡_, refl, sym, _∙_}
+use mathlib.Core.Path.{_≡_, refl, sym, ap, ap₂, _∙_}
 use native.Mathlib.Decide.{decLe, ℕ-discrete}
 use native.Mathlib.Omega.{arith}
-use lib.Dec.{ltb, leb}
+use lib.Dec.{ltb, leb, eqb}
 use borrow.Author.Tests.{le-leb, ne-eqb}
 use Rattle.number.specs.{Best}
 use Rattle.number.proofs.Cases.{never}
-use Rattle.number.proofs.Counts.{howMany-at-most}
+use Rattle.number.proofs.Counts.{howMany-at-most, howMany-same}
 use Rattle.number.proofs.Peaks.{least-at-most}
-use Rattle.number.proofs.Searches.{first-below, first-is-best, best-is-first, best-keep, rising}
+use Rattle.number.proofs.Searches.{first-below, first-same, first-is-best, best-is-first, best-keep, rising}
 use Rattle.number.proofs.Tallies.{howMany-others}
 use Rattle.colour.specs.{Point, distance}
 use Rattle.colour.proofs.Distances.{distance-self, farther}
@@ -107,3 +107,17 @@ worked-at-most-all s k c p h =
     let zero-away = distance-self (shadeAt s p) in
     let itself = le-leb (distance (shadeAt s p) (shadeAt s p)) (4 * toShade s c p) (omega arith) in
     omega (arith, howMany-others k p near h itself, howMany-at-most k near)
+
+-- ---- shades that stand in the same places
+
+module _ (s t : List ℕ) (k : ℕ) (same : (q : ℕ) → q < k → shadeAt s q ≡ shadeAt t q) (c : Point) where
+  -- the same is nearest
+  pub nearest-same : nearestShade s k c ≡ nearestShade t k c
+  nearest-same = first-same ltb k (toShade s c) (toShade t c) (λ q l. ap (distance c) (same q l))
+
+  -- and a search works out as many distances
+  pub worked-same : (p : ℕ) → p < k → worked s k c p ≡ worked t k c p
+  worked-same p h =
+      ap (λ n. 1 + n)
+      (howMany-same k (tried s c p) (tried t c p)
+      (λ q l. ap₂ (λ (x y : Point). not (eqb q p) && leb (distance x y) (4 * distance c x)) (same p h) (same q l)))

@@ -3,12 +3,13 @@ use mathlib.Core.Path.{_≡_, refl, sym, ap, ap₂, _∙_}
 use mathlib.Core.Bool.{true, false, not}
 use mathlib.Core.Logic.{_↔_, inl, inr}
 use mathlib.Core.List.{List}
-use Prim.Native.Nat.{ℕ, _+_, _≤_}
+use Prim.Native.Nat.{ℕ, _+_, _≤_, _<_}
 use native.Mathlib.Omega.{arith}
-use lib.ListN.{length}
+use lib.ListN.{getD, length}
 use lib.Dec.{ltb, eqb}
 use borrow.Author.Tests.{le-ltb, ltb-false, eq-eqb, eqb-true}
-use Rattle.number.proofs.Cases.{bool, never, neither, not-not}
+use Rattle.number.proofs.Cases.{bool, never, neither, not-not, fail-together}
+use Rattle.number.proofs.Sums.{sum-eq}
 use Rattle.colour.specs.{mostPixels}
 use Rattle.table_entries.specs.{weightOf, entries, sound}
 use Rattle.table_entries.proofs.Same.{same-table}
@@ -16,6 +17,7 @@ use Rattle.table_entries.proofs.Slices.{entries-length, keys-rise, keys-are-key
 use Rattle.table_entries.proofs.Rows.{sound-of-rows, weights-some, pixels-sum}
 use Rattle.table_test.specs.Goods.{GoodTable}
 use Rattle.table_test.specs.Tables.{roomOf, recordOf, sameRecord, badTable}
+use Rattle.table_test.specs.Testing.{weightAt}
 use Rattle.table_test.specs.declared.Record.{Record}
 
 -- the used entries are within the room and sound, the record is theirs, and the pixels are not too many
@@ -117,3 +119,28 @@ determined rec rec′ ks ws ks′ ws′ a b h =
     let e : entries (rec .used) ks ws ≡ entries (rec′ .used) ks′ ws′
     = same-table 0 (entries (rec .used) ks ws) (entries (rec′ .used) ks′ ws′) (g .sounds) (g′ .sounds) h in
     (e, sym (g .is) ∙ ap recordOf e ∙ g′ .is)
+
+-- ---- a table is its used entries
+
+-- slices with the same used entries are a good table together
+good-alike : {rec : Record} {ks ws ks′ ws′ : List ℕ} → rec .used ≤ roomOf ks′ ws′
+    → ((i : ℕ) → i < rec .used → getD ks i 0 ≡ getD ks′ i 0) → ((i : ℕ) → i < rec .used → getD ws i 0 ≡ getD ws′ i 0)
+    → GoodTable rec ks ws → GoodTable rec ks′ ws′
+good-alike {rec} {ws = ws} {ws′ = ws′} room keys weights g = record {
+  in-room = room;
+  rises = λ p q x y. omega (arith, keys p (omega arith), keys q y, g .rises p q x y);
+  keys = λ p l. omega (arith, keys p l, g .keys p l);
+  weights = λ p l. omega (arith, weights p l, g .weights p l);
+  pixels = g .pixels ∙ sum-eq (rec .used) (weightAt ws) (weightAt ws′) weights;
+  most = g .most;
+}
+
+-- so the test says the same of both
+pub bad-table-alike : (rec : Record) (ks ws ks′ ws′ : List ℕ) → rec .used ≤ roomOf ks ws → rec .used ≤ roomOf ks′ ws′
+    → ((i : ℕ) → i < rec .used → getD ks i 0 ≡ getD ks′ i 0) → ((i : ℕ) → i < rec .used → getD ws i 0 ≡ getD ws′ i 0)
+    → badTable rec ks ws ≡ badTable rec ks′ ws′
+bad-table-alike rec ks ws ks′ ws′ room room′ keys weights =
+    fail-together (badTable rec ks ws) (badTable rec ks′ ws′)
+    (λ h. bad-table-exactly rec ks′ ws′ .1 (good-alike room′ keys weights (bad-table-exactly rec ks ws .0 h)))
+    (λ h. bad-table-exactly rec ks ws .1
+    (good-alike room (λ i l. sym (keys i l)) (λ i l. sym (weights i l)) (bad-table-exactly rec ks′ ws′ .0 h)))

@@ -44,20 +44,12 @@ use Rattle.method.proofs.Promises.{fraction-at-least, fraction-exactly}
 use Rattle.method.proofs.Promises.{signed-fraction-at-least, signed-fraction-exactly}
 use Rattle.lloyd_tests.specs.{limitOf}
 use Rattle.lloyd.specs.Beginning.{FarthestColour}
-use Rattle.lloyd.specs.Outcomes.{RunOutcome, RunMeets, AcceptedRun, runOf, madeRun, left}
+use Rattle.lloyd.specs.Outcomes.{AcceptedRun, runOf, madeRun, left}
 use Rattle.lloyd.specs.declared.Ran.{Ran}
 use Rattle.lloyd.proofs.Accepted as accepted
 use Rattle.lloyd.proofs.Accepted.{making}
 use Rattle.lloyd.proofs.Made as made
 use Rattle.lloyd.proofs.Wholes as wholes
-
--- ---- the contract
-
--- A run's contract determines its answer and the final contents of both lent slices.
-pub run-only : (o : RunOutcome) (r r′ : Ran) (ms ms′ ts ts′ : List ℕ) → RunMeets o r ms ts → RunMeets o r′ ms′ ts′
-    → (r ≡ r′) × (ms ≡ ms′) × (ts ≡ ts′)
-run-only o r r′ ms ms′ ts ts′ a b =
-    (a .answer ∙ sym (b .answer), a .members-are ∙ sym (b .members-are), a .totals-are ∙ sym (b .totals-are))
 
 -- ---- every accepted run
 

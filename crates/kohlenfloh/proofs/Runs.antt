@@ -1,0 +1,55 @@
+-- What an accepted run leaves in the slices and arrays of the boundary: that of lloyd's run, its answer read from its
+-- array, where the rounds stand at place 0 and the final total at place 3.
+use Prim.Native.Nat.{ℕ, _+_, _-_, _*_, _≤_, _<_}
+use mathlib.Core.List.{List}
+use mathlib.Core.Path.{_≡_, refl, sym, ap}
+use lib.ListN.{getD}
+use Rattle.number.specs.{sum}
+use Rattle.refusal.specs.{done}
+use Rattle.colour.specs.{Point, distance}
+use Rattle.shades.specs.{colourAt}
+use Rattle.method.specs.{Bounded, coloursOf, stateOf, groupAt, groupCost}
+use Rattle.lloyd.specs.{Ran, AcceptedRun, runOf}
+use Rattle.lloyd.proofs.Promises as lloyd
+use Rattle.arrays.specs.{recordIn}
+use Rattle.kohlenfloh.specs.Crossing.{RunCrosses}
+
+module _ (s ks ws : List ℕ) (k limit : ℕ) (ms ts : List ℕ) {members totals shades answer : List ℕ}
+    (h : RunCrosses (runOf (recordIn s) ks ws k limit ms ts) done members totals shades answer) where
+  -- the answer beneath
+  abbrev ran : Ran
+  ran = runOf (recordIn s) ks ws k limit ms ts .answer
+
+  -- it is that of an accepted run
+  accepted : AcceptedRun (recordIn s) ks ws k limit ms ts ran members totals
+  accepted = record {
+    meets = record { answer = refl; members-are = h .members-are; totals-are = h .totals-are };
+    accepted = sym (h .number);
+  }
+
+  -- its rounds and its final total in the array
+  rounds-at : getD answer 0 0 ≡ ran .rounds
+  rounds-at = ap (λ a. getD a 0 0) (h .answer-is)
+
+  total-at : getD answer 3 0 ≡ ran .total
+  total-at = ap (λ a. getD a 3 0) (h .answer-is)
+
+  -- the totals never rise
+  pub totals-never-rise : (n : ℕ) → n + 1 < getD answer 0 0 → getD totals (n + 1) 0 ≤ getD totals n 0
+  totals-never-rise n l = lloyd.totals-never-rise accepted n (rw rounds-at at l)
+
+  -- the final one is not above the last
+  pub final-at-most-last : getD answer 3 0 ≤ getD totals (getD answer 0 0 - 1) 0
+  final-at-most-last = rw (total-at, rounds-at) (lloyd.final-at-most-last accepted)
+
+  -- no other shades give the last grouping a smaller one
+  pub final-is-least : (z : ℕ → Point)
+      → getD answer 3 0
+      ≤ sum (recordIn s .used) (λ i. getD ws i 0 * distance (colourAt ks i) (z (getD members i 0)))
+  final-is-least z = rw total-at (lloyd.final-is-least accepted z)
+
+  -- each group's cost is bounded by its least
+  pub group-bounded : (q : ℕ)
+      → Bounded (groupAt (coloursOf (recordIn s .used) ks ws) (stateOf shades members) q)
+      (groupCost (coloursOf (recordIn s .used) ks ws) (stateOf shades members) q)
+  group-bounded q = rw (h .shades-are) (lloyd.group-bounded accepted q)

@@ -1,0 +1,116 @@
+-- A run depends on the used entries alone: what the slices of a table have past them is not read.
+use Prim.Native.Nat.{ℕ, _≤_, _<_}
+use mathlib.Core.Bool.{Bool}
+use mathlib.Core.List.{List}
+use mathlib.Core.Logic.{inl, inr}
+use mathlib.Core.Path.{_≡_, sym, ap, ap₂, fun-ext, _∙_}
+use lib.Dec.{ltb}
+use lib.ListN.{getD}
+use Rattle.number.specs.{sum, fill, firstThat}
+use Rattle.refusal.specs.{done, firstOf}
+use Rattle.refusal.proofs.Promises.{done-or-refusal}
+use Rattle.colour.specs.{colourOf}
+use Rattle.table_test.specs.{Record, roomOf}
+use Rattle.table_test.proofs.Goods.{bad-table-alike}
+use Rattle.shades.specs.{colourAt}
+use Rattle.method.specs.{
+  Colours,
+  State,
+  coloursOf,
+  toMean,
+  after,
+  totalOf,
+  shortDistances,
+  finalOf,
+  roundsMade,
+  begin,
+}
+use Rattle.method.proofs.Used.{total-alike, distances-alike, final-alike, after-alike, quiet-alike, begin-alike}
+use Rattle.lloyd_tests.specs.{limitOf}
+use Rattle.lloyd_refusal.specs.{runRows}
+use Rattle.lloyd.specs.Outcomes.{RunOutcome, madeRun, runOf}
+use Rattle.lloyd.proofs.Wholes.{run-refuses, runnable-of-none}
+
+-- what a run reads from a state on its way: the state, the total, the distances, and the members against the shades
+record Shown : Type 0 where
+  state : State
+  total : ℕ
+  distances : ℕ
+  final : ℕ
+
+-- what it reads on some colours
+abbrev shownOf : Colours → ℕ → State → Shown
+shownOf C k z =
+    record { state = z; total = totalOf C k z; distances = shortDistances C k z; final = finalOf C z }
+
+-- the run from which rounds are quiet and what each state shows
+abbrev runShown : ℕ → List ℕ → (ℕ → Bool) → (ℕ → Shown) → RunOutcome
+runShown limit ts still shown = record {
+  answer = record {
+    refusal = done;
+    shades = shown (roundsMade limit still) .state .coordinates;
+    rounds = roundsMade limit still;
+    settled = ltb (firstThat limit still) limit;
+    distances = sum (roundsMade limit still) (λ r. shown r .distances);
+    total = shown (roundsMade limit still) .final;
+  };
+  members = shown (roundsMade limit still) .state .members;
+  totals = fill (roundsMade limit still) (λ r. shown r .total) ts;
+}
+
+module _ (rec : Record) (ks ws ks′ ws′ : List ℕ) (keys : (i : ℕ) → i < rec .used → getD ks i 0 ≡ getD ks′ i 0)
+    (weights : (i : ℕ) → i < rec .used → getD ws i 0 ≡ getD ws′ i 0) (k : ℕ) where
+  -- the colours of the one table
+  abbrev C : Colours
+  C = coloursOf (rec .used) ks ws
+
+  -- and of the other
+  abbrev D : Colours
+  D = coloursOf (rec .used) ks′ ws′
+
+  -- used colours stand in the same places
+  places : (i : ℕ) → i < rec .used → colourAt ks i ≡ colourAt ks′ i
+  places i l = ap colourOf (keys i l)
+
+  -- a state shows the same
+  shown-alike : (z : State) → shownOf C k z ≡ shownOf D k z
+  shown-alike z =
+      rw (
+        total-alike (rec .used) _ _ _ _ weights places k z,
+        distances-alike (rec .used) _ _ _ _ weights places k z,
+        final-alike (rec .used) _ _ _ _ weights places k z,
+      )
+
+  -- the same rounds are made from a state
+  rounds-alike : (limit : ℕ) (a : State) (ts : List ℕ) → madeRun toMean C k limit a ts ≡ madeRun toMean D k limit a ts
+  rounds-alike limit a ts =
+      ap₂ (runShown limit ts) (quiet-alike (rec .used) _ _ _ _ weights places k a)
+      (fun-ext (λ r. ap (shownOf C k) (after-alike (rec .used) _ _ _ _ weights places k a r)
+      ∙ shown-alike (after toMean D k a r)))
+
+  -- and the run begins in the same state
+  made-alike : 0 < rec .used → (limit : ℕ) (ms ts : List ℕ)
+      → madeRun toMean C k limit (begin C k ms) ts ≡ madeRun toMean D k limit (begin D k ms) ts
+  made-alike some limit ms ts =
+      ap (λ b. madeRun toMean C k limit b ts) (begin-alike (rec .used) _ _ _ _ weights places some k ms)
+      ∙ rounds-alike limit (begin D k ms) ts
+
+-- so runs on tables with the same record and the same used entries answer and leave the same
+pub run-of-used : (rec : Record) (ks ws ks′ ws′ : List ℕ) (k limit : ℕ) (ms ts : List ℕ)
+    → rec .used ≤ roomOf ks ws → rec .used ≤ roomOf ks′ ws′
+    → ((i : ℕ) → i < rec .used → getD ks i 0 ≡ getD ks′ i 0) → ((i : ℕ) → i < rec .used → getD ws i 0 ≡ getD ws′ i 0)
+    → runOf rec ks ws k limit ms ts ≡ runOf rec ks′ ws′ k limit ms ts
+run-of-used rec ks ws ks′ ws′ k limit ms ts room room′ keys weights =
+    let one = run-refuses rec ks ws k limit ms ts in
+    let other = run-refuses rec ks′ ws′ k limit ms ts in
+    elim (done-or-refusal (runRows rec ks ws k limit ms ts)) [
+      | inl e ↦
+          one .by-none e
+          ∙ made-alike rec ks ws ks′ ws′ keys weights k (runnable-of-none rec ks ws k limit ms ts e .colours)
+          (limitOf limit) ms ts
+          ∙ sym (other .by-none (sym rows ∙ e))
+      | inr g ↦ one .by-refusal (g .0) (g .1) ∙ sym (other .by-refusal (g .0) (sym rows ∙ g .1))
+    ]
+  where
+    rows : firstOf (runRows rec ks ws k limit ms ts) ≡ firstOf (runRows rec ks′ ws′ k limit ms ts)
+    rows = rw (bad-table-alike rec ks ws ks′ ws′ room room′ keys weights)
