@@ -2,13 +2,13 @@
 -- `addStrip rec ks ws s` is the outcome of a call (specs/Outcomes.antt): its contract says that the answer and both
 -- slices of `add_strip` are those of this outcome, on every input.
 use mathlib.Core.Path.{_≡_, sym, _∙_}
-use mathlib.Core.Bool.{true, false}
+use mathlib.Core.Bool.{Bool, true, false}
 use mathlib.Core.Logic.{_↔_}
 use mathlib.Core.List.{List, [], _++_}
-use Prim.Native.Nat.{ℕ, _+_, _%_, _<_}
+use Prim.Native.Nat.{ℕ, min, _+_, _%_, _<_}
 use lib.ListN.{length, getD, drop}
 use Rattle.refusal.specs.{Refusal, numberOf, done, Given, NoneHolds}
-use Rattle.table_entries.specs.{entries, weightOf, stripKeys, countOf, stops, takenOf, withTaken}
+use Rattle.table_entries.specs.{entries, weightOf, mostEntries, stripKeys, countOf, stops, takenOf, withTaken}
 use Rattle.table_entries.proofs.Takes.{Prefix}
 use Rattle.colour.specs.{badStrip, Bytes}
 use Rattle.table_test.specs.{Record, roomOf, recordOf, badTable, GoodTable}
@@ -27,6 +27,16 @@ pub add-strip-only : (rec : Record) (ks ws s : List ℕ) {r r′ : Added} {k k�
     → AddMeets rec ks ws s r k w → AddMeets rec ks ws s r′ k′ w′ → (r ≡ r′) × (k ≡ k′) × (w ≡ w′)
 add-strip-only rec ks ws s a b =
     (a .answer ∙ sym (b .answer), a .keys ∙ sym (b .keys), a .weights ∙ sym (b .weights))
+
+-- Whatever meets the contract of `bad_table` on an input has one answer.
+pub bad-table-only : (rec : Record) (ks ws : List ℕ) {r r′ : Bool} → r ≡ badTable rec ks ws → r′ ≡ badTable rec ks ws
+    → r ≡ r′
+bad-table-only = tests.bad-table-only
+
+-- Whatever meets the contract of `room_of` on two lengths has one answer.
+pub room-only : (keys weights : ℕ) {r r′ : ℕ} → r ≡ min (min keys weights) mostEntries
+    → r′ ≡ min (min keys weights) mostEntries → r ≡ r′
+room-only = tests.room-only
 
 -- ---- refusals
 
