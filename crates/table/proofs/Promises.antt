@@ -8,8 +8,17 @@ use mathlib.Core.List.{List, [], _++_}
 use Prim.Native.Nat.{ℕ, min, _+_, _%_, _<_}
 use lib.ListN.{length, getD, drop}
 use Rattle.refusal.specs.{Refusal, numberOf, done, Given, NoneHolds}
-use Rattle.table_entries.specs.{entries, weightOf, mostEntries, stripKeys, countOf, stops, takenOf, withTaken}
-use Rattle.table_entries.proofs.Takes.{Prefix}
+use Rattle.table_entries.specs.{
+  entries,
+  weightOf,
+  mostEntries,
+  stripKeys,
+  countOf,
+  stops,
+  takenOf,
+  withTaken,
+  Prefix,
+}
 use Rattle.colour.specs.{badStrip, Bytes}
 use Rattle.table_test.specs.{Record, roomOf, recordOf, badTable, GoodTable}
 use Rattle.table.specs.Refusals.{full, addRows}

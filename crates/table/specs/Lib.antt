@@ -11,7 +11,9 @@
 --   addRefusal    the number of the first that holds
 --   Outcome       the answer and both slices at exit
 --   refused, asItCame   the answer, and the outcome, where nothing is taken and all is as it came
---   takenInto     the outcome of the pixels taken; leftByAdd what a refusal leaves
+--   withPixels    the outcome of a list's pixels taken as far as they go in; takenInto that of a strip's
+--   handsBack     the number of a refusal before the first pixel: BAD STRIP, BAD TABLE
+--   leftByAdd     what a refusal leaves
 --   addStrip      the outcome of adding a strip
 --   AddMeets      the contract: answer and slices are those of the outcome
 --   tableAfter    the table in an outcome's slices
