@@ -6,7 +6,7 @@ use mathlib.Core.Bool.{Bool, true, false}
 use mathlib.Core.Logic.{_↔_}
 use mathlib.Core.List.{List, [], _++_}
 use Prim.Native.Nat.{ℕ, min, _+_, _%_, _<_}
-use lib.ListN.{length, getD, drop}
+use lib.ListN.{length, getD, take, drop}
 use Rattle.refusal.specs.{Refusal, numberOf, done, Given, NoneHolds}
 use Rattle.table_entries.specs.{
   entries,
@@ -27,6 +27,7 @@ use Rattle.table.specs.declared.Added.{Added}
 use Rattle.colour.proofs.Strips as strips
 use Rattle.table_test.proofs.Promises as tests
 use Rattle.table.proofs.Meaning as meaning
+use Rattle.table.proofs.Taken as taken
 use Rattle.table.proofs.Joins as joins
 
 -- ---- the contract leaves one answer
@@ -139,6 +140,18 @@ pub after-taken : (rec : Record) (ks ws s : List ℕ) → badStrip s ≡ false �
     → (tableAfter (addStrip rec ks ws s) ≡ withTaken (roomOf ks ws) (entries (rec .used) ks ws) (stripKeys s))
     × (addStrip rec ks ws s .answer .rec ≡ recordOf (tableAfter (addStrip rec ks ws s)))
 after-taken = meaning.taken-after
+
+-- Accepted or FULL, an add is that of the first `taken` pixels: each colour's weight is its former weight plus the
+-- number of its pixels among them, the record's pixels are those before plus their number, and with 0 taken the record
+-- and both slices are as they came, beside the number that is answered.
+pub taken-counts : (rec : Record) (ks ws s : List ℕ) → badStrip s ≡ false → badTable rec ks ws ≡ false
+    → (let o = addStrip rec ks ws s in
+    ((c : ℕ) → weightOf c (tableAfter o)
+    ≡ weightOf c (entries (rec .used) ks ws) + countOf c (take (o .answer .taken) (stripKeys s)))
+    × (o .answer .rec .pixels ≡ rec .pixels + o .answer .taken)
+    × (o .answer .taken ≡ 0 → o ≡ asItCame (o .answer .refusal) rec ks ws))
+taken-counts rec ks ws s a b =
+    (taken.taken-weights rec ks ws s a b, taken.taken-total rec ks ws s a b, taken.taken-none rec ks ws s a b)
 
 -- ---- a table is its weights
 
