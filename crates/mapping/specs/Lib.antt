@@ -10,8 +10,6 @@
 --   mapStrip             the outcome of a call
 --   MapMeets             the contract: answer and index picture are those of the outcome
 --   OfEachError          a fact of each of the four errors in an answer
---   joinedStrips ss      strips joined from first to last
---   EachWhole            every strip has whole pixels
 --   Pieced, inStrips     what calls one after the other leave: index picture and errors added up
 --   leftBy               the same of one call
 --   EachAccepted         every one of them is accepted
@@ -30,5 +28,5 @@ unfoldable pub use Outcomes.{
   mapStrip,
 }
 pub use Outcomes.{MapOutcome, MapMeets, OfEachError}
-unfoldable pub use Pieces.{joinedStrips, EachWhole, leftBy, inStrips, EachAccepted}
+unfoldable pub use Pieces.{leftBy, inStrips, EachAccepted}
 pub use Pieces.{Pieced}

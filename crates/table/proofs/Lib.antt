@@ -6,5 +6,7 @@ pub mod Meaning
 pub mod Taken
 -- Strips joined, and an empty strip.
 pub mod Joins
+-- Strips added one after the other, in any number.
+pub mod Pieces
 -- What a reader may ask for: each theorem in full, with the proof it cites.
 pub mod Promises

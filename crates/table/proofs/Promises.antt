@@ -19,16 +19,18 @@ use Rattle.table_entries.specs.{
   withTaken,
   Prefix,
 }
-use Rattle.colour.specs.{badStrip, Bytes}
+use Rattle.colour.specs.{badStrip, Bytes, joinedStrips, EachWhole}
 use Rattle.table_test.specs.{Record, roomOf, recordOf, badTable, GoodTable}
 use Rattle.table.specs.Refusals.{full, addRows}
 use Rattle.table.specs.Outcomes.{asItCame, handsBack, addStrip, tableAfter, AddMeets}
+use Rattle.table.specs.Pieces.{addedBy, addStrips, EachAdded}
 use Rattle.table.specs.declared.Added.{Added}
 use Rattle.colour.proofs.Strips as strips
 use Rattle.table_test.proofs.Promises as tests
 use Rattle.table.proofs.Meaning as meaning
 use Rattle.table.proofs.Taken as taken
 use Rattle.table.proofs.Joins as joins
+use Rattle.table.proofs.Pieces as pieces
 
 -- ---- the contract leaves one answer
 
@@ -122,6 +124,19 @@ pub joined-strips : (rec : Record) (ks ws s t : List ℕ) → Bytes s → addStr
       weights = addStrip (o .answer .rec) (o .keys) (o .weights) t .weights;
     })
 joined-strips = joins.joined-strips
+
+-- Where each of a list of strips is accepted, one after the other, the strips joined are accepted too, and leave the
+-- same record and slices; the pixels taken are those of all calls.
+pub in-strips : (ss : List (List ℕ)) (rec : Record) (ks ws : List ℕ) → GoodTable rec ks ws → Bytes (joinedStrips ss)
+    → EachAdded rec ks ws ss
+    → (addStrip rec ks ws (joinedStrips ss) .answer .refusal ≡ done)
+    × (addStrips rec ks ws ss ≡ addedBy (addStrip rec ks ws (joinedStrips ss)))
+in-strips = pieces.in-strips
+
+-- Where the strips joined are accepted, each is.
+pub each-accepted : (ss : List (List ℕ)) (rec : Record) (ks ws : List ℕ) → EachWhole ss → Bytes (joinedStrips ss)
+    → addStrip rec ks ws (joinedStrips ss) .answer .refusal ≡ done → EachAdded rec ks ws ss
+each-accepted = pieces.each-accepted
 
 -- ---- FULL
 

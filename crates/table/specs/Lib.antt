@@ -17,11 +17,17 @@
 --   addStrip      the outcome of adding a strip
 --   AddMeets      the contract: answer and slices are those of the outcome
 --   tableAfter    the table in an outcome's slices
+--   AddedAll      taken, rec, keys, weights: what calls one after the other leave; addedBy the same of one call
+--   addStrips     what the calls for a list of strips leave, from the first strip to the last
+--   EachAdded     every one of them is accepted
 pub mod Refusals
 pub mod Outcomes
+pub mod Pieces
 pub use Rattle.table_test.specs.{Record, GoodTable}
 unfoldable pub use Rattle.table_test.specs.{roomOf, recordOf, emptyRecord, badTable}
 pub use declared.Added.{Added}
 unfoldable pub use Refusals.{full, addRows, addRefusal}
 unfoldable pub use Outcomes.{refused, asItCame, withPixels, handsBack, takenInto, leftByAdd, addStrip, tableAfter}
 pub use Outcomes.{Outcome, AddMeets}
+unfoldable pub use Pieces.{addedBy, addStrips, EachAdded}
+pub use Pieces.{AddedAll}

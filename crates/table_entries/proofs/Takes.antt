@@ -127,7 +127,16 @@ taken-append room es (k ∷ ps) qs h = elim (bool (stops room es k)) [
   | inr t ↦ simp t (omega (arith, taken-append room (put k es) ps qs (suc-inj (simp t at h))))
 ]
 
--- and so is the table
+-- where all of two lists joined are taken, all of the first are
+pub taken-front : (room : ℕ) (es : List Entry) (ps qs : List ℕ) → takenOf room es (ps ++ qs) ≡ length (ps ++ qs)
+    → takenOf room es ps ≡ length ps
+taken-front room es [] qs h = refl
+taken-front room es (k ∷ ps) qs h = elim (bool (stops room es k)) [
+  | inl t ↦ absurd (let z : 0 ≡ suc (length (ps ++ qs)) = simp t at h in omega arith)
+  | inr t ↦ simp t (ap suc (taken-front room (put k es) ps qs (suc-inj (simp t at h))))
+]
+
+-- the table of two lists, where all of the first are taken, is that of the second after the first
 pub withTaken-append : (room : ℕ) (es : List Entry) (ps qs : List ℕ) → takenOf room es ps ≡ length ps
     → withTaken room es (ps ++ qs) ≡ withTaken room (putAll es ps) qs
 withTaken-append room es ps qs h =
