@@ -14,6 +14,8 @@
 --   distance p q        the sum of three squared differences
 --   badStrip s          the test of 1 BAD STRIP
 --   Bytes s             a list of bytes
+--   joinedStrips ss     strips joined from first to last
+--   EachWhole ss        every strip has whole pixels
 pub mod Key
 pub mod Points
 pub mod Strips
@@ -22,4 +24,4 @@ pub use Key.{Levels}
 unfoldable pub use Points.{mostCoordinate, mostDistance, mostPixels, sixteenth, colourOf, distance}
 pub use Points.{Within}
 pub use declared.Point.{Point}
-unfoldable pub use Strips.{badStrip, Bytes}
+unfoldable pub use Strips.{badStrip, Bytes, joinedStrips, EachWhole}

@@ -10,10 +10,19 @@
 //   kf_read_picture          p6::read_picture                            refuses 12, 13, 14, 15
 // A call's name is kf_ and that of the call beneath it. Only numbers, slices (a pointer and a
 // length) and arrays of a fixed length (a pointer) cross. Each call has the contract of the one
-// beneath it, with the answer's fields laid into an array, which the crate arrays does.
+// beneath it, with the answer's fields laid into an array, which the crate arrays does. The calls
+// are passed on by name for crates too: unasked makes each of them.
 //
 // Read next: specs/Lib.antt (what the words mean), proofs/Promises.antt (what is shown).
 
 mod add;
 mod picture;
 mod round;
+
+pub use add::kf_add_strip;
+pub use picture::kf_map_strip;
+pub use picture::kf_palette_from_shades;
+pub use picture::kf_read_picture;
+pub use round::kf_plain_round;
+pub use round::kf_run;
+pub use round::kf_short_round;

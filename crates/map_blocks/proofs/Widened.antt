@@ -3,12 +3,11 @@ use Prim.Native.Nat.{ℕ, _+_, _*_, _≤_, _<_}
 use mathlib.Core.List.{List}
 use mathlib.Core.Path.{_≡_, refl, ap, _∙_}
 use native.Mathlib.Omega.{arith}
-use lib.Dec.{ltb}
 use lib.ListN.{length, getD, replicate, length-replicate}
 use Rattle.number.specs.{fill}
 use Rattle.number.proofs.Fills.{fill-at, fill-at-most, fill-length, fill-same, zeros-at}
-use Rattle.colour.specs.{Point, Bytes, distance, mostCoordinate}
-use Rattle.shades.specs.{mostCoordinates, shadeAt, toShade, nearestShade, Shades}
+use Rattle.colour.specs.{Point, Bytes, mostCoordinate}
+use Rattle.shades.specs.{mostCoordinates, shadeAt, nearestShade, Shades}
 use Rattle.shades.proofs.Nearest.{nearest-below, nearest-same}
 use Rattle.map_errors.specs.{Errors, pixelAt, missesOf}
 use Rattle.map_block.specs.{nearestTo}
@@ -67,7 +66,7 @@ module _ {strip palette wide : List ℕ} {n : ℕ} (may : Mappable strip palette
   pub widened-index : (before : List ℕ) {x : List ℕ} → x ≡ fill n (nearestTo wide (entryCount palette) strip) before
       → x ≡ fill n (entryFor palette strip) before
   widened-index before e =
-      e ∙ fill-same n _ _ before (λ i l. nearest-same wide palette _ widened-agree (pixelAt strip i))
+      e ∙ fill-same n _ _ before (λ i l. nearest-same wide palette _ (shade-same wide palette _ widened-agree) (pixelAt strip i))
 
   -- and the errors are those from the entries
   pub widened-errors : {r : Errors} → r ≡ missesOf (pixelAt strip) wide (nearestTo wide (entryCount palette) strip) n

@@ -9,14 +9,14 @@ use borrow.Author.Tests.{le-ltb, ltb-false}
 use Rattle.number.specs.{fill, fillFrom, sum}
 use Rattle.number.proofs.Parts.{from-joined, from-same}
 use Rattle.refusal.specs.{done}
-use Rattle.colour.specs.{badStrip, mostPixels}
-use Rattle.colour.proofs.Strips.{whole-exactly}
+use Rattle.colour.specs.{badStrip, joinedStrips, EachWhole, mostPixels}
+use Rattle.colour.proofs.Strips.{whole-exactly, whole-behind}
 use Rattle.palette.specs.{badPalette}
 use Rattle.map_errors.specs.{plusErrors}
 use Rattle.map_blocks.specs.{pixelCount, entryFor, errorOf, errorsOf}
 use Rattle.map_blocks.proofs.Totals.{entry-first, entry-second, error-joined, errors-joined}
 use Rattle.mapping.specs.Outcomes.{MapOutcome, mapStrip}
-use Rattle.mapping.specs.Pieces.{joinedStrips, EachWhole, Pieced, leftBy, inStrips, EachAccepted}
+use Rattle.mapping.specs.Pieces.{Pieced, leftBy, inStrips, EachAccepted}
 use Rattle.mapping.proofs.Meaning.{
   map-refuses,
   stretch-within,
@@ -41,10 +41,7 @@ module _ (s t p d : List ℕ) (a : ℕ) (whole : badStrip s ≡ false)
 
   -- the second is of whole pixels too
   second-whole : badStrip t ≡ false
-  second-whole =
-      let z = whole-exactly s .0 whole in
-      let y = whole-exactly (s ++ t) .0 (none .0) in
-      whole-exactly t .1 (omega (arith, length-append s t))
+  second-whole = whole-behind s t whole (none .0)
 
   -- the first is accepted
   first-accepted : mapStrip s p d a .answer .refusal ≡ done

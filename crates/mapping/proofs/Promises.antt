@@ -10,7 +10,7 @@ use mathlib.Core.Path.{_≡_, sym, _∙_}
 use lib.ListN.{length, getD}
 use lib.Ieee.Exact.{HasValue}
 use Rattle.refusal.specs.{Refusal, numberOf, done, Given, NoneHolds}
-use Rattle.colour.specs.{Bytes, mostPixels}
+use Rattle.colour.specs.{joinedStrips, EachWhole, Bytes, mostPixels}
 use Rattle.figures.specs.{mostExact, figure, meanValues, NearestTo, zeroFigure}
 use Rattle.map_blocks.specs.{pixelCount, NearestEntry, errorOf, errorsOf}
 use Rattle.mapping.specs.Outcomes.{
@@ -24,7 +24,7 @@ use Rattle.mapping.specs.Outcomes.{
   OfEachFigure,
   NoFigure,
 }
-use Rattle.mapping.specs.Pieces.{joinedStrips, EachWhole, leftBy, inStrips, EachAccepted}
+use Rattle.mapping.specs.Pieces.{leftBy, inStrips, EachAccepted}
 use Rattle.mapping.specs.declared.Mapped.{Mapped}
 use Rattle.mapping.proofs.Meaning as meaning
 use Rattle.mapping.proofs.Answers as answers

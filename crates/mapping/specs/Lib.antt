@@ -12,8 +12,6 @@
 --   OfEachError          a fact of each of the four errors in an answer
 --   OfEachFigure         the mean holds one figure, and a fact of each of the four figures and its own error
 --   NoFigure             the mean says "no pixels", and the channel means are zeros
---   joinedStrips ss      strips joined from first to last
---   EachWhole            every strip has whole pixels
 --   Pieced, inStrips     what calls one after the other leave: index picture and errors added up
 --   leftBy               the same of one call
 --   EachAccepted         every one of them is accepted
@@ -32,5 +30,5 @@ unfoldable pub use Outcomes.{
   mapStrip,
 }
 pub use Outcomes.{MapOutcome, MapMeets, OfEachError, OfEachFigure, NoFigure}
-unfoldable pub use Pieces.{joinedStrips, EachWhole, leftBy, inStrips, EachAccepted}
+unfoldable pub use Pieces.{leftBy, inStrips, EachAccepted}
 pub use Pieces.{Pieced}

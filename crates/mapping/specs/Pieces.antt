@@ -1,23 +1,11 @@
 -- A picture mapped in strips, one call after the other: each stretch begins where the one before ended.
 use Prim.Native.Nat.{ℕ, _+_}
-use mathlib.Core.Bool.{false}
-use mathlib.Core.List.{List, [], _∷_, _++_}
+use mathlib.Core.List.{List, [], _∷_}
 use mathlib.Core.Path.{_≡_}
 use Rattle.refusal.specs.{done}
-use Rattle.colour.specs.{badStrip}
 use Rattle.map_errors.specs.{Errors, plusErrors}
 use Rattle.map_blocks.specs.{pixelCount}
 use Rattle.mapping.specs.Outcomes.{MapOutcome, mapStrip}
-
--- the strips joined, from first to last
-abbrev pub joinedStrips : List (List ℕ) → List ℕ
-joinedStrips [] = []
-joinedStrips (s ∷ ss) = s ++ joinedStrips ss
-
--- every strip has whole pixels
-abbrev pub EachWhole : List (List ℕ) → Type 0
-EachWhole [] = Unit {0}
-EachWhole (s ∷ ss) = (badStrip s ≡ false) × EachWhole ss
 
 -- what the calls leave: the index picture, and the errors added up
 pub record Pieced : Type 0 where

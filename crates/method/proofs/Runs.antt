@@ -6,9 +6,9 @@ use Prim.Native.Nat.{ℕ, _+_, _-_, _≤_, _<_}
 use native.Mathlib.Omega.{arith}
 use lib.Dec.{ltb}
 use borrow.Author.Tests.{lt-ltb, le-ltb, ltb-true, ltb-false}
-use Rattle.number.specs.{firstThat}
+use Rattle.number.specs.{firstThat, First}
 use Rattle.number.proofs.Cases.{never}
-use Rattle.number.proofs.Firsts.{First, first-that}
+use Rattle.number.proofs.Firsts.{first-that}
 use Rattle.number.proofs.Searches.{below-or-last}
 use Rattle.method.specs.Running.{roundsMade}
 

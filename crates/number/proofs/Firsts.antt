@@ -7,15 +7,9 @@ use native.Mathlib.Omega.{arith}
 use native.Mathlib.Decide.{decLt}
 use lib.Dec.{ltb}
 use borrow.Author.Tests.{ltb-true, ltb-false}
-use Rattle.number.specs.Search.{firstThat}
+use Rattle.number.specs.Search.{firstThat, First}
 use Rattle.number.proofs.Cases.{never}
 use Rattle.number.proofs.Searches.{below-or-last}
-
--- what the first place that passes is
-pub record First (n : ℕ) (b : ℕ → Bool) (m : ℕ) : Type 0 where
-  pub within : m ≤ n
-  pub before : (i : ℕ) → i < m → b i ≡ false
-  pub found : m < n → b m ≡ true
 
 -- `firstThat` is it
 pub first-that : (n : ℕ) (b : ℕ → Bool) → First n b (firstThat n b)

@@ -5,11 +5,10 @@ use mathlib.Core.Bool.{Bool}
 use mathlib.Core.Path.{_≡_}
 use Prim.Native.Nat.{ℕ, _+_, _-_, _*_, _≤_, _<_}
 use Rattle.number.specs.Groups.{Group, W, S, Q, cost, roundedMean, scale}
-use Rattle.number.specs.Search.{Best, least, most, firstThat}
+use Rattle.number.specs.Search.{Best, least, most, firstThat, First}
 use Rattle.number.specs.Square.{gap, sq}
 use Rattle.number.proofs.Searches as Searches
 use Rattle.number.proofs.Firsts as Firsts
-use Rattle.number.proofs.Firsts.{First}
 use Rattle.number.proofs.Pigeonholes as Pigeonholes
 use Rattle.number.proofs.Costs as Costs
 use Rattle.number.proofs.Means as Means

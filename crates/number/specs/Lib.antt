@@ -12,6 +12,7 @@
 --   peak n f          the greatest value below n
 --   lowest top n f    the least of `top` and the values below n
 --   firstThat n b     the lowest place below n that passes the test b, n where none does
+--   First n b m       m is that place
 --   Best              a place is the first best of a set of places
 --   Order             a test and the relation it decides, fit for a search
 --   gap, sq           the difference of two numbers either way round, and its square
@@ -29,7 +30,7 @@ unfoldable pub use Sum.{sum, sumOf, numbersBelow}
 unfoldable pub use Count.{bit, howMany}
 unfoldable pub use Fill.{fill, fillFrom}
 unfoldable pub use Search.{firstBest, least, most, lesserOf, greaterOf, peak, lowest, firstThat}
-pub use Search.{Best, Order}
+pub use Search.{Best, Order, First}
 unfoldable pub use Square.{gap, sq}
 unfoldable pub use Groups.{W, S, Q, cost, roundedMean, scale}
 pub use Groups.{Group}

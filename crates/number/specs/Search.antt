@@ -1,6 +1,6 @@
 -- Searching places for the best value: the lowest place wins a tie. Which of two values is better is a parameter,
 -- so that "nearest" and "farthest" are one search. Then the values themselves, and the first place that passes a test.
-use Prim.Native.Nat.{ℕ, zero, suc, _<_}
+use Prim.Native.Nat.{ℕ, zero, suc, _≤_, _<_}
 use mathlib.Core.Path.{_≡_}
 use mathlib.Core.Bool.{Bool, true, false, cond}
 use lib.Dec.{ltb}
@@ -56,3 +56,10 @@ lowest top (suc n) f = lesserOf (lowest top n f) (f n)
 unfoldable pub firstThat : ℕ → (ℕ → Bool) → ℕ
 firstThat zero b = zero
 firstThat (suc n) b = cond (ltb (firstThat n b) n) (firstThat n b) (cond (b n) n (suc n))
+
+-- m is the first place below n that passes the test b, or n: no place before it passes, and it passes itself where it
+-- is below n
+pub record First (n : ℕ) (b : ℕ → Bool) (m : ℕ) : Type 0 where
+  pub within : m ≤ n
+  pub before : (i : ℕ) → i < m → b i ≡ false
+  pub found : m < n → b m ≡ true

@@ -17,7 +17,7 @@ use Rattle.number.proofs.Tallies.{howMany-others}
 use Rattle.colour.specs.{Point, distance}
 use Rattle.colour.proofs.Distances.{distance-self, farther}
 use Rattle.shades.specs.Places.{mostShades, shadeAt}
-use Rattle.shades.specs.Distances.{toShade, nearestShade, tried, worked, pack, packedNearest}
+use Rattle.shades.specs.Distances.{toShade, nearestShade, tried, LookedAt, worked, pack, packedNearest}
 
 -- the nearest of some shades is one of them
 pub nearest-below : (s : List ℕ) (k : ℕ) (c : Point) → 0 < k → nearestShade s k c < k
@@ -66,10 +66,6 @@ module _ (s : List ℕ) (k : ℕ) (c : Point) (some : 0 < k) (few : k ≤ mostSh
 -- ---- the shortened search
 
 module _ (s : List ℕ) (k : ℕ) (c : Point) (p : ℕ) where
-  -- the shades that the shortened search from p looks at: p itself, and each that is tried
-  abbrev pub LookedAt : ℕ → Type 0
-  LookedAt q = (q < k) × ((q ≡ p) ⊎ (tried s c p q ≡ true))
-
   -- a shade that is not tried is p, or farther from c than p
   untried-farther : (q : ℕ) → tried s c p q ≡ false → (q ≡ p) ⊎ (toShade s c p < toShade s c q)
   untried-farther q e = go (ℕ-discrete q p) (decLe (distance (shadeAt s p) (shadeAt s q)) (4 * toShade s c p))
@@ -81,7 +77,8 @@ module _ (s : List ℕ) (k : ℕ) (c : Point) (p : ℕ) where
       go (no h) (no l) = inr (farther (shadeAt s p) (shadeAt s q) c (omega arith))
 
   -- the first best of the shades looked at is the first best of all
-  pub shortened-is-full : p < k → {m d : ℕ} → Best (λ a b. a < b) LookedAt (toShade s c) m d → m ≡ nearestShade s k c
+  pub shortened-is-full : p < k → {m d : ℕ} → Best (λ a b. a < b) (LookedAt s k c p) (toShade s c) m d
+      → m ≡ nearestShade s k c
   shortened-is-full h {m} {d} b =
       best-is-first rising (toShade s c) k (omega arith)
       (best-keep rising b (λ j l. l .0) (λ j l. left-out j l))
@@ -89,10 +86,10 @@ module _ (s : List ℕ) (k : ℕ) (c : Point) (p : ℕ) where
       near : d ≤ toShade s c p
       near = let none = b .unbettered p (h, inl refl) in omega arith
 
-      left-out : (j : ℕ) → j < k → LookedAt j ⊎ (d < toShade s c j)
+      left-out : (j : ℕ) → j < k → LookedAt s k c p j ⊎ (d < toShade s c j)
       left-out j l = go (tried s c p j) refl
         where
-          go : (t : Bool) → tried s c p j ≡ t → LookedAt j ⊎ (d < toShade s c j)
+          go : (t : Bool) → tried s c p j ≡ t → LookedAt s k c p j ⊎ (d < toShade s c j)
           go true e = inl (l, inr e)
           go false e = ⊎-elim (λ z. inl (l, inl z)) (λ w. inr (omega (arith, near))) (untried-farther j e)
 

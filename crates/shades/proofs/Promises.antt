@@ -8,11 +8,10 @@ use Rattle.number.specs.{Best}
 use Rattle.number.proofs.Promises.{least-is-best, best-is-least}
 use Rattle.colour.specs.{Point}
 use Rattle.shades.specs.Places.{mostShades, samePlace, OnGrid}
-use Rattle.shades.specs.Distances.{toShade, nearestShade, worked, pack, packedNearest}
+use Rattle.shades.specs.Distances.{toShade, nearestShade, LookedAt, worked, pack, packedNearest}
 use Rattle.shades.specs.Tests.{badCoordinates, badCentre}
 use Rattle.shades.proofs.Laying as laying
 use Rattle.shades.proofs.Nearest as nearest
-use Rattle.shades.proofs.Nearest.{LookedAt}
 use Rattle.shades.proofs.Checks as checks
 
 -- ---- the nearest shade

@@ -1,7 +1,9 @@
 -- Which shade is nearest to a point, and which distances a search works out.
-use Prim.Native.Nat.{ℕ, _+_, _*_}
-use mathlib.Core.Bool.{Bool, not, _&&_}
+use Prim.Native.Nat.{ℕ, _+_, _*_, _<_}
+use mathlib.Core.Bool.{Bool, true, not, _&&_}
 use mathlib.Core.List.{List}
+use mathlib.Core.Logic.{_⊎_}
+use mathlib.Core.Path.{_≡_}
 use lib.Dec.{leb, eqb}
 use Rattle.number.specs.{least, howMany}
 use Rattle.colour.specs.{Point, distance}
@@ -19,6 +21,10 @@ nearestShade s k c = least k (toShade s c)
 -- the distance between p and q is at most 4d
 abbrev pub tried : List ℕ → Point → ℕ → ℕ → Bool
 tried s c p q = not (eqb q p) && leb (distance (shadeAt s p) (shadeAt s q)) (4 * toShade s c p)
+
+-- the shades that it looks at: p itself, and each q that it tries
+abbrev pub LookedAt : List ℕ → ℕ → Point → ℕ → ℕ → Type 0
+LookedAt s k c p q = (q < k) × ((q ≡ p) ⊎ (tried s c p q ≡ true))
 
 -- the distances that it works out: 1 plus the number of such q
 abbrev pub worked : List ℕ → ℕ → Point → ℕ → ℕ

@@ -13,6 +13,7 @@
 --   toShade s c q        the distance from c to shade q
 --   nearestShade s k c   the nearest of k shades, the lowest number at a tie
 --   tried s c p q        q is another shade than p, at most 4d from it, where d is the distance from c to p
+--   LookedAt s k c p q   the shortened search from p looks at q: it is p, or tried
 --   worked s k c p       the distances that the shortened search from p works out: 1, and one for each q tried
 --   pack s c q           64 times that distance plus q: distance and number in one
 --   packedNearest s k c  the same of the nearest shade
@@ -34,5 +35,5 @@ unfoldable pub use Places.{
   OnGrid,
 }
 pub use Places.{Shades}
-unfoldable pub use Distances.{toShade, nearestShade, tried, worked, pack, packedNearest}
+unfoldable pub use Distances.{toShade, nearestShade, tried, LookedAt, worked, pack, packedNearest}
 unfoldable pub use Tests.{badCoordinates, badCentre, offGrid}

@@ -13,6 +13,7 @@
 --   sameNumbers, sameRows   two rows, and two lists of rows, are the same
 --   allHold table     every example comes out as written
 --   exampleAt table i example i of a table, counted from 0
+--   distancesD r      the distances that sheet D's run works out in round r, counted from 0
 --   sheetA to sheetI  the sheets, each as an example
 --   sheets            the table of all nine
 pub mod Drawing
@@ -47,4 +48,4 @@ unfoldable pub use Numbers.{
 }
 pub use Examples.{Example}
 unfoldable pub use Examples.{sameNumbers, sameRows, allHold, exampleAt}
-unfoldable pub use Table.{sheetA, sheetB, sheetC, sheetD, sheetE, sheetF, sheetG, sheetH, sheetI, sheets}
+unfoldable pub use Table.{distancesD, sheetA, sheetB, sheetC, sheetD, sheetE, sheetF, sheetG, sheetH, sheetI, sheets}

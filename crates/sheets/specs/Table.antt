@@ -1,10 +1,10 @@
 -- The sheets of document 01 as one table of examples: beside what the definitions give stands what is written there.
-use Prim.Native.Nat.{_+_, _*_}
+use Prim.Native.Nat.{ℕ, _+_, _*_}
 use mathlib.Core.List.{List, [], _∷_, _++_}
 use lib.ListN.{replicate}
 use Rattle.refusal.specs.{done}
 use Rattle.table.specs.{emptyRecord, addStrip}
-use Rattle.method.specs.{stateOf, coloursOf, leastOf, meanOf, starts, flat}
+use Rattle.method.specs.{coloursOf, leastOf, meanOf, toMean, stateOf, shortDistances, after, starts, flat, begin}
 use Rattle.lloyd.specs.{plainRound, shortRound, runOf}
 use Rattle.palette.specs.{paletteFromShades}
 use Rattle.mapping.specs.{mapStrip}
@@ -76,12 +76,22 @@ sheetC = record {
       ∷ [];
 }
 
+-- the distances that D's run works out in round r, counted from 0
+abbrev pub distancesD : ℕ → ℕ
+distancesD r =
+    let colours = coloursOf 2 keysA weightsA in
+    shortDistances colours 2 (after toMean colours 2 (begin colours 2 members) r)
+
 -- D. Two shades: starts (40,0,0), (160,0,0); totals 4800, 0; distances 3, then 2.
--- It settles in 2 rounds at (0,0,0), (160,0,0), with a final total of 0.
+-- The distances stand round by round, and added up in the run's answer. It settles in 2 rounds at (0,0,0), (160,0,0),
+-- with a final total of 0.
 abbrev pub sheetD : Example
 sheetD = record {
-  computed = starts (coloursOf 2 keysA weightsA) 2 ∷ runSheet (runOf recordA keysA weightsA 2 0 members totals);
+  computed = starts (coloursOf 2 keysA weightsA) 2
+      ∷ (distancesD 0 ∷ distancesD 1 ∷ [])
+      ∷ runSheet (runOf recordA keysA weightsA 2 0 members totals);
   written = (40 ∷ 0 ∷ 0 ∷ 160 ∷ 0 ∷ 0 ∷ [])
+      ∷ (3 ∷ 2 ∷ [])
       ∷ (done ∷ 2 ∷ 1 ∷ (3 + 2) ∷ 0 ∷ [])
       ∷ (0 ∷ 0 ∷ 0 ∷ 160 ∷ 0 ∷ 0 ∷ replicate 186 0)
       ∷ (0 ∷ 1 ∷ 8 ∷ [])

@@ -19,7 +19,7 @@ use Rattle.table_entries.proofs.Slices.{
 }
 use Rattle.table_entries.proofs.Strips.{strip-append}
 use Rattle.table_entries.proofs.Takes.{taken-all, taken-append}
-use Rattle.colour.specs.{Bytes}
+use Rattle.colour.specs.{badStrip, Bytes}
 use Rattle.colour.proofs.Strips.{whole-exactly, whole-append}
 use Rattle.table_test.specs.{Record, roomOf, recordOf, badTable}
 use Rattle.table.specs.Outcomes.{Outcome, asItCame, addStrip}
@@ -38,7 +38,7 @@ allIn es ps ks ws = record {
 }
 
 -- that is the outcome of an accepted add
-outcome-all : (rec : Record) (ks ws s : List ℕ) → Accepted rec ks ws s
+pub outcome-all : (rec : Record) (ks ws s : List ℕ) → Accepted rec ks ws s
     → addStrip rec ks ws s ≡ allIn (entries (rec .used) ks ws) (stripKeys s) ks ws
 outcome-all rec ks ws s a =
     let es : List Entry = entries (rec .used) ks ws in
@@ -62,6 +62,10 @@ empty-strip rec ks ws b =
 
 -- ---- two strips
 
+-- the pixels of two strips joined are those of one and then of the other
+pub joined-keys : (s t : List ℕ) → badStrip s ≡ false → stripKeys (s ++ t) ≡ stripKeys s ++ stripKeys t
+joined-keys s t whole = strip-append (length s / 3) s t (omega (arith, whole-exactly s .0 whole))
+
 -- a larger table laid over a smaller one is the larger one laid into the slice
 into-twice : (f : Entry → ℕ) (P Q : List Entry) (cs : List ℕ) → length P ≤ length Q
     → map f Q ++ drop (length Q) (map f P ++ drop (length P) cs) ≡ map f Q ++ drop (length Q) cs
@@ -84,7 +88,7 @@ module _ (rec : Record) (ks ws s t : List ℕ) (bytes : Bytes s) (a : Accepted r
       at (taken-within rec ks ws s bytes (good-of-test rec ks ws (a .good)) .0)
 
   -- so the room is the same for the second
-  same-room : roomOf (keysInto P ks) (weightsInto P ws) ≡ roomOf ks ws
+  pub same-room : roomOf (keysInto P ks) (weightsInto P ws) ≡ roomOf ks ws
   same-room =
       rw (
         laid-length (λ (e : Entry). e .key) P ks (omega (arith, first-fits)),
@@ -98,14 +102,10 @@ module _ (rec : Record) (ks ws s t : List ℕ) (bytes : Bytes s) (a : Accepted r
         rw (same-room, entries-laid P (drop (length P) ks) (drop (length P) ws))
         at (all-taken (recordOf P) (keysInto P ks) (weightsInto P ws) t b)
 
-    -- the pixels of the strips joined are those of one and then of the other
-    joined-keys : stripKeys (s ++ t) ≡ stripKeys s ++ stripKeys t
-    joined-keys = strip-append (length s / 3) s t (omega (arith, whole-exactly s .0 (a .whole)))
-
     -- and so do the strips joined
     joined-taken : takenOf (roomOf ks ws) es (stripKeys (s ++ t)) ≡ length (stripKeys (s ++ t))
     joined-taken =
-        rw (joined-keys, length-append)
+        rw (joined-keys s t (a .whole), length-append)
         (taken-append (roomOf ks ws) es (stripKeys s) (stripKeys t) (all-taken rec ks ws s a)
         ∙ omega (arith, second-taken))
 
@@ -132,7 +132,7 @@ module _ (rec : Record) (ks ws s t : List ℕ) (bytes : Bytes s) (a : Accepted r
         let grows : length P ≤ length (putAll P (stripKeys t)) = putAll-length P (stripKeys t) in
         outcome-all rec ks ws (s ++ t) joined-accepted
         ∙ rw (
-          joined-keys,
+          joined-keys s t (a .whole),
           putAll-append es (stripKeys s) (stripKeys t),
           length-append,
           outcome-all (recordOf P) (keysInto P ks) (weightsInto P ws) t b,

@@ -26,11 +26,12 @@ use Rattle.table_entries.specs.{
   stops,
   takenOf,
   withTaken,
+  Prefix,
 }
 use Rattle.table_entries.proofs.Gives.{keys-take, putAll-weight, putAll-pixels, putAll-sound}
 use Rattle.table_entries.proofs.Slices.{entries-length, entries-laid, laid-length, laid-kept}
 use Rattle.table_entries.proofs.Strips.{byte-keys, strip-length}
-use Rattle.table_entries.proofs.Takes.{Prefix, taken-prefix, prefix-only, taken-at-most, taken-all, taken-fits}
+use Rattle.table_entries.proofs.Takes.{taken-prefix, prefix-only, taken-at-most, taken-all, taken-fits}
 use Rattle.table_test.specs.{Record, roomOf, recordOf, badTable, GoodTable}
 use Rattle.table.specs.Refusals.{full, addRows, addRefusal}
 use Rattle.table.specs.Outcomes.{
@@ -88,7 +89,7 @@ module _ (rec : Record) (ks ws s : List ℕ) where
   ps = stripKeys s
 
   -- with a whole strip and a good table the outcome is that of the pixels taken, whether or not one is left
-  outcome-taken : badStrip s ≡ false → badTable rec ks ws ≡ false
+  pub outcome-taken : badStrip s ≡ false → badTable rec ks ws ≡ false
       → addStrip rec ks ws s ≡ withPixels (addRefusal rec ks ws s) (roomOf ks ws) es ps ks ws
   outcome-taken a b = elim (bool (full rec ks ws s)) [
     | inl c ↦ outcome-full rec ks ws s a b c ∙ simp (a, b, c)

@@ -2,23 +2,35 @@
 -- `addStrip rec ks ws s` is the outcome of a call (specs/Outcomes.antt): its contract says that the answer and both
 -- slices of `add_strip` are those of this outcome, on every input.
 use mathlib.Core.Path.{_≡_, sym, _∙_}
-use mathlib.Core.Bool.{true, false}
+use mathlib.Core.Bool.{Bool, true, false}
 use mathlib.Core.Logic.{_↔_}
 use mathlib.Core.List.{List, [], _++_}
-use Prim.Native.Nat.{ℕ, _+_, _/_, _%_, _<_}
-use lib.ListN.{length, getD, drop}
+use Prim.Native.Nat.{ℕ, min, _+_, _/_, _%_, _<_}
+use lib.ListN.{length, getD, take, drop}
 use Rattle.refusal.specs.{Refusal, numberOf, done, Given, NoneHolds}
-use Rattle.table_entries.specs.{entries, weightOf, stripKeys, countOf, stops, takenOf, withTaken}
-use Rattle.table_entries.proofs.Takes.{Prefix}
-use Rattle.colour.specs.{badStrip, Bytes}
+use Rattle.table_entries.specs.{
+  entries,
+  weightOf,
+  mostEntries,
+  stripKeys,
+  countOf,
+  stops,
+  takenOf,
+  withTaken,
+  Prefix,
+}
+use Rattle.colour.specs.{badStrip, Bytes, joinedStrips, EachWhole}
 use Rattle.table_test.specs.{Record, roomOf, recordOf, badTable, GoodTable}
 use Rattle.table.specs.Refusals.{full, addRows}
 use Rattle.table.specs.Outcomes.{asItCame, handsBack, addStrip, tableAfter, AddMeets}
+use Rattle.table.specs.Pieces.{addedBy, addStrips, EachAdded}
 use Rattle.table.specs.declared.Added.{Added}
 use Rattle.colour.proofs.Strips as strips
 use Rattle.table_test.proofs.Promises as tests
 use Rattle.table.proofs.Meaning as meaning
+use Rattle.table.proofs.Taken as taken
 use Rattle.table.proofs.Joins as joins
+use Rattle.table.proofs.Pieces as pieces
 
 -- ---- the contract leaves one answer
 
@@ -27,6 +39,16 @@ pub add-strip-only : (rec : Record) (ks ws s : List ℕ) {r r′ : Added} {k k�
     → AddMeets rec ks ws s r k w → AddMeets rec ks ws s r′ k′ w′ → (r ≡ r′) × (k ≡ k′) × (w ≡ w′)
 add-strip-only rec ks ws s a b =
     (a .answer ∙ sym (b .answer), a .keys ∙ sym (b .keys), a .weights ∙ sym (b .weights))
+
+-- Whatever meets the contract of `bad_table` on an input has one answer.
+pub bad-table-only : (rec : Record) (ks ws : List ℕ) {r r′ : Bool} → r ≡ badTable rec ks ws → r′ ≡ badTable rec ks ws
+    → r ≡ r′
+bad-table-only = tests.bad-table-only
+
+-- Whatever meets the contract of `room_of` on two lengths has one answer.
+pub room-only : (keys weights : ℕ) {r r′ : ℕ} → r ≡ min (min keys weights) mostEntries
+    → r′ ≡ min (min keys weights) mostEntries → r ≡ r′
+room-only = tests.room-only
 
 -- ---- refusals
 
@@ -108,6 +130,19 @@ pub joined-strips : (rec : Record) (ks ws s t : List ℕ) → Bytes s → addStr
     })
 joined-strips = joins.joined-strips
 
+-- Where each of a list of strips is accepted, one after the other, the strips joined are accepted too, and leave the
+-- same record and slices; the pixels taken are those of all calls.
+pub in-strips : (ss : List (List ℕ)) (rec : Record) (ks ws : List ℕ) → GoodTable rec ks ws → Bytes (joinedStrips ss)
+    → EachAdded rec ks ws ss
+    → (addStrip rec ks ws (joinedStrips ss) .answer .refusal ≡ done)
+    × (addStrips rec ks ws ss ≡ addedBy (addStrip rec ks ws (joinedStrips ss)))
+in-strips = pieces.in-strips
+
+-- Where the strips joined are accepted, each is.
+pub each-accepted : (ss : List (List ℕ)) (rec : Record) (ks ws : List ℕ) → EachWhole ss → Bytes (joinedStrips ss)
+    → addStrip rec ks ws (joinedStrips ss) .answer .refusal ≡ done → EachAdded rec ks ws ss
+each-accepted = pieces.each-accepted
+
 -- ---- FULL
 
 -- The pixels taken are the longest prefix of the strip that goes in, pixel by pixel.
@@ -125,6 +160,18 @@ pub after-taken : (rec : Record) (ks ws s : List ℕ) → badStrip s ≡ false �
     → (tableAfter (addStrip rec ks ws s) ≡ withTaken (roomOf ks ws) (entries (rec .used) ks ws) (stripKeys s))
     × (addStrip rec ks ws s .answer .rec ≡ recordOf (tableAfter (addStrip rec ks ws s)))
 after-taken = meaning.taken-after
+
+-- Accepted or FULL, an add is that of the first `taken` pixels: each colour's weight is its former weight plus the
+-- number of its pixels among them, the record's pixels are those before plus their number, and with 0 taken the record
+-- and both slices are as they came, beside the number that is answered.
+pub taken-counts : (rec : Record) (ks ws s : List ℕ) → badStrip s ≡ false → badTable rec ks ws ≡ false
+    → (let o = addStrip rec ks ws s in
+    ((c : ℕ) → weightOf c (tableAfter o)
+    ≡ weightOf c (entries (rec .used) ks ws) + countOf c (take (o .answer .taken) (stripKeys s)))
+    × (o .answer .rec .pixels ≡ rec .pixels + o .answer .taken)
+    × (o .answer .taken ≡ 0 → o ≡ asItCame (o .answer .refusal) rec ks ws))
+taken-counts rec ks ws s a b =
+    (taken.taken-weights rec ks ws s a b, taken.taken-total rec ks ws s a b, taken.taken-none rec ks ws s a b)
 
 -- ---- a table is its weights
 

@@ -13,7 +13,7 @@ use borrow.Author.Tests.{ne-eqb}
 use Rattle.number.proofs.Cases.{cmp, lt, eq, gt, bool}
 use Rattle.colour.specs.{mostKey}
 use Rattle.table_entries.specs.Content.{Entry, entry, pixelsOf, weightOf, sound}
-use Rattle.table_entries.specs.Strip.{countOf}
+use Rattle.table_entries.specs.Strip.{countOf, Keys, none, more}
 use Rattle.table_entries.specs.Adding.{give, put, putAll}
 use Rattle.table_entries.proofs.Sounds.{Sound, sound-cons, cons-sound}
 
@@ -97,11 +97,6 @@ give-length-is k w low (e ∷ es) h = let s : Sound low e es = sound-cons low e 
 ]
 
 -- ---- the pixels of a list
-
--- all of them are keys
-pub data Keys : List ℕ → Type 0 where
-  none : Keys []
-  more : {k : ℕ} {ps : List ℕ} → k ≤ mostKey → Keys ps → Keys (k ∷ ps)
 
 -- keys stay keys in a prefix
 pub keys-take : (n : ℕ) {ps : List ℕ} → Keys ps → Keys (take n ps)

@@ -6,14 +6,12 @@ use Prim.Native.Nat.{ℕ, _+_, _≤_}
 use lib.ListN.{length}
 use Rattle.colour.specs.{mostPixels}
 use Rattle.table_entries.specs.Content.{Entry, entries, keysInto, weightsInto, pixelsOf, weightOf, sound}
-use Rattle.table_entries.specs.Strip.{countOf}
-use Rattle.table_entries.specs.Adding.{putAll, takenOf, withTaken}
+use Rattle.table_entries.specs.Strip.{countOf, Keys}
+use Rattle.table_entries.specs.Adding.{putAll, takenOf, withTaken, Prefix}
 use Rattle.table_entries.proofs.Gives as gives
-use Rattle.table_entries.proofs.Gives.{Keys}
 use Rattle.table_entries.proofs.Same as same
 use Rattle.table_entries.proofs.Slices as slices
 use Rattle.table_entries.proofs.Takes as takes
-use Rattle.table_entries.proofs.Takes.{Prefix}
 
 -- Pixels added raise the weight of each colour by the number of its pixels.
 pub weights-of-pixels : (c : ℕ) (es : List Entry) (ps : List ℕ)

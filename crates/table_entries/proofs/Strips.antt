@@ -8,8 +8,7 @@ use native.Mathlib.Numerals.{add-one, add-two}
 use lib.ListN.{length, getD, take, drop}
 use lib.Seq.{drop-cons}
 use Rattle.colour.specs.{keyOf}
-use Rattle.table_entries.specs.Strip.{stripKeys, keyAt}
-use Rattle.table_entries.proofs.Gives.{Keys, none, more}
+use Rattle.table_entries.specs.Strip.{stripKeys, keyAt, Keys, none, more}
 
 -- 3n bytes are n pixels
 pub strip-length : (n : ℕ) (s : List ℕ) → length s ≡ 3 * n → length (stripKeys s) ≡ n

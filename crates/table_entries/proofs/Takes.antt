@@ -14,11 +14,9 @@ use borrow.Author.Tests.{le-leb, lt-leb, leb-false}
 use Rattle.number.proofs.Cases.{bool, never}
 use Rattle.table_entries.specs.Content.{Entry, pixelsOf, weightOf, sound}
 use Rattle.colour.specs.{mostPixels}
-use Rattle.table_entries.specs.Adding.{put, putAll, stops, takenOf, withTaken}
+use Rattle.table_entries.specs.Strip.{Keys, none, more}
+use Rattle.table_entries.specs.Adding.{put, putAll, stops, takenOf, withTaken, Prefix}
 use Rattle.table_entries.proofs.Gives.{
-  Keys,
-  none,
-  more,
   give-length-is,
   give-pixels,
   give-sound,
@@ -129,7 +127,16 @@ taken-append room es (k ∷ ps) qs h = elim (bool (stops room es k)) [
   | inr t ↦ simp t (omega (arith, taken-append room (put k es) ps qs (suc-inj (simp t at h))))
 ]
 
--- and so is the table
+-- where all of two lists joined are taken, all of the first are
+pub taken-front : (room : ℕ) (es : List Entry) (ps qs : List ℕ) → takenOf room es (ps ++ qs) ≡ length (ps ++ qs)
+    → takenOf room es ps ≡ length ps
+taken-front room es [] qs h = refl
+taken-front room es (k ∷ ps) qs h = elim (bool (stops room es k)) [
+  | inl t ↦ absurd (let z : 0 ≡ suc (length (ps ++ qs)) = simp t at h in omega arith)
+  | inr t ↦ simp t (ap suc (taken-front room (put k es) ps qs (suc-inj (simp t at h))))
+]
+
+-- the table of two lists, where all of the first are taken, is that of the second after the first
 pub withTaken-append : (room : ℕ) (es : List Entry) (ps qs : List ℕ) → takenOf room es ps ≡ length ps
     → withTaken room es (ps ++ qs) ≡ withTaken room (putAll es ps) qs
 withTaken-append room es ps qs h =
@@ -156,12 +163,6 @@ withTaken-capped room es n ps h =
     rw (c, take-take (takenOf room es ps) n ps l)
 
 -- ---- those taken are the longest prefix that goes in, pixel by pixel
-
--- each of the first n pixels goes into the table of those before it, and the next one, if there is one, does not
-pub record Prefix (room : ℕ) (es : List Entry) (ps : List ℕ) (n : ℕ) : Type 0 where
-  pub within : n ≤ length ps
-  pub goes : (i : ℕ) → i < n → stops room (putAll es (take i ps)) (getD ps i 0) ≡ false
-  pub ends : n < length ps → stops room (putAll es (take n ps)) (getD ps n 0) ≡ true
 
 -- those taken are such a prefix
 pub taken-prefix : (room : ℕ) (es : List Entry) (ps : List ℕ) → Prefix room es ps (takenOf room es ps)

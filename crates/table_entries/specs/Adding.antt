@@ -1,8 +1,9 @@
 -- What pixels do to a table, one after the other, and which of them go in.
-use Prim.Native.Nat.{ℕ, suc, _+_}
-use mathlib.Core.Bool.{Bool, cond, _&&_, _||_}
+use Prim.Native.Nat.{ℕ, suc, _+_, _≤_, _<_}
+use mathlib.Core.Bool.{Bool, true, false, cond, _&&_, _||_}
 use mathlib.Core.List.{List, [], _∷_}
-use lib.ListN.{length, take}
+use mathlib.Core.Path.{_≡_}
+use lib.ListN.{length, getD, take}
 use lib.Dec.{ltb, leb, eqb}
 use Rattle.colour.specs.{mostPixels}
 use Rattle.table_entries.specs.Content.{Entry, entry, pixelsOf, weightOf}
@@ -39,3 +40,10 @@ takenOf room es (k ∷ ks) = cond (stops room es k) 0 (suc (takenOf room (put k 
 -- the table with the pixels taken
 abbrev pub withTaken : ℕ → List Entry → List ℕ → List Entry
 withTaken room es ks = putAll es (take (takenOf room es ks) ks)
+
+-- the first n pixels are the longest prefix that goes in, pixel by pixel: each of them goes into the table of those
+-- before it, and the next one, if there is one, does not
+pub record Prefix (room : ℕ) (es : List Entry) (ps : List ℕ) (n : ℕ) : Type 0 where
+  pub within : n ≤ length ps
+  pub goes : (i : ℕ) → i < n → stops room (putAll es (take i ps)) (getD ps i 0) ≡ false
+  pub ends : n < length ps → stops room (putAll es (take n ps)) (getD ps n 0) ≡ true

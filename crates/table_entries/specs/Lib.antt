@@ -9,12 +9,14 @@
 --   stripKeys          the keys of a strip's pixels
 --   keyAt s i          the key of the pixel whose bytes stand from place i on
 --   countOf c          how many pixels have colour c
+--   Keys               all numbers of a list are keys
 --   mostEntries        1,048,576
 --   give k w, put k    w pixels of colour k, one pixel of colour k, added to a table
 --   putAll             the pixels of a list, added from first to last
 --   stops room es k    a pixel of colour k does not go into the table es
 --   takenOf            how many pixels of a list are taken
 --   withTaken          the table with the pixels taken
+--   Prefix             so many pixels are the longest prefix of a list that goes in, pixel by pixel
 --   Tabled n ks ws     n entries lie in two slices, no more of them and of their pixels than a table may have
 pub mod Content
 pub mod Strip
@@ -23,5 +25,7 @@ pub mod Lying
 pub use Content.{Entry}
 unfoldable pub use Content.{entry, entries, keysOf, weightsOf, keysInto, weightsInto, pixelsOf, weightOf, sound}
 unfoldable pub use Strip.{stripKeys, keyAt, countOf}
+pub use Strip.{Keys}
 unfoldable pub use Adding.{mostEntries, give, put, putAll, stops, takenOf, withTaken}
+pub use Adding.{Prefix}
 pub use Lying.{Tabled}

@@ -9,8 +9,8 @@ use lib.Seq.{length-take-le, getD-take}
 use lib.Dec.{leb}
 use borrow.Author.Tests.{le-leb, lt-leb}
 use Rattle.number.specs.{sumOf}
-use Rattle.table_entries.specs.{Entry, pixelsOf, sound, stripKeys, countOf, putAll}
-use Rattle.table_entries.proofs.Gives.{Keys, keys-take, putAll-pixels}
+use Rattle.table_entries.specs.{Entry, pixelsOf, sound, stripKeys, countOf, Keys, putAll}
+use Rattle.table_entries.proofs.Gives.{keys-take, putAll-pixels}
 use Rattle.table_entries.proofs.Strips.{byte-keys, keys-drop}
 use Rattle.table_streaks.specs.{streakKey, streakCount}
 use Rattle.table_sort.specs.{sorted}

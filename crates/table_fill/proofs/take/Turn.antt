@@ -10,8 +10,20 @@ use lib.Seq.{length-take-le, drop-drop, drop-cons}
 use lib.Dec.{leb}
 use borrow.Author.Tests.{le-leb, lt-leb}
 use Rattle.colour.specs.{mostPixels}
-use Rattle.table_entries.specs.{Entry, entries, keysInto, weightsInto, pixelsOf, put, putAll, stops, takenOf, withTaken}
-use Rattle.table_entries.proofs.Gives.{Keys, putAll-length, putAll-pixels, putAll-sound}
+use Rattle.table_entries.specs.{
+  Entry,
+  entries,
+  keysInto,
+  weightsInto,
+  pixelsOf,
+  Keys,
+  put,
+  putAll,
+  stops,
+  takenOf,
+  withTaken,
+}
+use Rattle.table_entries.proofs.Gives.{putAll-length, putAll-pixels, putAll-sound}
 use Rattle.table_entries.proofs.Slices.{
   entries-length,
   entries-laid,

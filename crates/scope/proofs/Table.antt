@@ -1,0 +1,14 @@
+-- The table comes out as written, by computation.
+use mathlib.Core.Bool.{true}
+use mathlib.Core.Path.{_≡_, refl}
+use Rattle.number.specs.{sq, howMany, firstThat}
+use Rattle.colour.specs.{distance}
+use Rattle.grammar.specs.{isDigit, decimal, numberAt}
+use Rattle.p6_header.specs.{isWhite, fieldAt, headerOf}
+use Rattle.sheets.specs.{allHold}
+use Rattle.scope.specs.Table.{scopeTable}
+
+-- every line at once
+pub table-holds : allHold scopeTable ≡ true
+unfolding sq howMany firstThat distance isDigit decimal numberAt isWhite fieldAt headerOf
+table-holds = refl
