@@ -1,7 +1,7 @@
 -- The table comes out as written, by computation.
 use mathlib.Core.Bool.{true}
 use mathlib.Core.Path.{_≡_, refl}
-use Rattle.number.specs.{sq, howMany, firstThat}
+use Rattle.number.specs.{sq, howMany, firstThat, numbersBelow}
 use Rattle.colour.specs.{distance}
 use Rattle.grammar.specs.{isDigit, decimal, numberAt}
 use Rattle.p6_header.specs.{isWhite, fieldAt, headerOf}
@@ -10,5 +10,5 @@ use Rattle.scope.specs.Table.{scopeTable}
 
 -- every line at once
 pub table-holds : allHold scopeTable ≡ true
-unfolding sq howMany firstThat distance isDigit decimal numberAt isWhite fieldAt headerOf
+unfolding sq howMany firstThat numbersBelow distance isDigit decimal numberAt isWhite fieldAt headerOf
 table-holds = refl

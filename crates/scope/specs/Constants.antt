@@ -1,6 +1,6 @@
 -- The numbers that document 01 names: limits, the grid, the rounding of a mean and of a palette byte, and bytes.
 use mathlib.Core.List.{List, [], _∷_, map}
-use Rattle.number.specs.{roundedMean}
+use Rattle.number.specs.{roundedMean, numbersBelow}
 use Rattle.colour.specs.{
   mostLevel,
   mostKey,
@@ -26,7 +26,7 @@ use Rattle.p6.specs.{mostSide, theDepth}
 use Rattle.listing_test.specs.{mostListed}
 use Rattle.listing.specs.{mostInput}
 use Rattle.sheets.specs.{Example}
-use Rattle.scope.specs.Lines.{says, lists, those, below}
+use Rattle.scope.specs.Lines.{says, lists, those}
 
 -- the limits, and what stands beside them in the text
 abbrev pub constants : List Example
@@ -61,8 +61,8 @@ constants =
     ∷ lists (map levelOf (4071 ∷ 4072 ∷ 4080 ∷ [])) (254 ∷ 255 ∷ 255 ∷ [])
     -- P6: the two letters, the white bytes TAB, LF, CR and blank of all bytes, the digits, 1 to 5 of them
     ∷ lists (letterP ∷ figureSix ∷ []) (80 ∷ 54 ∷ [])
-    ∷ lists (those isWhite (below 256)) (9 ∷ 10 ∷ 13 ∷ 32 ∷ [])
-    ∷ lists (those isDigit (below 256)) (48 ∷ 49 ∷ 50 ∷ 51 ∷ 52 ∷ 53 ∷ 54 ∷ 55 ∷ 56 ∷ 57 ∷ [])
+    ∷ lists (those isWhite (numbersBelow 256)) (9 ∷ 10 ∷ 13 ∷ 32 ∷ [])
+    ∷ lists (those isDigit (numbersBelow 256)) (48 ∷ 49 ∷ 50 ∷ 51 ∷ 52 ∷ 53 ∷ 54 ∷ 55 ∷ 56 ∷ 57 ∷ [])
     ∷ says mostDigits 5
     -- sides to 16,384, depth 255
     ∷ says mostSide 16384

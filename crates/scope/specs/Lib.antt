@@ -3,7 +3,6 @@
 --   says n m          the line of one number
 --   lists ns ms       the line of some numbers
 --   those test ns     the numbers of a list at which a test holds
---   below n           the numbers below n, from 0 on
 --   refusals          the refusals by name, with their numbers
 --   constants         the limits, and the bytes by name
 --   zeros, usedOnly, badPair, headed   what the tests are tried on: slices, records, tables of two entries, headers
@@ -16,7 +15,7 @@ pub mod Refusals
 pub mod Constants
 pub mod Bounds
 pub mod Table
-unfoldable pub use Lines.{says, lists, those, below, orderOf}
+unfoldable pub use Lines.{says, lists, those, orderOf}
 unfoldable pub use Refusals.{refusals}
 unfoldable pub use Constants.{constants}
 unfoldable pub use Bounds.{zeros, badPair, usedOnly, headed, told, bounds}

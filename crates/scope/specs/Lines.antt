@@ -1,7 +1,7 @@
 -- A line of the table is an example of the crate sheets: what the definitions give, beside what document 01 writes.
-use Prim.Native.Nat.{ℕ, zero, suc}
+use Prim.Native.Nat.{ℕ}
 use mathlib.Core.Bool.{Bool, cond}
-use mathlib.Core.List.{List, [], _∷_, _++_, map}
+use mathlib.Core.List.{List, [], _∷_, map}
 use Rattle.refusal.specs.{Row, numberOf}
 use Rattle.sheets.specs.{Example}
 
@@ -17,11 +17,6 @@ says n m = lists (n ∷ []) (m ∷ [])
 abbrev pub those : (ℕ → Bool) → List ℕ → List ℕ
 those test [] = []
 those test (n ∷ ns) = cond (test n) (n ∷ those test ns) (those test ns)
-
--- the numbers below n, from 0 on
-abbrev pub below : ℕ → List ℕ
-below zero = []
-below (suc n) = below n ++ (n ∷ [])
 
 -- the numbers of some rows, in their order
 abbrev pub orderOf : List Row → List ℕ
