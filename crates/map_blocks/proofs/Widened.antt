@@ -66,7 +66,9 @@ module _ {strip palette wide : List ℕ} {n : ℕ} (may : Mappable strip palette
   pub widened-index : (before : List ℕ) {x : List ℕ} → x ≡ fill n (nearestTo wide (entryCount palette) strip) before
       → x ≡ fill n (entryFor palette strip) before
   widened-index before e =
-      e ∙ fill-same n _ _ before (λ i l. nearest-same wide palette _ (shade-same wide palette _ widened-agree) (pixelAt strip i))
+      e
+      ∙ fill-same n _ _ before
+      (λ i l. nearest-same wide palette _ (shade-same wide palette _ widened-agree) (pixelAt strip i))
 
   -- and the errors are those from the entries
   pub widened-errors : {r : Errors} → r ≡ missesOf (pixelAt strip) wide (nearestTo wide (entryCount palette) strip) n
