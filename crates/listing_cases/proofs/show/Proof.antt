@@ -1,4 +1,4 @@
--- `show` meets its contract: what it writes is the listing's bytes, and no more.
+-- `show` is safe and ends: the text that it hands on lies within its array. That it writes this text is run, not proved.
 use mathlib.Core.Path.{sym}
 use lib.Seq.{length-take-le}
 use borrow.Author.Needs.{needs}

@@ -1,4 +1,5 @@
--- `list_one` meets its contract: what it writes is the listing's bytes, and the next input begins behind this one.
+-- `list_one` meets its contract, that the next input begins behind this one; the text that it hands on lies within its
+-- array. That it writes this text is run, not proved.
 use mathlib.Core.Path.{sym}
 use lib.Seq.{length-take-le}
 use borrow.Author.Needs.{needs}
