@@ -1,4 +1,5 @@
--- `show` is safe and ends: the text that it hands on lies within its array. That it writes this text is run, not proved.
+-- `show` is safe and ends: the text that it hands on lies within its array. That it writes this text is run, not
+-- proved.
 use mathlib.Core.Path.{sym}
 use lib.Seq.{length-take-le}
 use borrow.Author.Needs.{needs}

@@ -1,5 +1,5 @@
--- `main` is safe and ends: the input that it reads and the text that it hands on lie within their arrays. That it writes
--- this text is run, not proved.
+-- `main` is safe and ends: the input that it reads and the text that it hands on lie within their arrays. That it
+-- writes this text is run, not proved.
 use mathlib.Core.Path.{sym}
 use lib.Seq.{length-take-le}
 use borrow.Author.Needs.{needs}
