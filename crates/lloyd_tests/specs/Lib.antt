@@ -6,6 +6,7 @@
 --   badLimit               the test of 6 BAD LIMIT
 --   shortMembers, shortTotals   the two parts of 7 SHORT ROOM
 --   badMember              the test of 9 BAD MEMBER
+--   memberOff              the member of an entry is not below the count
 pub mod Tests
 unfoldable pub use Tests.{
   usualLimit,

@@ -29,7 +29,9 @@
 --   Fit, Joined          what a round asks of a state, and of its members where it reads them
 --   Base, listed         the shades that are given, and those that lie in a list of coordinates
 --   onMean C             the table's mean as the only one
+--   nextShade            the shade after some chosen ones: a given one, or the farthest colour
 --   startsFrom, starts   the starting shades from given ones, and from the table's mean
+--   flat p               the three coordinates of a point
 --   remote               how far a colour is from its nearest shade
 --   over l d             d with l over its front
 --   mostRounds           200, the most rounds of a run

@@ -19,6 +19,7 @@
 --   packedNearest s k c  the same of the nearest shade
 --   badCoordinates n     the test of 4 BAD COUNT for n lent coordinates
 --   badCentre s          the test of 8 BAD CENTRE
+--   offGrid s i          coordinate i is above 4080
 pub mod Places
 pub mod Distances
 pub mod Tests
