@@ -31,7 +31,7 @@ module _ {rec : Record} {ks ws : List ℕ} {k limit : ℕ} {ms ts : List ℕ} {r
   done-is = ap (λ (x : Ran). x .refusal) (sym (h .meets .answer)) ∙ h .accepted
 
   -- and its tests failed
-  tests : RunGood rec ks ws k limit ms ts
+  pub tests : RunGood rec ks ws k limit ms ts
   tests = run-good rec ks ws k limit ms ts (run-refuses rec ks ws k limit ms ts .accepted-exactly .0 done-is)
 
   -- so it can be made

@@ -20,17 +20,13 @@ use Rattle.method.specs.{
   step,
   after,
   movedOf,
-  quiet,
   totalOf,
   plainDistances,
   shortDistances,
-  onMean,
   begin,
-  roundsMade,
   Fit,
   Joined,
 }
-use Rattle.method.proofs.Begins.{begin-joined}
 use Rattle.method.proofs.Ends.{still-moves-none, still-total, still-again}
 use Rattle.method.proofs.Falls.{after-more, after-fit, after-joined}
 use Rattle.method.proofs.Fronts.{
@@ -41,15 +37,20 @@ use Rattle.method.proofs.Fronts.{
   front-moved,
   front-step,
 }
-use Rattle.lloyd_tests.specs.{limitOf}
 use Rattle.lloyd_rounds.specs.{RoundOutcome, madeRound, plainRound, shortRound}
 use Rattle.lloyd_rounds.proofs.Accepts.{plain-made, short-made}
 use Rattle.lloyd.specs.Calling.{shortCalls, lentStart, Stays}
 use Rattle.lloyd.specs.Outcomes.{AcceptedRun, left}
 use Rattle.lloyd.specs.declared.Ran.{Ran}
-use Rattle.lloyd.proofs.Accepted.{making}
-use Rattle.lloyd.proofs.Made.{rounds-within, settled-is, total-recorded, member-below, settled-final}
-use Rattle.lloyd.proofs.Wholes.{RunGood, run-refuses, run-good, runnable}
+use Rattle.lloyd.proofs.Accepted.{tests, making, joined}
+use Rattle.lloyd.proofs.Made.{
+  rounds-made,
+  rounds-within,
+  settled-is,
+  total-recorded,
+  member-below,
+  settled-final,
+}
 
 -- ---- what a single round makes of the front of a state
 
@@ -84,32 +85,19 @@ module _ {rec : Record} {ks ws : List ℕ} {k limit : ℕ} {ms ts : List ℕ} {r
   abbrev called : ℕ → State
   called n = shortCalls rec ks ws (lentStart rec ks ws k ms) n
 
-  -- the tests of the run failed
-  tests : RunGood rec ks ws k limit ms ts
-  tests =
-      run-good rec ks ws k limit ms ts
-      (run-refuses rec ks ws k limit ms ts .accepted-exactly .0
-      (ap (λ (x : Ran). x .refusal) (sym (h .meets .answer)) ∙ h .accepted))
-
   -- each state on the way is fit for a round
   fit-at : (n : ℕ) → Fit C k (at n)
   fit-at = after-fit toMean C k (begin C k ms) (making h .good) (making h .fair) (making h .fit)
 
   -- and each member is a shade's number
   joined-at : (n : ℕ) → Joined C k (at n)
-  joined-at =
-      after-joined toMean C k (begin C k ms) (making h .good) (making h .fair) (making h .fit)
-      (begin-joined (onMean C) C k ms (making h .fit .some) (runnable rec ks ws k limit ms ts tests .members-room))
-
-  -- as many rounds as the run makes
-  rounds-are : r .rounds ≡ roundsMade (limitOf limit) (quiet toMean C k (begin C k ms))
-  rounds-are = ap (λ (x : Ran). x .rounds) (making h .meets .answer)
+  joined-at = after-joined toMean C k (begin C k ms) (making h .good) (making h .fair) (making h .fit) (joined h)
 
   -- ---- the calls
 
   -- a call on the front of what the run has after n rounds is made
   call-at : (n : ℕ) → shortRound rec ks ws (frontOf k (at n)) ≡ madeRound toMean C k (frontOf k (at n)) shortDistances
-  call-at n = short-of-front rec ks ws k (at n) (tests .table) (fit-at n) (joined-at n)
+  call-at n = short-of-front rec ks ws k (at n) (tests h .table) (fit-at n) (joined-at n)
 
   -- n calls leave that front
   pub calls-are-rounds : (n : ℕ) → called n ≡ frontOf k (at n)
@@ -146,7 +134,7 @@ module _ {rec : Record} {ks ws : List ℕ} {k limit : ℕ} {ms ts : List ℕ} {r
       sum-eq (r .rounds) _ (λ n. shortDistances C k (at n))
       (λ n l. ap (λ (o : RoundOutcome). o .answer .distances) (call-made n)
       ∙ front-distances C k (at n) (joined-at n))
-      ∙ ap (λ m. sum m (λ n. shortDistances C k (at n))) rounds-are
+      ∙ ap (λ m. sum m (λ n. shortDistances C k (at n))) (rounds-made (making h))
       ∙ sym (ap (λ (x : Ran). x .distances) (making h .meets .answer))
 
   -- ---- what the run leaves
@@ -155,7 +143,7 @@ module _ {rec : Record} {ks ws : List ℕ} {k limit : ℕ} {ms ts : List ℕ} {r
   left-is : left r members ≡ at (r .rounds)
   left-is =
       ap₂ stateOf (ap (λ (x : Ran). x .shades) (making h .meets .answer)) (making h .meets .members-are)
-      ∙ ap at (sym rounds-are)
+      ∙ ap at (sym (rounds-made (making h)))
 
   -- and so do the calls, in three coordinates for each shade
   pub calls-leave : called (r .rounds) ≡ frontOf k (left r members)
@@ -217,11 +205,11 @@ module _ {rec : Record} {ks ws : List ℕ} {k limit : ℕ} {ms ts : List ℕ} {r
     pub settled-plain :
         Stays (plainRound rec ks ws (frontOf k (left r members))) (frontOf k (left r members)) (r .total)
     settled-plain =
-        rw (plain-of-front rec ks ws k (left r members) (tests .table) left-fit) (front-stays plainDistances)
+        rw (plain-of-front rec ks ws k (left r members) (tests h .table) left-fit) (front-stays plainDistances)
 
     -- and a shortened one
     pub settled-short :
         Stays (shortRound rec ks ws (frontOf k (left r members))) (frontOf k (left r members)) (r .total)
     settled-short =
-        rw (short-of-front rec ks ws k (left r members) (tests .table) left-fit left-joined)
+        rw (short-of-front rec ks ws k (left r members) (tests h .table) left-fit left-joined)
         (front-stays shortDistances)

@@ -83,7 +83,7 @@ module _ {rule : Rule} {C : Colours} {k limit : ℕ} {a : State} {ts : List ℕ}
   -- ---- the rounds
 
   -- the rounds are those of the run
-  rounds-made : r .rounds ≡ roundsMade limit (quiet rule C k a)
+  pub rounds-made : r .rounds ≡ roundsMade limit (quiet rule C k a)
   rounds-made = ap (λ (x : Ran). x .rounds) (m .meets .answer)
 
   -- they are 1 at least and the limit at most
