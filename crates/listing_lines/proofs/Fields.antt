@@ -1,7 +1,7 @@
 -- The lines one by one, and their fields; what tells lines from the line of a refusal, and one refusal from another.
 use Prim.Native.Nat.{ℕ, zero, suc, _+_, _-_, _/_, _^_, _≤_, _<_}
 use mathlib.Core.Bool.{true}
-use mathlib.Core.List.{List, [], _∷_, _++_, append-assoc}
+use mathlib.Core.List.{List, [], _∷_, _++_, append-assoc, append-cancel-right}
 use mathlib.Core.Logic.{⊎-elim}
 use mathlib.Core.Path.{_≡_, refl, sym, ap, _∙_, subst}
 use native.Mathlib.Decide.{decLe}
@@ -10,7 +10,6 @@ use lib.Dec.{eqb}
 use lib.ListN.{getD, length, drop, length-append, List·getD-append}
 use lib.Seq.{getD-at, getD-append-add}
 use Rattle.number.specs.{sum}
-use Rattle.number.proofs.Parts.{snoc-only}
 use Rattle.number.proofs.Searches.{below-or-last}
 use Rattle.number.proofs.Sums.{sum-eq}
 use Rattle.number.proofs.Counts.{howMany-at-most}
@@ -149,4 +148,4 @@ refused-not-lines n s palette index e =
 -- and the line tells the number
 pub refused-only : (a b : ℕ) → a < 10 ^ mostDecimal → b < 10 ^ mostDecimal → refusedText a ≡ refusedText b → a ≡ b
 refused-only a b h l e =
-    text-only a b h l (snoc-only lineFeed (decimalText a) (decimalText b) (ap (drop 8) e))
+    text-only a b h l (append-cancel-right (decimalText a) (decimalText b) (lineFeed ∷ []) (ap (drop 8) e))

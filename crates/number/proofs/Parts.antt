@@ -3,16 +3,8 @@ use Prim.Native.Nat.{ℕ, zero, suc, _+_, _≤_, _<_}
 use mathlib.Core.List.{List, [], _∷_, _++_}
 use mathlib.Core.Path.{_≡_, refl, sym, ap, _∙_}
 use native.Mathlib.Omega.{arith}
-use lib.ListN.{length, getD, take, drop, length-append, List·getD-append}
-use lib.Seq.{
-  length-take-le,
-  getD-append-add,
-  getD-take,
-  getD-drop,
-  take-nil,
-  drop-nil,
-  take-append-seam,
-}
+use lib.ListN.{length, getD, take, drop, List·getD-append}
+use lib.Seq.{length-take-le, getD-append-add, getD-take, getD-drop, take-nil, drop-nil}
 use borrow.Rule.Slice.PartMut.{midOf, postOf}
 use Rattle.number.specs.Fill.{fill, fillFrom}
 use Rattle.number.proofs.Fills.{fill-same, fill-nil, fill-length, fill-at, fill-kept}
@@ -27,13 +19,6 @@ take-at-most zero m d low i = omega arith
 take-at-most (suc n) m [] low i = omega arith
 take-at-most (suc n) m (x ∷ d) low zero = low zero
 take-at-most (suc n) m (x ∷ d) low (suc i) = take-at-most n m d (λ j. low (suc j)) i
-
--- lists that are one with one element more at the end are one
-pub snoc-only : (a : ℕ) (x y : List ℕ) → x ++ a ∷ [] ≡ y ++ a ∷ [] → x ≡ y
-snoc-only a x y e =
-    let long : length x ≡ length y = omega (arith, ap length e, length-append x (a ∷ []), length-append y (a ∷ [])) in
-    sym (take-append-seam x (a ∷ [])) ∙ ap (take (length x)) e ∙ ap (λ n. take n (y ++ a ∷ [])) long
-    ∙ take-append-seam y (a ∷ [])
 
 -- a place before a part that is laid over the list keeps its value
 pub laid-before : (a i : ℕ) (d x z : List ℕ) → a ≤ length d → i < a → getD (take a d ++ (x ++ z)) i 0 ≡ getD d i 0

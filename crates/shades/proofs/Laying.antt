@@ -4,14 +4,14 @@ use mathlib.Core.Bool.{true}
 use mathlib.Core.List.{List}
 use mathlib.Core.Logic.{_↔_}
 use mathlib.Core.Path.{_≡_, refl, sym, ap, _∙_}
-use native.Mathlib.Decide.{decLt}
 use native.Mathlib.Omega.{arith}
-use lib.ListN.{getD, length, take, length-take, List·getD-eq-default}
+use lib.ListN.{getD, length, take}
 use lib.Seq.{getD-take}
 use lib.Dec.{eqb}
 use borrow.Author.Tests.{eqb-true, eq-eqb}
 use Rattle.number.proofs.Cases.{both}
 use Rattle.number.proofs.Fills.{fill-at, fill-at-most, fill-length}
+use Rattle.number.proofs.Parts.{take-at-most}
 use Rattle.colour.specs.{Point, Within, mostCoordinate, mostDistance}
 use Rattle.colour.proofs.Distances.{distance-most}
 use Rattle.shades.specs.Places.{shadeAt, axis, coordinateOf, laid, samePlace, OnGrid}
@@ -70,11 +70,7 @@ front-shade s k q h =
 
 -- the front of coordinates on the grid is on the grid
 pub front-low : (s : List ℕ) (n : ℕ) → OnGrid s → OnGrid (take n s)
-front-low s n low i =
-    elim (decLt i n) [
-      | yes l ↦ rw (getD-take n s i 0 l) (low i)
-      | no l ↦ omega (arith, List·getD-eq-default (take n s) 0 {n = i} (omega (arith, length-take n s)))
-    ]
+front-low s n low = take-at-most n mostCoordinate s low
 
 -- ---- shades laid in
 
