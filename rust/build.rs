@@ -1,60 +1,85 @@
-// Builds the archive of the proved library and links it.
+// Has the proved library built, and links it.
 //
-// On x86-64 that is `rt staticlib kohlenfloh`, which proves the library and writes the archive. `rt` compiles for
-// x86-64 alone, so on another processor tools/native-lib proves it in the same way and compiles the same module for
-// that processor. KOHLENFLOH_ARCHIVE names a folder that holds a libkohlenfloh.a made before; it is used as it is.
+// tools/library proves it and compiles it for the processor at hand, below the folder that cargo gives to this script;
+// nothing is written beside the sources. KOHLENFLOH_ARCHIVE names a folder that tools/library filled before; what it
+// holds is used as it is.
 use std::env;
+use std::fs;
+use std::io::IsTerminal;
 use std::path::{Path, PathBuf};
 use std::process::Command;
 
 /// The archive's name.
 const ARCHIVE: &str = "libkohlenfloh.a";
 
+/// The file beside the archive that tells what made it, a line `name: value` each.
+const MADE: &str = "libkohlenfloh.made";
+
 fn main() {
     println!("cargo:rerun-if-env-changed=KOHLENFLOH_ARCHIVE");
-    let made = match env::var_os("KOHLENFLOH_ARCHIVE") {
-        Some(folder) => made_before(PathBuf::from(folder)),
-        None => build_archive(),
-    };
-    // A copy of its own, so that whoever clears the folder it was made in takes nothing away from here.
     let out = PathBuf::from(env::var_os("OUT_DIR").expect("cargo names a folder for what is built"));
-    std::fs::copy(&made, out.join(ARCHIVE)).unwrap_or_else(|why| panic!("cannot copy {}: {why}", made.display()));
-    println!("cargo:rustc-link-search=native={}", out.display());
+    let built = out.join("library");
+    match env::var_os("KOHLENFLOH_ARCHIVE") {
+        Some(folder) => take(Path::new(&folder), &built),
+        None => build(&built),
+    }
+    println!("cargo:rustc-link-search=native={}", built.display());
     println!("cargo:rustc-link-lib=static=kohlenfloh");
+    tell_what_made(&built);
 }
 
-/// The archive in a folder, used again when it changes.
-fn made_before(folder: PathBuf) -> PathBuf {
-    let made = folder.join(ARCHIVE);
-    println!("cargo:rerun-if-changed={}", made.display());
-    made
+/// Takes an archive that was made before, again when it changes. It is copied, so that whoever clears its folder takes
+/// nothing away from here.
+fn take(folder: &Path, built: &Path) {
+    fs::create_dir_all(built).unwrap_or_else(|why| panic!("cannot make {}: {why}", built.display()));
+    for name in [ARCHIVE, MADE] {
+        let from = folder.join(name);
+        println!("cargo:rerun-if-changed={}", from.display());
+        fs::copy(&from, built.join(name)).unwrap_or_else(|why| {
+            panic!("cannot copy {}, which KOHLENFLOH_ARCHIVE leads to: {why}", from.display());
+        });
+    }
 }
 
-/// An archive built from the sources beside this crate, and built again when they change. The archive is none of those:
-/// it is later than the start of the build that makes it, and would have it made at every use.
-fn build_archive() -> PathBuf {
+/// Builds the library from the sources beside this crate, again when they change. What is built is none of those: it is
+/// later than the start of the build that makes it, and would have it made at every use.
+fn build(built: &Path) {
     let here = PathBuf::from(env::var_os("CARGO_MANIFEST_DIR").expect("cargo names the crate's folder"));
     let top = here.parent().expect("the crate stands in the repository");
-    for source in ["crates", "crates.txt", "tools/native-lib"] {
+    for source in ["crates", "crates.txt", "Cargo.toml", "tools"] {
         println!("cargo:rerun-if-changed={}", top.join(source).display());
     }
-    if env::var("CARGO_CFG_TARGET_ARCH").as_deref() == Ok("x86_64") {
-        run(Command::new("rt").args(["staticlib", "kohlenfloh"]), top);
-        return top.join("target/staticlib").join(ARCHIVE);
+    let mut command = Command::new(top.join("tools/library"));
+    command.arg(built);
+    if let Some(terminal) = terminal() {
+        command.env("KOHLENFLOH_TERMINAL", terminal);
     }
-    run(Command::new(top.join("tools/native-lib")).args(["kohlenfloh", "target/native"]), top);
-    top.join("target/native").join(ARCHIVE)
+    match command.output() {
+        Ok(done) if done.status.success() => {}
+        Ok(done) => fail(&String::from_utf8_lossy(&[done.stdout, done.stderr].concat())),
+        Err(why) => fail(&format!("{command:?} could not be started: {why}")),
+    }
 }
 
-/// Runs a command in a folder, to its end; what it printed is shown if it fails.
-fn run(command: &mut Command, folder: &Path) {
-    match command.current_dir(folder).output() {
-        Ok(done) if done.status.success() => {}
-        Ok(done) => panic!(
-            "{command:?} failed:\n{}{}",
-            String::from_utf8_lossy(&done.stdout),
-            String::from_utf8_lossy(&done.stderr)
-        ),
-        Err(why) => panic!("{command:?} could not be started ({why}); the Rattle toolchain's rt must be on the PATH"),
+/// The terminal on which a person sees what cargo says, if it is one: cargo itself keeps what this script prints.
+fn terminal() -> Option<PathBuf> {
+    let path = PathBuf::from(format!("/proc/{}/fd/2", std::os::unix::process::parent_id()));
+    let terminal = fs::OpenOptions::new().append(true).open(&path).ok()?;
+    terminal.is_terminal().then_some(path)
+}
+
+/// Hands what made the library to the crate, which says it of itself.
+fn tell_what_made(built: &Path) {
+    let made = fs::read_to_string(built.join(MADE)).unwrap_or_else(|why| panic!("cannot read {MADE}: {why}"));
+    for name in ["toolchain", "proof", "sources"] {
+        let value = made.lines().find_map(|line| line.strip_prefix(name)?.strip_prefix(": "));
+        let value = value.unwrap_or_else(|| panic!("{MADE} does not tell the {name}"));
+        println!("cargo:rustc-env=KOHLENFLOH_{}={value}", name.to_uppercase());
     }
+}
+
+/// Ends the build with what went wrong, and nothing around it.
+fn fail(why: &str) -> ! {
+    eprintln!("{}", why.trim_end());
+    std::process::exit(1)
 }

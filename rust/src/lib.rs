@@ -5,7 +5,7 @@
 //! their definitions. The whole way, on a picture of three pixels (0,0,0) and one pixel (10,0,0):
 //!
 //! ```
-//! use kohlenfloh::{Picture, Refusal, Table};
+//! use kohlenfloh::{Picture, Refusal, RunOptions, Table};
 //!
 //! # fn main() -> Result<(), Refusal> {
 //! // A P6 picture. Its raster is a stretch of the input, uncopied.
@@ -19,22 +19,24 @@
 //! assert_eq!(table.keys(), [0, 655_360]);
 //! assert_eq!(table.weights(), [3, 1]);
 //!
-//! // A run that looks for two shades, in as many rounds as a limit of 0 allows, which is 20.
-//! let run = table.run(2, 0)?;
+//! // A run that looks for two shades, in at most as many rounds as usual, which is 20.
+//! let run = table.run(RunOptions::shades(2))?;
 //! assert_eq!(run.shades.coordinates(), [0, 0, 0, 160, 0, 0]);
 //! assert_eq!(run.totals, [4800, 0]);
 //! assert!(run.settled);
 //! assert_eq!((run.rounds, run.distances, run.total), (2, 5, 0));
 //!
 //! // One shade is (40,0,0) in sixteenths of a level. Its palette is (3,0,0), in whole levels.
-//! let palette = table.run(1, 0)?.shades.palette()?;
+//! let palette = table.run(RunOptions::shades(1))?.shades.palette()?;
 //! assert_eq!(palette.bytes(), [3, 0, 0]);
 //!
 //! // Each pixel gets the number of its nearest palette entry; the error is the sum of squared level differences.
 //! let mapped = palette.map(picture.raster())?;
 //! assert_eq!(mapped.index, [0, 0, 0, 0]);
 //! assert_eq!(mapped.figures.error, 76);
-//! assert_eq!(mapped.figures.mean, Some(19.0));
+//!
+//! // The pixels of each shade are the yarn to be bought.
+//! assert_eq!(mapped.pixels(), [4]);
 //! # Ok(())
 //! # }
 //! ```
@@ -60,6 +62,19 @@
 //! | [`Shades::from_coordinates`] | 4 BAD COUNT, 8 BAD CENTRE |
 //! | [`Palette::from_bytes`] | 10 BAD PALETTE |
 //!
+//! # Limits
+//!
+//! | Limit | Number |
+//! |---|---|
+//! | [`Shades::MOST`], shades of a run and entries of a palette | 64 |
+//! | [`RunOptions::MOST_ROUNDS`], rounds of a run | 200 |
+//! | [`RunOptions::USUAL_LIMIT`], rounds where no limit is given | 20 |
+//! | [`Table::MOST_ENTRIES`], colours of a table | 1,048,576 |
+//! | [`Table::MOST_PIXELS`], pixels of a table | 16,777,216 |
+//! | [`Palette::MOST_PIXELS`], pixels of one mapping | 16,777,216 |
+//! | [`Picture::MOST_SIDE`], width or height of a picture | 16,384 |
+//! | [`Picture::MOST_PIXELS`], pixels of a picture | 16,777,216 |
+//!
 //! # Threads and stack
 //!
 //! The library keeps nothing between calls, so calls in several threads do not meet. A call uses less than about 1 MiB
@@ -78,6 +93,7 @@
 #![deny(missing_docs)]
 
 pub mod calls;
+pub mod made;
 mod mapping;
 mod palette;
 mod picture;
@@ -91,6 +107,6 @@ pub use mapping::{Figures, Mapped};
 pub use palette::Palette;
 pub use picture::Picture;
 pub use refusal::Refusal;
-pub use rounds::{Round, Run};
+pub use rounds::{Round, Run, RunOptions};
 pub use shades::Shades;
 pub use table::{Record, Table};

@@ -41,6 +41,31 @@ pub struct Mapped {
     pub index: Vec<u8>,
     /// Error and means.
     pub figures: Figures,
+    /// How many entries the palette has.
+    count: usize,
+}
+
+impl Mapped {
+    /// The pixels of each palette entry, in the order of the numbers; 0 for an entry that no pixel has.
+    ///
+    /// ```
+    /// use kohlenfloh::Palette;
+    ///
+    /// let palette = Palette::from_bytes(&[0, 0, 0, 10, 0, 0, 200, 0, 0])?;
+    /// let mapped = palette.map(&[0, 0, 0, 9, 0, 0, 1, 0, 0])?;
+    /// assert_eq!(mapped.pixels(), [2, 1, 0]);
+    /// # Ok::<(), kohlenfloh::Refusal>(())
+    /// ```
+    pub fn pixels(&self) -> Vec<u64> {
+        let mut pixels = vec![0; self.count];
+        for number in &self.index {
+            // The index may have been changed since: a number past the palette's entries is no entry's.
+            if let Some(pixels) = pixels.get_mut(usize::from(*number)) {
+                *pixels += 1;
+            }
+        }
+        pixels
+    }
 }
 
 impl Palette {
@@ -64,7 +89,7 @@ impl Palette {
     pub fn map(&self, strip: &[u8]) -> Result<Mapped, Refusal> {
         let mut index = vec![0; strip.len() / 3];
         let figures = self.map_into(strip, &mut index, 0)?;
-        Ok(Mapped { index, figures })
+        Ok(Mapped { index, figures, count: self.count() })
     }
 
     /// Maps a strip into its stretch of an index picture, which begins at place `first` and has a byte for each pixel.

@@ -22,6 +22,9 @@ pub struct Palette {
 }
 
 impl Palette {
+    /// The most pixels that one call maps, 16,777,216.
+    pub const MOST_PIXELS: usize = 16_777_216;
+
     /// A palette from its bytes, three for each entry, tested by the library.
     ///
     /// ```

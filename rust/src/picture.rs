@@ -24,6 +24,12 @@ pub struct Picture<'a> {
 }
 
 impl<'a> Picture<'a> {
+    /// The most pixels in a row, and the most rows: 16,384.
+    pub const MOST_SIDE: usize = 16_384;
+
+    /// The most pixels a picture can have, 16,777,216.
+    pub const MOST_PIXELS: usize = 16_777_216;
+
     /// Reads a P6 picture: the header, then three bytes for each pixel and nothing after them.
     ///
     /// Sides are 1 to 16,384, pixels at most 16,777,216, the depth is 255, and comments are not read.

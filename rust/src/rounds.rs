@@ -4,8 +4,42 @@ use crate::refusal::Refusal;
 use crate::shades::Shades;
 use crate::table::Table;
 
-/// The most rounds a run can make, and so the most totals it can leave.
-const MOST_ROUNDS: usize = 200;
+/// What is asked of a run: how many shades, and in how many rounds at most.
+///
+/// ```
+/// use kohlenfloh::RunOptions;
+///
+/// let usual = RunOptions::shades(6);
+/// let longer = RunOptions::shades(6).limit(RunOptions::MOST_ROUNDS);
+/// assert_eq!((usual.count, usual.limit), (6, 0));
+/// assert_eq!((longer.count, longer.limit), (6, 200));
+/// ```
+#[derive(Clone, Copy, Debug, PartialEq, Eq, Hash)]
+#[non_exhaustive]
+pub struct RunOptions {
+    /// How many shades are looked for, 1 to [`Shades::MOST`].
+    pub count: usize,
+    /// The most rounds, at most [`RunOptions::MOST_ROUNDS`]; 0 means [`RunOptions::USUAL_LIMIT`].
+    pub limit: usize,
+}
+
+impl RunOptions {
+    /// The most rounds a run can make, and so the most totals it can leave: 200.
+    pub const MOST_ROUNDS: usize = 200;
+
+    /// The round limit where none is asked for: 20.
+    pub const USUAL_LIMIT: usize = 20;
+
+    /// A run that looks for so many shades, in the usual number of rounds.
+    pub const fn shades(count: usize) -> RunOptions {
+        RunOptions { count, limit: 0 }
+    }
+
+    /// The same run in at most so many rounds.
+    pub const fn limit(self, limit: usize) -> RunOptions {
+        RunOptions { limit, ..self }
+    }
+}
 
 /// What a single round answers.
 #[derive(Clone, Copy, Debug, PartialEq, Eq)]
@@ -22,11 +56,11 @@ pub struct Round {
 /// What a run leaves and answers.
 ///
 /// ```
-/// use kohlenfloh::Table;
+/// use kohlenfloh::{RunOptions, Table};
 ///
 /// let mut table = Table::with_room(16);
 /// table.add(&[0, 0, 0, 0, 0, 0, 0, 0, 0, 10, 0, 0])?;
-/// let run = table.run(2, 1)?;
+/// let run = table.run(RunOptions::shades(2).limit(1))?;
 /// assert_eq!(run.members, [0, 1]);
 /// assert_eq!(run.totals, [4800]);
 /// assert!(!run.settled);
@@ -53,26 +87,26 @@ pub struct Run {
 }
 
 impl Table {
-    /// Looks for so many shades: maximin starting shades, then rounds to the first one that moves no shade, or to the
-    /// limit. A limit of 0 means 20.
+    /// Looks for shades: maximin starting shades, then rounds to the first one that moves no shade, or to the limit.
     ///
     /// ```
-    /// use kohlenfloh::{Refusal, Table};
+    /// use kohlenfloh::{Refusal, RunOptions, Table};
     ///
     /// let mut table = Table::with_room(16);
     /// table.add(&[0, 0, 0, 0, 0, 0, 0, 0, 0, 10, 0, 0])?;
-    /// let run = table.run(1, 0)?;
+    /// let run = table.run(RunOptions::shades(1))?;
     /// assert_eq!(run.shades.coordinates(), [40, 0, 0]);
     /// assert_eq!((run.rounds, run.settled, run.total), (1, true, 19_200));
-    /// assert_eq!(table.run(3, 0), Err(Refusal::FewColours));
+    /// assert_eq!(table.run(RunOptions::shades(3)), Err(Refusal::FewColours));
     /// # Ok::<(), Refusal>(())
     /// ```
     ///
     /// # Refusals
     /// BAD COUNT, FEW COLOURS, BAD LIMIT.
-    pub fn run(&self, count: usize, limit: usize) -> Result<Run, Refusal> {
+    pub fn run(&self, options: RunOptions) -> Result<Run, Refusal> {
+        let RunOptions { count, limit } = options;
         let mut members = vec![0; self.used()];
-        let mut totals = vec![0; MOST_ROUNDS];
+        let mut totals = vec![0; RunOptions::MOST_ROUNDS];
         let ran = calls::run(self.record(), self.keys(), self.weights(), count, limit, &mut members, &mut totals)?;
         totals.truncate(ran.rounds);
         Ok(Run {

@@ -104,11 +104,11 @@ impl Table {
     /// The library tests it, as it tests the table at every call.
     ///
     /// ```
-    /// use kohlenfloh::{Record, Refusal, Table};
+    /// use kohlenfloh::{Record, Refusal, RunOptions, Table};
     ///
     /// let record = Record::new(2, 4);
     /// let table = Table::from_parts(record, vec![0, 655_360], vec![3, 1])?;
-    /// assert_eq!(table.run(1, 0)?.totals, [19_200]);
+    /// assert_eq!(table.run(RunOptions::shades(1))?.totals, [19_200]);
     ///
     /// let twice = Table::from_parts(record, vec![7, 7], vec![3, 1]);
     /// assert_eq!(twice.unwrap_err(), Refusal::BadTable);

@@ -4,7 +4,7 @@ mod program;
 use std::fs;
 use std::io::Write;
 
-use kohlenfloh::{Picture, Table};
+use kohlenfloh::{Picture, RunOptions, Table};
 use program::{printed, program, run, said, Folder, RUG};
 
 /// The order sheet of the rug for six shades, without the line that names the picture.
@@ -120,7 +120,7 @@ fn a_picture_of_several_strips_is_mapped_as_a_whole() {
     let input = [b"P6 1999 1501 255\n".as_slice(), &raster].concat();
     let mut table = Table::with_room(raster.len() / 3);
     table.add(&raster).unwrap();
-    let mapped = table.run(5, 0).unwrap().shades.palette().unwrap().map(&raster).unwrap();
+    let mapped = table.run(RunOptions::shades(5)).unwrap().shades.palette().unwrap().map(&raster).unwrap();
 
     let output = run(&["shades", "5", "--index", &folder.path("index.pgm")], &input);
     assert!(printed(&output).contains(&format!("\ncolours            {}\n", table.used())));

@@ -1,7 +1,7 @@
 //! The header and this crate: a name that both have stands for the same number.
 use std::collections::BTreeMap;
 
-use kohlenfloh::{raw, Refusal, Shades, Table};
+use kohlenfloh::{raw, Palette, Picture, Refusal, RunOptions, Shades, Table};
 
 /// The header.
 const HEADER: &str = include_str!("../../include/kohlenfloh.h");
@@ -73,7 +73,11 @@ fn bounds_are_those_of_the_header() {
     let bounds: Numbers = HEADER.lines().filter(|line| line.starts_with("#define")).filter_map(named).collect();
     assert_eq!(bounds["KF_MOST_ENTRIES"], Table::MOST_ENTRIES as u64);
     assert_eq!(bounds["KF_MOST_PIXELS"], Table::MOST_PIXELS);
+    assert_eq!(bounds["KF_MOST_PIXELS"], Picture::MOST_PIXELS as u64);
+    assert_eq!(bounds["KF_MOST_PIXELS"], Palette::MOST_PIXELS as u64);
     assert_eq!(bounds["KF_MOST_SHADES"], Shades::MOST as u64);
+    assert_eq!(bounds["KF_MOST_ROUNDS"], RunOptions::MOST_ROUNDS as u64);
+    assert_eq!(bounds["KF_USUAL_LIMIT"], RunOptions::USUAL_LIMIT as u64);
     assert_eq!(bounds["KF_MOST_COORDINATES"], raw::KF_MOST_COORDINATES as u64);
 }
 

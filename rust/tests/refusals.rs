@@ -1,5 +1,5 @@
 //! Each refusal, met through the safe types, and what is left unchanged by it.
-use kohlenfloh::{Palette, Picture, Record, Refusal, Shades, Table};
+use kohlenfloh::{Palette, Picture, Record, Refusal, RunOptions, Shades, Table};
 
 /// A table of two colours.
 fn two_colours() -> Table {
@@ -90,14 +90,14 @@ fn full_table_of_most_entries() {
 #[test]
 fn bad_count_few_colours_bad_limit_in_their_order() {
     let table = two_colours();
-    assert_eq!(table.run(0, 0), Err(Refusal::BadCount));
-    assert_eq!(table.run(65, 201), Err(Refusal::BadCount));
-    assert_eq!(table.run(usize::MAX, 0), Err(Refusal::BadCount));
-    assert_eq!(table.run(64, 201), Err(Refusal::FewColours));
-    assert_eq!(table.run(3, 0), Err(Refusal::FewColours));
-    assert_eq!(table.run(2, 201), Err(Refusal::BadLimit));
-    assert_eq!(table.run(2, usize::MAX), Err(Refusal::BadLimit));
-    assert!(table.run(2, 200).is_ok());
+    assert_eq!(table.run(RunOptions::shades(0)), Err(Refusal::BadCount));
+    assert_eq!(table.run(RunOptions::shades(65).limit(201)), Err(Refusal::BadCount));
+    assert_eq!(table.run(RunOptions::shades(usize::MAX)), Err(Refusal::BadCount));
+    assert_eq!(table.run(RunOptions::shades(64).limit(201)), Err(Refusal::FewColours));
+    assert_eq!(table.run(RunOptions::shades(3)), Err(Refusal::FewColours));
+    assert_eq!(table.run(RunOptions::shades(2).limit(201)), Err(Refusal::BadLimit));
+    assert_eq!(table.run(RunOptions::shades(2).limit(usize::MAX)), Err(Refusal::BadLimit));
+    assert!(table.run(RunOptions::shades(2).limit(200)).is_ok());
 }
 
 #[test]

@@ -1,5 +1,5 @@
 //! Sheets A to I of the scope, and the cases that stand beside them, through the safe types.
-use kohlenfloh::{Palette, Picture, Record, Refusal, Shades, Table};
+use kohlenfloh::{Palette, Picture, Record, Refusal, RunOptions, Shades, Table};
 
 /// The raster of sheet A: pixels (0,0,0) three times and (10,0,0).
 const RASTER: [u8; 12] = [0, 0, 0, 0, 0, 0, 0, 0, 0, 10, 0, 0];
@@ -27,7 +27,7 @@ fn sheet_a_the_table() {
 
 #[test]
 fn sheet_b_one_shade() {
-    let run = table_of(&RASTER).run(1, 0).unwrap();
+    let run = table_of(&RASTER).run(RunOptions::shades(1)).unwrap();
     assert_eq!(run.shades.coordinates(), [40, 0, 0]);
     assert_eq!(run.totals, [19_200]);
     assert_eq!((run.rounds, run.settled, run.total), (1, true, 19_200));
@@ -36,7 +36,7 @@ fn sheet_b_one_shade() {
 
 #[test]
 fn sheet_c_its_palette_and_figures() {
-    let palette = table_of(&RASTER).run(1, 0).unwrap().shades.palette().unwrap();
+    let palette = table_of(&RASTER).run(RunOptions::shades(1)).unwrap().shades.palette().unwrap();
     assert_eq!(palette.bytes(), [3, 0, 0]);
     let mapped = palette.map(&RASTER).unwrap();
     assert_eq!(mapped.index, [0; 4]);
@@ -49,7 +49,7 @@ fn sheet_c_its_palette_and_figures() {
 #[test]
 fn sheet_d_two_shades() {
     let table = table_of(&RASTER);
-    let run = table.run(2, 0).unwrap();
+    let run = table.run(RunOptions::shades(2)).unwrap();
     assert_eq!(run.shades.coordinates(), [0, 0, 0, 160, 0, 0]);
     assert_eq!(run.totals, [4800, 0]);
     assert_eq!((run.rounds, run.settled, run.distances, run.total), (2, true, 5, 0));
@@ -67,7 +67,7 @@ fn sheet_d_two_shades() {
 
 #[test]
 fn sheet_e_limit_one() {
-    let run = table_of(&RASTER).run(2, 1).unwrap();
+    let run = table_of(&RASTER).run(RunOptions::shades(2).limit(1)).unwrap();
     assert_eq!(run.totals, [4800]);
     assert_eq!((run.rounds, run.settled, run.total), (1, false, 0));
 }
@@ -75,7 +75,7 @@ fn sheet_e_limit_one() {
 #[test]
 fn sheet_f_equal_weights() {
     let table = table_of(&[0, 0, 0, 10, 0, 0]);
-    let run = table.run(2, 0).unwrap();
+    let run = table.run(RunOptions::shades(2)).unwrap();
     assert_eq!(run.totals, [6400, 0]);
     assert_eq!(run.shades.coordinates(), [160, 0, 0, 0, 0, 0]);
 }
@@ -92,7 +92,7 @@ fn sheet_g_a_distance_of_exactly_four_times() {
 
 #[test]
 fn sheet_h_a_mean_that_is_rounded_twice() {
-    let run = table_of(&pixels_of((17, [10, 0, 0]), (15, [11, 0, 0]))).run(1, 0).unwrap();
+    let run = table_of(&pixels_of((17, [10, 0, 0]), (15, [11, 0, 0]))).run(RunOptions::shades(1)).unwrap();
     assert_eq!(run.shades.shade(0), Some([168, 0, 0]));
     assert_eq!(run.shades.palette().unwrap().entry(0), Some([11, 0, 0]));
 }
@@ -112,7 +112,7 @@ fn sheet_i_a_shade_with_no_group_stays() {
 fn nothing_is_a_strip_too() {
     let mut table = Table::with_room(0);
     assert_eq!(table.add(&[]), Ok(0));
-    assert_eq!(table.run(1, 0), Err(Refusal::FewColours));
+    assert_eq!(table.run(RunOptions::shades(1)), Err(Refusal::FewColours));
     let mapped = Palette::from_bytes(&[1, 2, 3]).unwrap().map(&[]).unwrap();
     assert_eq!((mapped.figures.mean, mapped.figures.channel_means), (None, [0.0; 3]));
 }

@@ -1,7 +1,7 @@
 //! Strips: however a picture is cut, the table, the run and the index picture are the same; in several threads too.
 use std::thread::Builder;
 
-use kohlenfloh::{Palette, Run, Table};
+use kohlenfloh::{Palette, Run, RunOptions, Table};
 
 /// A raster of so many pixels with uneven colours, the same at every call.
 fn raster_of(pixels: usize) -> Vec<u8> {
@@ -29,7 +29,7 @@ fn mapped_in_strips(palette: &Palette, raster: &[u8], pixels: usize) -> (Vec<u8>
 
 /// The run that the tests below compare.
 fn run_of(raster: &[u8]) -> Run {
-    table_in_strips(raster, raster.len()).run(17, 40).unwrap()
+    table_in_strips(raster, raster.len()).run(RunOptions::shades(17).limit(40)).unwrap()
 }
 
 #[test]
@@ -41,7 +41,10 @@ fn a_table_in_strips_equals_the_whole() {
         let table = table_in_strips(&raster, pixels);
         assert_eq!(table.record(), whole.record());
         assert!(table.entries().eq(whole.entries()));
-        assert_eq!(table.run(17, 40).unwrap(), whole.run(17, 40).unwrap());
+        assert_eq!(
+            table.run(RunOptions::shades(17).limit(40)).unwrap(),
+            whole.run(RunOptions::shades(17).limit(40)).unwrap()
+        );
     }
 }
 
@@ -64,7 +67,7 @@ fn a_stored_table_is_the_table() {
     let table = table_in_strips(&raster_of(5000), 5000);
     let stored = Table::from_parts(table.record(), table.keys().to_vec(), table.weights().to_vec()).unwrap();
     assert_eq!(stored.room(), table.used());
-    assert_eq!(stored.run(9, 0), table.run(9, 0));
+    assert_eq!(stored.run(RunOptions::shades(9)), table.run(RunOptions::shades(9)));
 }
 
 #[test]

@@ -1,5 +1,5 @@
 //! The way from a picture to its index picture, strip by strip.
-use kohlenfloh::{Palette, Picture, Refusal, Run, Table};
+use kohlenfloh::{Palette, Picture, Refusal, Run, RunOptions, Table};
 
 use crate::digits::grouped;
 use crate::failure::{Case, Failure};
@@ -45,7 +45,7 @@ fn make<'a>(table: &mut Table, bytes: &'a [u8], count: usize, limit: usize) -> R
         table.add(strip)?;
     }
     progress.say(&format!("looking for {count} shades of {} colours", grouped(table.used() as u64)));
-    let run = table.run(count, limit)?;
+    let run = table.run(RunOptions::shades(count).limit(limit))?;
     let palette = run.shades.palette()?;
     let mut index = vec![0; picture.pixels()];
     let mut error = 0;
