@@ -4,7 +4,7 @@
  * count the pixels of each shade. Prints what the listing program prints, for pictures of any size that the library
  * takes. A refusal is one line on standard error, and its number the exit status.
  *
- *   cc -O2 -Iinclude examples/order.c -Ltarget/staticlib -lkohlenfloh -o order
+ *   cc -O2 -Iinclude examples/order.c target/library/libkohlenfloh.a -o order
  */
 #include "kohlenfloh.h"
 
@@ -27,7 +27,8 @@ static void *room(size_t bytes)
 static void check(const char *job, uint32_t number)
 {
     if (number != KF_DONE) {
-        fprintf(stderr, "order: %s refused %" PRIu32 "\n", job, number);
+        fprintf(stderr, "order: %s refused %" PRIu32 " %s: %s\n", job, number, kf_refusal_name(number),
+                kf_refusal_sentence(number));
         exit((int)number);
     }
 }

@@ -28,7 +28,7 @@
  *   member     the number of the shade that a table colour has joined, by the entry's place
  *   total      the sum over colours of weight times distance to the shade joined
  *
- * Link with -lkohlenfloh; nothing else is needed.
+ * Link with -lkohlenfloh, or by `pkg-config --cflags --libs kohlenfloh` where it is installed; nothing else is needed.
  */
 #ifndef KOHLENFLOH_H
 #define KOHLENFLOH_H
@@ -39,6 +39,9 @@
 #ifdef __cplusplus
 extern "C" {
 #endif
+
+/* The version of the library that this header belongs to. */
+#define KF_VERSION "0.1.0"
 
 /* The refusals. */
 enum kf_refusal {
@@ -62,6 +65,62 @@ enum kf_refusal {
     KF_BAD_DEPTH = 14,   /* depth not 255 */
     KF_BAD_RASTER = 15   /* raster shorter or longer than 3 bytes for each pixel */
 };
+
+/* A refusal's name, in capitals: "BAD STRIP" for KF_BAD_STRIP. "DONE" for KF_DONE; "UNKNOWN" for any other number, as a
+ * later library may return. */
+static inline const char *kf_refusal_name(uint32_t number)
+{
+    switch (number) {
+    case KF_DONE: return "DONE";
+    case KF_BAD_STRIP: return "BAD STRIP";
+    case KF_BAD_TABLE: return "BAD TABLE";
+    case KF_FULL: return "FULL";
+    case KF_BAD_COUNT: return "BAD COUNT";
+    case KF_FEW_COLOURS: return "FEW COLOURS";
+    case KF_BAD_LIMIT: return "BAD LIMIT";
+    case KF_SHORT_ROOM: return "SHORT ROOM";
+    case KF_BAD_CENTRE: return "BAD CENTRE";
+    case KF_BAD_MEMBER: return "BAD MEMBER";
+    case KF_BAD_PALETTE: return "BAD PALETTE";
+    case KF_MANY_PIXELS: return "MANY PIXELS";
+    case KF_BAD_HEADER: return "BAD HEADER";
+    case KF_BAD_SIZE: return "BAD SIZE";
+    case KF_BAD_DEPTH: return "BAD DEPTH";
+    case KF_BAD_RASTER: return "BAD RASTER";
+    default: return "UNKNOWN";
+    }
+}
+
+/* When a refusal is given, as a sentence for a person. */
+static inline const char *kf_refusal_sentence(uint32_t number)
+{
+    switch (number) {
+    case KF_DONE: return "nothing is refused";
+    case KF_BAD_STRIP: return "pixel bytes not a multiple of 3";
+    case KF_BAD_TABLE:
+        return "used entries above the room, a used key above 16,777,215 or not above the one before, a used weight of "
+               "0, or a pixel total that isn't the sum of the used weights or is above 16,777,216";
+    case KF_FULL: return "the next pixel meets a total of 16,777,216, or is a new colour with no room";
+    case KF_BAD_COUNT:
+        return "shades not 1 to 64; for a single round or a palette from shades, coordinates not 3 to 192 or not a "
+               "multiple of 3";
+    case KF_FEW_COLOURS: return "a run wants more shades than used entries";
+    case KF_BAD_LIMIT: return "round limit above 200";
+    case KF_SHORT_ROOM:
+        return "members fewer than the used entries; totals fewer than the round limit (20 for 0); palette bytes fewer "
+               "than 3 for each shade; or the stretch's first place plus the strip's pixels above the index length";
+    case KF_BAD_CENTRE: return "a coordinate above 4080";
+    case KF_BAD_MEMBER: return "a used entry's former shade number not below the count";
+    case KF_BAD_PALETTE: return "palette bytes not 3 to 192 or not a multiple of 3";
+    case KF_MANY_PIXELS: return "mapping over 16,777,216 pixels";
+    case KF_BAD_HEADER:
+        return "the offset is that of the first byte that cannot stand there, or the input's length if it ends early";
+    case KF_BAD_SIZE: return "sides or product out of range";
+    case KF_BAD_DEPTH: return "depth not 255";
+    case KF_BAD_RASTER: return "raster shorter or longer";
+    default: return "a number that has no name here";
+    }
+}
 
 /* Bounds. */
 #define KF_MOST_ENTRIES 1048576u /* entries of a table */

@@ -1,8 +1,8 @@
 // Has the proved library built, and links it.
 //
 // tools/library proves it and compiles it for the processor at hand, below the folder that cargo gives to this script;
-// nothing is written beside the sources. KOHLENFLOH_ARCHIVE names a folder that tools/library filled before; what it
-// holds is used as it is.
+// nothing is written beside the sources. KOHLENFLOH_ARCHIVE names a folder that tools/library filled, or `make install`
+// (its lib/); what it holds is used as it is.
 use std::env;
 use std::fs;
 use std::io::IsTerminal;
@@ -35,9 +35,9 @@ fn take(folder: &Path, built: &Path) {
     for name in [ARCHIVE, MADE] {
         let from = folder.join(name);
         println!("cargo:rerun-if-changed={}", from.display());
-        fs::copy(&from, built.join(name)).unwrap_or_else(|why| {
-            panic!("cannot copy {}, which KOHLENFLOH_ARCHIVE leads to: {why}", from.display());
-        });
+        if let Err(why) = fs::copy(&from, built.join(name)) {
+            fail(&format!("cannot copy {}, in the folder that KOHLENFLOH_ARCHIVE names: {why}", from.display()));
+        }
     }
 }
 

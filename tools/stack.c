@@ -2,7 +2,7 @@
  * the deepest byte that lost it is looked up. Prints a line for each call, with the bytes in use beyond those of a thread
  * that does nothing; ends with 1 where one is above a mebibyte.
  *
- *     cc -O2 -Iinclude tools/stack.c -LARCHIVE -lkohlenfloh -lpthread -o stack && ./stack
+ *     cc -O2 -Iinclude tools/stack.c target/library/libkohlenfloh.a -lpthread -o stack && ./stack
  */
 #define _GNU_SOURCE
 #include <pthread.h>

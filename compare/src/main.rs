@@ -1,9 +1,4 @@
-//! `compare`: the library held against the model, subject by subject.
-//!
-//! `compare [--seed N] [--from CASE] [--cases M] [--edges] [SUBJECT..]`: without a seed the usual one, and that of
-//! COMPARE_SEED too where it is set; M cases of each subject, from a case on (a subject of one case makes that one);
-//! without a subject, all of them. A failed case is repeated by its seed, `--from` its number, and `--cases 1`. Fewer
-//! cases than usual are not asked to meet every edge case. `--edges` lists how often each edge case was met.
+//! `compare`: the library held against the model, subject by subject. `compare --help` tells how it is asked.
 use std::process::ExitCode;
 use std::time::Instant;
 use std::{env, fmt::Write, thread};
@@ -13,9 +8,33 @@ use compare::subjects::{Failure, Subject, SUBJECTS};
 
 const USUAL_SEED: u64 = 20_240_607;
 
+/// What --help answers before the subjects.
+const HELP: &str = "\
+compare - the proved library held against a plain model of its scope
+
+usage: compare [--seed N] [--from CASE] [--cases M] [--edges] [SUBJECT..]
+
+Makes random and damaged inputs, asks library and model, and compares every
+answer and every byte of every lent slice. Prints a line for each subject and
+ends with `N passed, M failed`; the exit status is 0 where none failed.
+
+  --seed N      the cases of this seed; without it those of the usual seed, and
+                those of the variable COMPARE_SEED too where it is set
+  --from CASE   begins with this case
+  --cases M     so many cases of each subject; fewer than usual are not asked to
+                meet every edge case
+  --edges       lists how often each edge case was met
+  --help        this text
+
+A failed case is repeated by its seed, --from its number and --cases 1.
+
+Subjects, all of them where none is named, each with its usual cases:
+";
+
 /// What the command line asks for.
 #[derive(Default)]
 struct Asked {
+    help: bool,
     seeds: Vec<u64>,
     from: u64,
     cases: Option<u64>,
@@ -39,8 +58,9 @@ fn asked() -> Result<Asked, String> {
             "--from" => asked.from = number(&word, words.next())?,
             "--cases" => asked.cases = Some(number(&word, words.next())?),
             "--edges" => asked.edges = true,
+            "--help" | "-h" => asked.help = true,
             name if SUBJECTS.iter().any(|subject| subject.name == name) => asked.subjects.push(word),
-            _ => return Err(format!("{word} is neither a flag nor a subject")),
+            _ => return Err(format!("{word} is neither a flag nor a subject; --help lists both")),
         }
     }
     if asked.seeds.is_empty() {
@@ -99,9 +119,14 @@ fn main() -> ExitCode {
         Ok(asked) => asked,
         Err(why) => {
             eprintln!("compare: {why}");
-            return ExitCode::from(2);
+            return ExitCode::from(64);
         }
     };
+    if asked.help {
+        print!("{HELP}");
+        SUBJECTS.iter().for_each(|subject| println!("  {:<12} {:>7}", subject.name, subject.cases));
+        return ExitCode::SUCCESS;
+    }
     let named =
         |subject: &&Subject| asked.subjects.is_empty() || asked.subjects.iter().any(|name| name == subject.name);
     let (mut passed, mut failed) = (0, 0);

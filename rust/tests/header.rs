@@ -1,7 +1,7 @@
 //! The header and this crate: a name that both have stands for the same number.
 use std::collections::BTreeMap;
 
-use kohlenfloh::{raw, Palette, Picture, Refusal, RunOptions, Shades, Table};
+use kohlenfloh::{made, raw, Palette, Picture, Refusal, RunOptions, Shades, Table};
 
 /// The header.
 const HEADER: &str = include_str!("../../include/kohlenfloh.h");
@@ -79,6 +79,32 @@ fn bounds_are_those_of_the_header() {
     assert_eq!(bounds["KF_MOST_ROUNDS"], RunOptions::MOST_ROUNDS as u64);
     assert_eq!(bounds["KF_USUAL_LIMIT"], RunOptions::USUAL_LIMIT as u64);
     assert_eq!(bounds["KF_MOST_COORDINATES"], raw::KF_MOST_COORDINATES as u64);
+}
+
+/// What a function of the header returns for each case of its argument: the pieces of text up to the semicolon, joined.
+fn returned_by(function: &str) -> BTreeMap<&'static str, String> {
+    let body = HEADER.split_once(&format!("*{function}(")).unwrap().1.split_once("default:").unwrap().0;
+    let cases = body.split("case ").skip(1).map(|case| case.split_once(':').unwrap());
+    cases.map(|(name, text)| (name, text.split('"').skip(1).step_by(2).collect())).collect()
+}
+
+#[test]
+fn the_version_is_that_of_the_header() {
+    assert!(HEADER.contains(&format!("\n#define KF_VERSION \"{}\"\n", made::VERSION)));
+}
+
+#[test]
+fn names_and_sentences_are_those_of_the_header() {
+    let names = returned_by("kf_refusal_name");
+    let sentences = returned_by("kf_refusal_sentence");
+    assert_eq!((&*names["KF_DONE"], &*sentences["KF_DONE"]), ("DONE", "nothing is refused"));
+    for (case, number) in names_of_enums("_refusal").into_iter().filter(|(_, number)| *number > 0) {
+        let refusal = Refusal::from_number(number as u32).unwrap();
+        assert_eq!((&*names[case], &*sentences[case]), (refusal.name(), refusal.sentence()));
+    }
+    let unknown = Refusal::Unknown { number: 1000 };
+    assert!(HEADER.contains(&format!("default: return \"{}\";", unknown.name())));
+    assert!(HEADER.contains(&format!("default: return \"{}\";", unknown.sentence())));
 }
 
 #[test]
