@@ -60,7 +60,9 @@ fn stage(path: Option<&Path>, contents: impl Fn(&mut dyn Write) -> io::Result<()
     match (Target::of(path)?, path) {
         (Target::File { place, permissions }, Some(path)) => {
             let (temporary, file) = Temporary::beside(&place)?;
-            permissions.map_or(Ok(()), |permissions| file.set_permissions(permissions))?;
+            if let Some(permissions) = permissions {
+                file.set_permissions(permissions)?;
+            }
             let mut to = BufWriter::new(file);
             contents(&mut to)?;
             to.flush()?;
