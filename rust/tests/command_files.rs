@@ -106,7 +106,7 @@ fn two_outputs_in_one_file_are_refused_however_they_are_spelled() {
         ("./dangling", "b/none"),
     ] {
         let words = format!("two outputs cannot both be {other}");
-        assert_refused(&folder, &["shades", "6", "rug.ppm", "--index", one, "--json", other], None, &words);
+        assert_refused(&folder, &["shades", "6", "rug.ppm", "--index", one, "--sheet", other], None, &words);
     }
     assert_eq!(folder.read("x"), b"former");
 }
@@ -149,7 +149,7 @@ fn a_link_to_nothing_stays_and_what_it_leads_to_is_made() {
 fn a_name_of_the_greatest_length_is_written() {
     let folder = Folder::new("long");
     let name = "x".repeat(255);
-    let output = run_in(&folder, &["shades", "6", RUG, "--csv", &name], None);
+    let output = run_in(&folder, &["shades", "6", RUG, "--index", &name], None);
     assert_eq!((said(&output), output.status.code()), ("", Some(0)));
     assert_eq!(folder.names(), [name]);
 }
