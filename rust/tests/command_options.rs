@@ -127,7 +127,8 @@ fn messages_name_the_picture_as_it_was_given() {
         assert!(said(&output).starts_with(&words), "{}", said(&output));
     }
     fs::copy(RUG, folder.path("drawings/rug.ppm")).unwrap();
-    assert!(printed(&run_in(&folder, &["shades", "6", "drawings/rug.ppm"])).starts_with("picture            rug.ppm\n"));
+    let output = run_in(&folder, &["shades", "6", "drawings/rug.ppm"]);
+    assert!(printed(&output).starts_with("picture            rug.ppm\n"));
 }
 
 #[test]

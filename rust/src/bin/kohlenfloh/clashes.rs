@@ -6,7 +6,7 @@ use std::os::unix::fs::MetadataExt;
 use std::path::{Path, PathBuf};
 
 use crate::failure::Failure;
-use crate::files::unwritable;
+use crate::files::{self, unwritable};
 use crate::input;
 use crate::options::Options;
 use crate::places::{place, Target};
@@ -28,11 +28,11 @@ pub fn check(options: &Options) -> Result<(), Failure> {
         let path = path.as_deref();
         let Some(identity) = of_output(path) else { continue };
         if picture.as_ref() == Some(&identity) {
-            let picture = input::path(options.picture.as_deref().or(path)).display();
+            let picture = input::path_of(options.picture.as_deref().or(path)).display();
             return Err(Failure::Usage(format!("{} would overwrite the picture {picture}", output.name())));
         }
         if let Some((_, other)) = met.iter().find(|(other, _)| *other == identity) {
-            let both = path.or(*other).unwrap_or(Path::new("standard output")).display();
+            let both = files::path_of(path.or(*other)).display();
             return Err(Failure::Usage(format!("two outputs cannot both be {both}")));
         }
         met.push((identity, path));

@@ -8,7 +8,7 @@ use kohlenfloh::Refusal;
 use crate::digits::grouped;
 use crate::help;
 use crate::names::shown;
-use crate::options::Number;
+use crate::number::Number;
 
 /// Why the program ends without having done what was asked.
 pub enum Failure {

@@ -18,8 +18,8 @@ enum Staged<'a> {
     Stream { path: Option<&'a Path>, bytes: Vec<u8> },
 }
 
-/// Writes what each output holds to its path, or to standard output where it has none. No file comes to its place before
-/// all files and streams are written.
+/// Writes what each output holds to its path, or to standard output where it has none. No file comes to its place
+/// before all files and streams are written.
 pub fn write_all(
     outputs: &[(Output, Option<PathBuf>)],
     contents: impl Fn(Output, &mut dyn Write) -> io::Result<()>,
@@ -49,9 +49,14 @@ pub fn print(bytes: &[u8]) -> Result<(), Failure> {
     }
 }
 
+/// What messages call where an output goes: its path as it was given.
+pub fn path_of(path: Option<&Path>) -> &Path {
+    path.unwrap_or(Path::new("standard output"))
+}
+
 /// The failure to write an output.
 pub fn unwritable(path: Option<&Path>, why: io::Error) -> Failure {
-    Failure::Unwritable { path: path.unwrap_or(Path::new("standard output")).into(), why }
+    Failure::Unwritable { path: path_of(path).into(), why }
 }
 
 /// Writes what an output holds beside its place, with the permissions of the former file; what is no file is kept until

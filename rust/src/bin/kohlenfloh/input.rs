@@ -24,21 +24,25 @@ pub fn read(picture: Option<&Path>) -> Result<Vec<u8>, Failure> {
     match read {
         Ok(bytes) if bytes.len() as u64 > MOST_BYTES => {
             let meaning = "the input is longer than 64 MiB".into();
-            Err(Failure::Refused { name: path(picture).to_string_lossy().into(), refusal: Refusal::BadSize, meaning })
+            Err(Failure::Refused {
+                name: path_of(picture).to_string_lossy().into(),
+                refusal: Refusal::BadSize,
+                meaning,
+            })
         }
         Ok(bytes) => Ok(bytes),
-        Err(why) => Err(Failure::Unreadable { path: path(picture).into(), why }),
+        Err(why) => Err(Failure::Unreadable { path: path_of(picture).into(), why }),
     }
 }
 
 /// What messages call the picture: its path as it was given.
-pub fn path(picture: Option<&Path>) -> &Path {
+pub fn path_of(picture: Option<&Path>) -> &Path {
     picture.unwrap_or(Path::new(STANDARD_INPUT))
 }
 
 /// What the sheet calls the picture: its file's name alone.
 pub fn name(picture: Option<&Path>) -> String {
-    let path = path(picture);
+    let path = path_of(picture);
     shown(path.file_name().unwrap_or(path.as_os_str()))
 }
 

@@ -9,6 +9,7 @@ mod files;
 mod help;
 mod input;
 mod names;
+mod number;
 mod options;
 mod order;
 mod outputs;
@@ -53,7 +54,7 @@ fn shades(options: &Options) -> Result<(), Failure> {
     clashes::check(options)?;
     let picture = options.picture.as_deref();
     let bytes = input::read(picture)?;
-    let work = work::find_shades(&input::path(picture).to_string_lossy(), &bytes, &options.count, &options.limit)?;
+    let work = work::find_shades(&input::path_of(picture).to_string_lossy(), &bytes, &options.count, &options.limit)?;
     let order = Order::of(input::name(picture), &work);
     let limit = if options.limit.value == 0 { RunOptions::USUAL_LIMIT } else { options.limit.value };
     let answer = Answer { work, order, limit };

@@ -1,11 +1,14 @@
 //! The command line.
 use std::ffi::{OsStr, OsString};
-use std::fmt;
 use std::os::unix::ffi::OsStrExt;
 use std::path::PathBuf;
 
 use crate::failure::Failure;
+use crate::number::Number;
 use crate::outputs::Output;
+
+/// The option that gives the round limit.
+const LIMIT: &str = "--limit";
 
 /// What the command line asks for.
 pub enum Request {
@@ -27,14 +30,6 @@ pub struct Options {
     pub picture: Option<PathBuf>,
     /// The outputs, each with its file; none for standard output, to which exactly one of them goes.
     pub outputs: Vec<(Output, Option<PathBuf>)>,
-}
-
-/// A whole number of the command line. It prints as it was typed.
-#[derive(Clone)]
-pub struct Number {
-    /// The number. One too great for the machine is as great as can be, and so is refused.
-    pub value: usize,
-    typed: String,
 }
 
 /// The arguments of `shades` as far as they are read.
@@ -83,13 +78,19 @@ impl Given {
         arguments: &mut impl Iterator<Item = OsString>,
     ) -> Result<(), Failure> {
         if option == LIMIT {
-            let value = value.map_or_else(|| following(option, arguments), |value| Ok(value.into()))?;
+            let value = match value {
+                Some(value) => value.into(),
+                None => following(option, arguments)?,
+            };
             let number = Number::read(&value).ok_or_else(|| usage("--limit wants a whole number of rounds"))?;
             return once(self.limit.replace(number).is_some(), option);
         }
         let output = Output::of_option(option).ok_or_else(|| usage(format!("there is no option {option}")))?;
         once(self.outputs.iter().any(|(other, _)| *other == output), option)?;
-        let value = value.map_or_else(|| following_file(option, arguments), |value| Ok(value.into()))?;
+        let value = match value {
+            Some(value) => value.into(),
+            None => following_file(option, arguments)?,
+        };
         if value.is_empty() {
             return Err(usage(format!("{option} wants the name of a file")));
         }
@@ -106,8 +107,8 @@ impl Given {
         self.outputs.iter().any(|(_, path)| path.is_none())
     }
 
-    /// What is asked of the picture. The names are the count and the picture where one is named; the order sheet goes to
-    /// standard output where nothing else does.
+    /// What is asked of the picture. The names are the count and the picture where one is named. The order sheet goes
+    /// to standard output where nothing else does.
     fn options(mut self) -> Result<Options, Failure> {
         if !self.uses_standard_output() {
             self.outputs.push((Output::Text, None));
@@ -120,27 +121,10 @@ impl Given {
         if let Some(more) = names.next() {
             return Err(usage(format!("one picture is read, and {} is one too many", more.display())));
         }
-        let limit = self.limit.unwrap_or(Number { value: 0, typed: "0".into() });
+        let limit = self.limit.unwrap_or(Number::ZERO);
         Ok(Options { count, limit, picture, outputs: self.outputs })
     }
 }
-
-impl Number {
-    /// Reads a number written in decimal digits alone.
-    fn read(text: &OsStr) -> Option<Number> {
-        let digits = text.to_str().filter(|text| !text.is_empty() && text.bytes().all(|byte| byte.is_ascii_digit()))?;
-        Some(Number { value: digits.parse().unwrap_or(usize::MAX), typed: digits.into() })
-    }
-}
-
-impl fmt::Display for Number {
-    fn fmt(&self, to: &mut fmt::Formatter<'_>) -> fmt::Result {
-        to.write_str(&self.typed)
-    }
-}
-
-/// The option that gives the round limit.
-const LIMIT: &str = "--limit";
 
 /// What an option asks for that stands for itself, such as --help; none for every other option.
 fn alone(option: &str, value: Option<&OsStr>) -> Result<Option<Request>, Failure> {

@@ -81,12 +81,19 @@ mod tests {
     use super::{bring_back, keep_by_link, keep_by_rename, Replaced, Temporary};
     use std::fs;
     use std::io::Write;
-    use std::path::PathBuf;
+    use std::path::{Path, PathBuf};
 
     /// An empty folder for one test.
     fn folder(name: &str) -> PathBuf {
         let path = std::env::temp_dir().join(format!("kohlenfloh-{name}-{}", std::process::id()));
         fs::create_dir(&path).unwrap();
+        path
+    }
+
+    /// A file with some text.
+    fn written(folder: &Path, text: &str) -> PathBuf {
+        let path = folder.join("written");
+        fs::write(&path, text).unwrap();
         path
     }
 
@@ -106,13 +113,6 @@ mod tests {
             }
             fs::remove_dir_all(folder).unwrap();
         }
-    }
-
-    /// A file with some text.
-    fn written(folder: &std::path::Path, text: &str) -> PathBuf {
-        let path = folder.join("written");
-        fs::write(&path, text).unwrap();
-        path
     }
 
     #[test]

@@ -3,7 +3,7 @@
 //! Nothing is caught before there is a temporary file, and a signal that was ignored from the start stays ignored. The
 //! numbers and the size of a signal set are those of Linux on x86-64 and aarch64.
 // A handler may come at any time, so it calls only what may be called then (signal-safety(7)), and shares with the rest
-// of the program only a table of atomic pointers.
+// of the program only a table of atomic pointers. The program has one thread, whose signals are the program's.
 #![allow(unsafe_code)]
 use std::ffi::{c_char, c_int, c_ulong, CString};
 use std::fs::File;
@@ -46,8 +46,8 @@ extern "C" {
     fn sigprocmask(how: c_int, set: *const SignalSet, former: *mut SignalSet) -> c_int;
 }
 
-/// The path of each temporary file that was made. A path stays when its file is gone: there is nothing to remove then, as
-/// no name is used twice.
+/// The path of each temporary file that was made. A path stays when its file is gone: there is nothing to remove then,
+/// as no name is used twice.
 static FILES: [AtomicPtr<c_char>; Output::OPTIONS.len()] =
     [const { AtomicPtr::new(ptr::null_mut()) }; Output::OPTIONS.len()];
 

@@ -3,7 +3,7 @@ use kohlenfloh::{Palette, Picture, Refusal, Run, RunOptions, Table};
 
 use crate::digits::grouped;
 use crate::failure::{Case, Failure};
-use crate::options::Number;
+use crate::number::Number;
 use crate::progress::Progress;
 
 /// The most bytes of a strip. A strip is as many whole rows as fit, and the longest row has 48 KiB. Each add tests the
