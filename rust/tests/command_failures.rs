@@ -73,7 +73,7 @@ fn a_wrong_command_line_is_64() {
         (&["shades", "6", "--limit", "1.5"], "--limit wants a whole number of rounds"),
         (&["shades", "6", "--limit"], "nothing follows --limit"),
         (&["shades", "6", "--limit", "1", "--limit", "1"], "--limit is given twice"),
-        (&["shades", "6", "--index", "-"], "--index wants the name of a file"),
+        (&["shades", "6", "--index", ""], "--index wants the name of a file"),
         (&["shades", "6", "--index", "x", "--sheet", "x"], "two outputs cannot both be x"),
         (&["shades", "6", "one.ppm", "two.ppm"], "one picture is read, and two.ppm is one too many"),
     ];

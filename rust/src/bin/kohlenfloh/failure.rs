@@ -7,6 +7,8 @@ use kohlenfloh::Refusal;
 
 use crate::digits::grouped;
 use crate::help;
+use crate::names::shown;
+use crate::number::Number;
 
 /// Why the program ends without having done what was asked.
 pub enum Failure {
@@ -29,9 +31,9 @@ pub struct Case {
     /// Colours that are in the table.
     pub colours: usize,
     /// Shades that are wanted.
-    pub count: usize,
+    pub count: Number,
     /// The round limit that is wanted.
-    pub limit: usize,
+    pub limit: Number,
 }
 
 impl Case {
@@ -74,15 +76,15 @@ impl Failure {
     }
 }
 
-/// The failure in words, without the program's name.
+/// The failure in words, without the program's name. What a user gave is shown as names are.
 impl fmt::Display for Failure {
     fn fmt(&self, to: &mut fmt::Formatter<'_>) -> fmt::Result {
         match self {
-            Failure::Usage(why) => write!(to, "{why}\n{}", help::USAGE),
-            Failure::Unreadable { path, why } => write!(to, "cannot read {}: {why}", path.display()),
-            Failure::Unwritable { path, why } => write!(to, "cannot write {}: {why}", path.display()),
+            Failure::Usage(why) => write!(to, "{}\n{}", shown(why), help::USAGE),
+            Failure::Unreadable { path, why } => write!(to, "cannot read {}: {why}", shown(path)),
+            Failure::Unwritable { path, why } => write!(to, "cannot write {}: {why}", shown(path)),
             Failure::Refused { name, refusal, meaning } => {
-                write!(to, "{name}: refused {} {}: {meaning}", refusal.number(), refusal.name())
+                write!(to, "{}: refused {} {}: {meaning}", shown(name), refusal.number(), refusal.name())
             }
         }
     }

@@ -1,91 +1,105 @@
-//! Files that come whole or not at all: written beside their place, then renamed.
-use std::fs::{self, File, OpenOptions};
+//! Outputs that come all of them or none: written beside their places, then renamed.
+use std::fs::OpenOptions;
 use std::io::{self, BufWriter, Write};
 use std::path::{Path, PathBuf};
 
 use crate::failure::Failure;
+use crate::outputs::Output;
+use crate::places::Target;
+use crate::replaced::Replaced;
+use crate::signals;
+use crate::temporary::Temporary;
 
-/// An output whose bytes are written, but not at their place. Dropped there, it leaves no trace.
-pub struct Staged<'a> {
-    path: &'a Path,
-    way: Way,
+/// An output whose bytes are made, but not at their place. Dropped there, it leaves no trace.
+enum Staged<'a> {
+    /// A temporary file is to be renamed.
+    File { path: &'a Path, temporary: Temporary, place: PathBuf },
+    /// Bytes are to be written to what is no regular file, such as a pipe; no path means standard output.
+    Stream { path: Option<&'a Path>, bytes: Vec<u8> },
 }
 
-/// How the bytes get to their place.
-enum Way {
-    /// A temporary file in the same folder is renamed.
-    Rename { temporary: PathBuf, place: PathBuf },
-    /// Bytes are written to what stands at the path and is no regular file, such as a pipe.
-    Write(Vec<u8>),
-}
-
-/// Writes an output's bytes beside its place.
-pub fn stage(path: &Path, contents: impl Fn(&mut dyn Write) -> io::Result<()>) -> Result<Staged<'_>, Failure> {
-    let way = match fs::metadata(path) {
-        Ok(former) if former.is_file() => fs::canonicalize(path)
-            .and_then(|place| beside(place, contents))
-            .and_then(|way| way.with_permissions(former.permissions())),
-        Ok(former) if former.is_dir() => Err(io::ErrorKind::IsADirectory.into()),
-        Ok(_) => in_memory(contents),
-        Err(_) => beside(path.to_path_buf(), contents),
-    };
-    way.map(|way| Staged { path, way }).map_err(|why| unwritable(path, why))
-}
-
-impl Staged<'_> {
-    /// Brings the bytes to their place.
-    pub fn put_in_place(self) -> Result<(), Failure> {
-        let done = match &self.way {
-            Way::Rename { temporary, place } => fs::rename(temporary, place),
-            Way::Write(bytes) => OpenOptions::new().write(true).open(self.path).and_then(|mut to| to.write_all(bytes)),
-        };
-        done.map_err(|why| unwritable(self.path, why))
+/// Writes what each output holds to its path, or to standard output where it has none. No file comes to its place
+/// before all files and streams are written.
+pub fn write_all(
+    outputs: &[(Output, Option<PathBuf>)],
+    contents: impl Fn(Output, &mut dyn Write) -> io::Result<()>,
+) -> Result<(), Failure> {
+    let mut staged = Vec::new();
+    for (output, path) in outputs {
+        let path = path.as_deref();
+        staged.push(stage(path, |to| contents(*output, to)).map_err(|why| unwritable(path, why))?);
     }
-}
-
-impl Way {
-    /// Gives a temporary file the permissions of the former file.
-    fn with_permissions(self, permissions: fs::Permissions) -> io::Result<Way> {
-        if let Way::Rename { temporary, .. } = &self {
-            fs::set_permissions(temporary, permissions)?;
-        }
-        Ok(self)
-    }
-}
-
-/// A temporary file that was not renamed is removed.
-impl Drop for Way {
-    fn drop(&mut self) {
-        if let Way::Rename { temporary, .. } = self {
-            // After a rename there is nothing to remove.
-            let _ = fs::remove_file(temporary);
+    let mut files = Vec::new();
+    for output in staged {
+        match output {
+            Staged::File { path, temporary, place } => files.push((path, temporary, place)),
+            Staged::Stream { path: Some(path), bytes } => write(path, &bytes)?,
+            Staged::Stream { path: None, bytes } => print(&bytes)?,
         }
     }
+    put_in_place(files)
 }
 
-/// Writes bytes to a temporary file in the folder of their place.
-fn beside(place: PathBuf, contents: impl Fn(&mut dyn Write) -> io::Result<()>) -> io::Result<Way> {
-    let name = place.file_name().ok_or(io::ErrorKind::InvalidFilename)?;
-    let mut hidden = std::ffi::OsString::from(".");
-    hidden.push(name);
-    hidden.push(format!(".{}", std::process::id()));
-    let temporary = place.with_file_name(hidden);
-    let file = File::create_new(&temporary)?;
-    let way = Way::Rename { temporary, place };
-    let mut to = BufWriter::new(file);
-    contents(&mut to)?;
-    to.flush()?;
-    Ok(way)
+/// Prints bytes on standard output. A reader that has gone away has read all it wanted.
+pub fn print(bytes: &[u8]) -> Result<(), Failure> {
+    let mut out = io::stdout().lock();
+    match out.write_all(bytes).and_then(|()| out.flush()) {
+        Err(why) if why.kind() != io::ErrorKind::BrokenPipe => Err(unwritable(None, why)),
+        _ => Ok(()),
+    }
 }
 
-/// Keeps bytes until they are written.
-fn in_memory(contents: impl Fn(&mut dyn Write) -> io::Result<()>) -> io::Result<Way> {
-    let mut bytes = Vec::new();
-    contents(&mut bytes)?;
-    Ok(Way::Write(bytes))
+/// What messages call where an output goes: its path as it was given.
+pub fn path_of(path: Option<&Path>) -> &Path {
+    path.unwrap_or(Path::new("standard output"))
 }
 
-/// The failure to write a path.
-fn unwritable(path: &Path, why: io::Error) -> Failure {
-    Failure::Unwritable { path: path.to_path_buf(), why }
+/// The failure to write an output.
+pub fn unwritable(path: Option<&Path>, why: io::Error) -> Failure {
+    Failure::Unwritable { path: path_of(path).into(), why }
+}
+
+/// Writes what an output holds beside its place, with the permissions of the former file; what is no file is kept until
+/// it is written.
+fn stage(path: Option<&Path>, contents: impl Fn(&mut dyn Write) -> io::Result<()>) -> io::Result<Staged<'_>> {
+    match (Target::of(path)?, path) {
+        (Target::File { place, permissions }, Some(path)) => {
+            let (temporary, file) = Temporary::beside(&place)?;
+            if let Some(permissions) = permissions {
+                file.set_permissions(permissions)?;
+            }
+            let mut to = BufWriter::new(file);
+            contents(&mut to)?;
+            to.flush()?;
+            Ok(Staged::File { path, temporary, place })
+        }
+        (_, path) => {
+            let mut bytes = Vec::new();
+            contents(&mut bytes)?;
+            Ok(Staged::Stream { path, bytes })
+        }
+    }
+}
+
+/// Writes bytes to what stands at a path.
+fn write(path: &Path, bytes: &[u8]) -> Result<(), Failure> {
+    let written = OpenOptions::new().write(true).open(path).and_then(|mut to| to.write_all(bytes));
+    written.map_err(|why| unwritable(Some(path), why))
+}
+
+/// Puts all files in their places. Where one cannot be, all places are as they were. Signals wait until this is done.
+fn put_in_place(files: Vec<(&Path, Temporary, PathBuf)>) -> Result<(), Failure> {
+    let _held = signals::hold();
+    let mut done: Vec<Replaced> = Vec::new();
+    for (path, temporary, place) in files {
+        match Replaced::by(temporary, place) {
+            Ok(replaced) => done.push(replaced),
+            Err(why) => {
+                done.into_iter().for_each(Replaced::undo);
+                return Err(unwritable(Some(path), why));
+            }
+        }
+    }
+    done.into_iter().for_each(Replaced::settle);
+    Ok(())
 }

@@ -1,14 +1,22 @@
 //! What the program tells of itself.
-use kohlenfloh::Refusal;
+use kohlenfloh::{made, Refusal};
 
 /// The lines that a wrong command line is answered with.
 pub const USAGE: &str = "\
-usage: kohlenfloh shades K [PICTURE.ppm] [--limit N]
-                  [--index FILE] [--palette FILE] [--preview FILE] [--sheet FILE]
+usage: kohlenfloh shades K [PICTURE.ppm] [--limit N] [--index FILE]
+                  [--palette FILE] [--preview FILE] [--sheet FILE]
+                  [--csv FILE] [--json FILE]
 `kohlenfloh --help` tells what these are";
 
+/// What made the library, each by its name.
+pub const MADE: [(&str, &str); 3] =
+    [("toolchain", made::TOOLCHAIN), ("proof", made::PROOF), ("sources", made::SOURCES)];
+
 /// The answer to --version.
-pub const VERSION: &str = concat!("kohlenfloh ", env!("CARGO_PKG_VERSION"), "\n");
+pub fn version() -> String {
+    let lines = [("kohlenfloh", made::VERSION)].into_iter().chain(MADE);
+    lines.map(|(name, value)| format!("{name} {value}\n")).collect()
+}
 
 /// What each refusal means that a picture and its options can meet.
 const REFUSALS: [(Refusal, &str); 8] = [
@@ -55,12 +63,32 @@ Options
   --palette FILE   the shades as a P6 picture, K wide and 1 high
   --preview FILE   the picture in its shades, P6
   --sheet FILE     the order sheet as a drawing, SVG
-  --help           this text
-  --version        the program's version
+  --csv FILE       the order as a table, CSV
+  --json FILE      the order and every figure of the sheet, JSON
+  --help, -h       this text
+  --version, -V    the program's version, and what made the library in it
 
-Files are written only after everything was accepted. Each one is written
-beside its place and then renamed, so a failure leaves a former file whole.
-What is no regular file (a pipe, a device) is written as it stands.
+A value follows its option, or stands behind it with =, as in --limit=3; with =
+a file's name may begin with -. What follows -- is no option.
+
+`-` as FILE means standard output. One output can go there, and then the order
+sheet is not printed: standard output has that output alone.
+
+Files are written only after everything was accepted, all of them or none. Each
+one is written beside its place and then renamed, so a failure leaves every
+former file whole, as does a signal (Ctrl-C). What is no regular file (a pipe,
+a device) is written as it stands. An output that is the picture is refused, by
+whatever name or link, and so are two outputs that are one file. A file that is
+not writable is not replaced.
+
+CSV has the line shade,red,green,blue,hex,pixels,share,used and then a line for
+each shade: its number, its levels, these as # and six hexadecimal digits, the
+pixels that have it, their share in percent, and whether there are any, yes or
+no. JSON is one object with picture, width, height, pixels, colours, shades,
+in_use (the shades that have pixels), limit (the one in force), rounds, settled,
+distances (worked out in all rounds), final_total, error, mean_square_error;
+order, a list with the columns of the CSV for each shade, used being true or
+false; and made, which holds version, toolchain, proof and sources.
 
 On the order sheet, \"settled\" means that the last round moved no shade. The
 error is the sum of squared level differences between the picture and its
@@ -83,4 +111,7 @@ Examples
 
   A PNG by way of netpbm, with as many rounds as there can be:
     pngtopnm rug.png | kohlenfloh shades 12 --limit 200 --preview small.ppm
+
+  The order for a spreadsheet, and nothing else on standard output:
+    kohlenfloh shades 6 rug.ppm --csv - > rug.csv
 ";

@@ -6,6 +6,7 @@ use std::path::Path;
 use kohlenfloh::Refusal;
 
 use crate::failure::Failure;
+use crate::names::shown;
 
 /// The most bytes of an input. The longest raster has 48 MiB, which leaves 16 MiB for a header; a longer input is
 /// refused, and so an endless one too.
@@ -23,18 +24,26 @@ pub fn read(picture: Option<&Path>) -> Result<Vec<u8>, Failure> {
     match read {
         Ok(bytes) if bytes.len() as u64 > MOST_BYTES => {
             let meaning = "the input is longer than 64 MiB".into();
-            Err(Failure::Refused { name: name(picture), refusal: Refusal::BadSize, meaning })
+            Err(Failure::Refused {
+                name: path_of(picture).to_string_lossy().into(),
+                refusal: Refusal::BadSize,
+                meaning,
+            })
         }
         Ok(bytes) => Ok(bytes),
-        Err(why) => Err(Failure::Unreadable { path: picture.unwrap_or(Path::new(STANDARD_INPUT)).into(), why }),
+        Err(why) => Err(Failure::Unreadable { path: path_of(picture).into(), why }),
     }
 }
 
-/// What the picture is called: its file's name, with a mark for each character that would not show.
+/// What messages call the picture: its path as it was given.
+pub fn path_of(picture: Option<&Path>) -> &Path {
+    picture.unwrap_or(Path::new(STANDARD_INPUT))
+}
+
+/// What the sheet calls the picture: its file's name alone.
 pub fn name(picture: Option<&Path>) -> String {
-    let Some(path) = picture else { return STANDARD_INPUT.into() };
-    let name = path.file_name().unwrap_or(path.as_os_str()).to_string_lossy();
-    name.chars().map(|character| if character.is_control() { char::REPLACEMENT_CHARACTER } else { character }).collect()
+    let path = path_of(picture);
+    shown(path.file_name().unwrap_or(path.as_os_str()))
 }
 
 /// Reads a file, with room for its length made beforehand.

@@ -2,30 +2,41 @@
 //!
 //! Table, shades, palette and index picture come from the proved library. This program reads, adds up the errors of the
 //! strips, counts index bytes, divides where it rounds, prints and draws.
+mod clashes;
 mod digits;
 mod failure;
 mod files;
 mod help;
 mod input;
+mod names;
+mod number;
 mod options;
 mod order;
 mod outputs;
+mod places;
 mod progress;
+mod replaced;
+mod signals;
 mod svg;
+mod tables;
+mod temporary;
 mod work;
 
 use std::io::{self, Write};
 use std::process::ExitCode;
 
+use kohlenfloh::RunOptions;
+
 use failure::Failure;
 use options::{Options, Request};
 use order::Order;
+use outputs::Answer;
 
 /// Does what the command line asks, and ends with 0 or with the failure's status.
 fn main() -> ExitCode {
     let done = options::read(std::env::args_os().skip(1)).and_then(|request| match request {
-        Request::Help => print(&help::help()),
-        Request::Version => print(help::VERSION),
+        Request::Help => files::print(help::help().as_bytes()),
+        Request::Version => files::print(help::version().as_bytes()),
         Request::Shades(options) => shades(&options),
     });
     match done {
@@ -38,30 +49,14 @@ fn main() -> ExitCode {
     }
 }
 
-/// Finds the shades of a picture, writes the files asked for, and prints the order sheet.
+/// Finds the shades of a picture, and writes the outputs asked for, of which the order sheet is one.
 fn shades(options: &Options) -> Result<(), Failure> {
-    let bytes = input::read(options.picture.as_deref())?;
-    let name = input::name(options.picture.as_deref());
-    let work = work::find_shades(&name, &bytes, options.count, options.limit)?;
-    let order = Order::of(name, &work);
-    let staged: Result<Vec<_>, _> = options
-        .outputs
-        .iter()
-        .map(|(output, path)| files::stage(path, |to| outputs::write(*output, &work, &order, to)))
-        .collect();
-    for file in staged? {
-        file.put_in_place()?;
-    }
-    print(&order.sheet())
-}
-
-/// Prints a text on standard output. A reader that has gone away has read all it wanted.
-fn print(text: &str) -> Result<(), Failure> {
-    let mut out = io::stdout().lock();
-    match out.write_all(text.as_bytes()).and_then(|()| out.flush()) {
-        Err(why) if why.kind() != io::ErrorKind::BrokenPipe => {
-            Err(Failure::Unwritable { path: "standard output".into(), why })
-        }
-        _ => Ok(()),
-    }
+    clashes::check(options)?;
+    let picture = options.picture.as_deref();
+    let bytes = input::read(picture)?;
+    let work = work::find_shades(&input::path_of(picture).to_string_lossy(), &bytes, &options.count, &options.limit)?;
+    let order = Order::of(input::name(picture), &work);
+    let limit = if options.limit.value == 0 { RunOptions::USUAL_LIMIT } else { options.limit.value };
+    let answer = Answer { work, order, limit };
+    files::write_all(&options.outputs, |output, to| answer.write(output, to))
 }

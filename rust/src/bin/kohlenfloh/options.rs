@@ -1,9 +1,14 @@
 //! The command line.
 use std::ffi::{OsStr, OsString};
+use std::os::unix::ffi::OsStrExt;
 use std::path::PathBuf;
 
 use crate::failure::Failure;
+use crate::number::Number;
 use crate::outputs::Output;
+
+/// The option that gives the round limit.
+const LIMIT: &str = "--limit";
 
 /// What the command line asks for.
 pub enum Request {
@@ -16,82 +21,153 @@ pub enum Request {
 }
 
 /// What is asked of a picture.
-#[derive(Default)]
 pub struct Options {
     /// How many shades.
-    pub count: usize,
+    pub count: Number,
     /// The round limit; 0 where none is given.
-    pub limit: usize,
+    pub limit: Number,
     /// The picture's file; none for standard input.
     pub picture: Option<PathBuf>,
-    /// The files to be written.
-    pub outputs: Vec<(Output, PathBuf)>,
+    /// The outputs, each with its file; none for standard output, to which exactly one of them goes.
+    pub outputs: Vec<(Output, Option<PathBuf>)>,
+}
+
+/// The arguments of `shades` as far as they are read.
+#[derive(Default)]
+struct Given {
+    limit: Option<Number>,
+    outputs: Vec<(Output, Option<PathBuf>)>,
+    names: Vec<OsString>,
 }
 
 /// Reads the arguments that follow the program's name.
 pub fn read(mut arguments: impl Iterator<Item = OsString>) -> Result<Request, Failure> {
     let command = arguments.next().ok_or_else(|| usage("no command is given"))?;
-    match command.to_str() {
-        Some("shades") => read_shades(arguments),
-        Some("--help" | "-h") => Ok(Request::Help),
-        Some("--version" | "-V") => Ok(Request::Version),
-        _ => Err(usage(format!("there is no command {}", command.display()))),
+    if command == "shades" {
+        return read_shades(arguments);
     }
+    let (option, value) = parts(&command);
+    alone(&option, value)?.ok_or_else(|| usage(format!("there is no command {}", command.display())))
 }
 
-/// Reads the arguments of `shades`, in any order.
+/// Reads the arguments of `shades`: options and names in any order, and names alone behind `--`.
 fn read_shades(mut arguments: impl Iterator<Item = OsString>) -> Result<Request, Failure> {
-    let mut options = Options::default();
-    let mut limit = None;
-    let mut names = Vec::new();
+    let mut given = Given::default();
     while let Some(argument) = arguments.next() {
-        let text = argument.to_string_lossy().into_owned();
-        if text == "--help" || text == "-h" {
-            return Ok(Request::Help);
-        } else if text == "--limit" {
-            let number = whole_number(&value_of(&text, &mut arguments)?)
-                .ok_or_else(|| usage("--limit wants a whole number of rounds"))?;
-            once(limit.replace(number).is_some(), &text)?;
-        } else if let Some(output) = Output::of_option(&text) {
-            once(options.outputs.iter().any(|(other, _)| *other == output), &text)?;
-            let path = file_named(&text, value_of(&text, &mut arguments)?)?;
-            options.outputs.push((output, path));
-        } else if text.starts_with('-') && text != "-" {
-            return Err(usage(format!("there is no option {text}")));
+        if argument == "--" {
+            given.names.extend(arguments.by_ref());
+        } else if begins_as_options_do(&argument) {
+            let (option, value) = parts(&argument);
+            if let Some(request) = alone(&option, value)? {
+                return Ok(request);
+            }
+            given.take(&option, value, &mut arguments)?;
         } else {
-            names.push(argument);
+            given.names.push(argument);
         }
     }
-    distinct(&options.outputs)?;
-    options.limit = limit.unwrap_or(0);
-    read_names(names, &mut options)?;
-    Ok(Request::Shades(options))
+    given.options().map(Request::Shades)
 }
 
-/// Reads the arguments that are no options: the count, and the picture where one is named.
-fn read_names(names: Vec<OsString>, options: &mut Options) -> Result<(), Failure> {
-    let mut names = names.into_iter();
-    let count = names.next().ok_or_else(|| usage("K, the number of shades, is missing"))?;
-    options.count = whole_number(&count)
-        .ok_or_else(|| usage(format!("K, the number of shades, is not a whole number: {}", count.display())))?;
-    options.picture = names.next().filter(|name| name != "-").map(PathBuf::from);
-    match names.next() {
-        Some(more) => Err(usage(format!("one picture is read, and {} is one too many", more.display()))),
-        None => Ok(()),
+impl Given {
+    /// Takes an option with its value: the one behind its `=`, or the argument that follows.
+    fn take(
+        &mut self,
+        option: &str,
+        value: Option<&OsStr>,
+        arguments: &mut impl Iterator<Item = OsString>,
+    ) -> Result<(), Failure> {
+        if option == LIMIT {
+            let value = match value {
+                Some(value) => value.into(),
+                None => following(option, arguments)?,
+            };
+            let number = Number::read(&value).ok_or_else(|| usage("--limit wants a whole number of rounds"))?;
+            return once(self.limit.replace(number).is_some(), option);
+        }
+        let output = Output::of_option(option).ok_or_else(|| usage(format!("there is no option {option}")))?;
+        once(self.outputs.iter().any(|(other, _)| *other == output), option)?;
+        let value = match value {
+            Some(value) => value.into(),
+            None => following_file(option, arguments)?,
+        };
+        if value.is_empty() {
+            return Err(usage(format!("{option} wants the name of a file")));
+        }
+        let path = Some(PathBuf::from(value)).filter(|path| path.as_os_str() != "-");
+        if path.is_none() && self.uses_standard_output() {
+            return Err(usage("two outputs cannot both be standard output"));
+        }
+        self.outputs.push((output, path));
+        Ok(())
     }
+
+    /// Whether an output goes to standard output.
+    fn uses_standard_output(&self) -> bool {
+        self.outputs.iter().any(|(_, path)| path.is_none())
+    }
+
+    /// What is asked of the picture. The names are the count and the picture where one is named. The order sheet goes
+    /// to standard output where nothing else does.
+    fn options(mut self) -> Result<Options, Failure> {
+        if !self.uses_standard_output() {
+            self.outputs.push((Output::Text, None));
+        }
+        let mut names = self.names.into_iter();
+        let count = names.next().ok_or_else(|| usage("K, the number of shades, is missing"))?;
+        let count = Number::read(&count)
+            .ok_or_else(|| usage(format!("K, the number of shades, is not a whole number: {}", count.display())))?;
+        let picture = names.next().filter(|name| name != "-").map(PathBuf::from);
+        if let Some(more) = names.next() {
+            return Err(usage(format!("one picture is read, and {} is one too many", more.display())));
+        }
+        let limit = self.limit.unwrap_or(Number::ZERO);
+        Ok(Options { count, limit, picture, outputs: self.outputs })
+    }
+}
+
+/// What an option asks for that stands for itself, such as --help; none for every other option.
+fn alone(option: &str, value: Option<&OsStr>) -> Result<Option<Request>, Failure> {
+    let request = match option {
+        "--help" | "-h" => Request::Help,
+        "--version" | "-V" => Request::Version,
+        _ => return Ok(None),
+    };
+    match value {
+        Some(_) => Err(usage(format!("{option} takes no value"))),
+        None => Ok(Some(request)),
+    }
+}
+
+/// Whether an argument is read as an option. A single `-` is a name.
+fn begins_as_options_do(argument: &OsStr) -> bool {
+    argument.as_bytes().starts_with(b"-") && argument != "-"
+}
+
+/// An option's name, and the value that stands behind its `=`.
+fn parts(argument: &OsStr) -> (String, Option<&OsStr>) {
+    let bytes = argument.as_bytes();
+    let equals = bytes.iter().position(|byte| *byte == b'=').filter(|_| bytes.starts_with(b"--"));
+    let name = OsStr::from_bytes(&bytes[..equals.unwrap_or(bytes.len())]);
+    (name.to_string_lossy().into(), equals.map(|place| OsStr::from_bytes(&bytes[place + 1..])))
 }
 
 /// The argument that follows an option.
-fn value_of(option: &str, arguments: &mut impl Iterator<Item = OsString>) -> Result<OsString, Failure> {
+fn following(option: &str, arguments: &mut impl Iterator<Item = OsString>) -> Result<OsString, Failure> {
     arguments.next().ok_or_else(|| usage(format!("nothing follows {option}")))
 }
 
-/// The path of an output, which is a file's.
-fn file_named(option: &str, value: OsString) -> Result<PathBuf, Failure> {
-    if value.is_empty() || value == "-" {
-        return Err(usage(format!("{option} wants the name of a file")));
+/// The file's name that follows an option. One that could be an option has to stand behind `=`.
+fn following_file(option: &str, arguments: &mut impl Iterator<Item = OsString>) -> Result<OsString, Failure> {
+    let value = following(option, arguments)?;
+    if !begins_as_options_do(&value) {
+        return Ok(value);
     }
-    Ok(value.into())
+    let (name, _) = parts(&value);
+    let known = name == LIMIT || Output::of_option(&name).is_some() || !matches!(alone(&name, None), Ok(None));
+    let what = if known { "is an option" } else { "begins as options do" };
+    let value = value.display();
+    Err(usage(format!("{option} wants the name of a file, and {value} {what}; write {option}={value} if it is a file")))
 }
 
 /// Refuses an option that was met before.
@@ -100,22 +176,6 @@ fn once(met: bool, option: &str) -> Result<(), Failure> {
         return Err(usage(format!("{option} is given twice")));
     }
     Ok(())
-}
-
-/// Refuses two outputs in one file.
-fn distinct(outputs: &[(Output, PathBuf)]) -> Result<(), Failure> {
-    for (place, (_, path)) in outputs.iter().enumerate() {
-        if outputs[..place].iter().any(|(_, other)| other == path) {
-            return Err(usage(format!("two outputs cannot both be {}", path.display())));
-        }
-    }
-    Ok(())
-}
-
-/// A number written in decimal digits alone. One too great for the machine is as great as can be, and so is refused.
-fn whole_number(text: &OsStr) -> Option<usize> {
-    let digits = text.to_str().filter(|text| !text.is_empty() && text.bytes().all(|byte| byte.is_ascii_digit()))?;
-    Some(digits.parse().unwrap_or(usize::MAX))
 }
 
 /// A wrong command line.

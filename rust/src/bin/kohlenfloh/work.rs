@@ -3,6 +3,7 @@ use kohlenfloh::{Palette, Picture, Refusal, Run, RunOptions, Table};
 
 use crate::digits::grouped;
 use crate::failure::{Case, Failure};
+use crate::number::Number;
 use crate::progress::Progress;
 
 /// The most bytes of a strip. A strip is as many whole rows as fit, and the longest row has 48 KiB. Each add tests the
@@ -26,16 +27,17 @@ pub struct Work<'a> {
 }
 
 /// Finds the shades of a picture and maps it to them. The name is the one that a refusal tells.
-pub fn find_shades<'a>(name: &str, bytes: &'a [u8], count: usize, limit: usize) -> Result<Work<'a>, Failure> {
+pub fn find_shades<'a>(name: &str, bytes: &'a [u8], count: &Number, limit: &Number) -> Result<Work<'a>, Failure> {
     let mut table = Table::with_room(Table::MOST_ENTRIES);
     make(&mut table, bytes, count, limit).map_err(|refusal| {
+        let (count, limit) = (count.clone(), limit.clone());
         let case = Case { bytes: bytes.len(), pixels: table.pixels(), colours: table.used(), count, limit };
         Failure::Refused { name: name.into(), refusal, meaning: case.meaning(refusal) }
     })
 }
 
 /// Picture, table, run, palette and mapping, as far as the library accepts them.
-fn make<'a>(table: &mut Table, bytes: &'a [u8], count: usize, limit: usize) -> Result<Work<'a>, Refusal> {
+fn make<'a>(table: &mut Table, bytes: &'a [u8], count: &Number, limit: &Number) -> Result<Work<'a>, Refusal> {
     let progress = Progress::start();
     let picture = Picture::read(bytes)?;
     let strip_pixels = picture.width() * (STRIP_BYTES / (3 * picture.width()));
@@ -45,7 +47,7 @@ fn make<'a>(table: &mut Table, bytes: &'a [u8], count: usize, limit: usize) -> R
         table.add(strip)?;
     }
     progress.say(&format!("looking for {count} shades of {} colours", grouped(table.used() as u64)));
-    let run = table.run(RunOptions::shades(count).limit(limit))?;
+    let run = table.run(RunOptions::shades(count.value).limit(limit.value))?;
     let palette = run.shades.palette()?;
     let mut index = vec![0; picture.pixels()];
     let mut error = 0;

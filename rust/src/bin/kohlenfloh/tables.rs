@@ -1,0 +1,88 @@
+//! The order for other programs: CSV for spreadsheets, and JSON with all figures of the sheet.
+use kohlenfloh::made::VERSION;
+use kohlenfloh::Run;
+
+use crate::help::MADE;
+use crate::order::Order;
+
+/// What is told of each shade.
+const COLUMNS: [&str; 8] = ["shade", "red", "green", "blue", "hex", "pixels", "share", "used"];
+
+/// The order as CSV: the columns' names, then a line for each shade.
+pub fn csv(order: &Order) -> String {
+    let row = |number| row(order, number, "", ["yes", "no"]).join(",") + "\n";
+    COLUMNS.join(",") + "\n" + &(0..order.lines.len()).map(row).collect::<String>()
+}
+
+/// The order as a JSON object: the figures of the run that found it and of the mapping, the shades, and what made the
+/// program.
+pub fn json(order: &Order, run: &Run, limit: usize) -> String {
+    let in_use = order.lines.iter().filter(|line| line.pixels > 0).count();
+    let shades: Vec<String> = (0..order.lines.len()).map(|number| format!("    {}", shade(order, number))).collect();
+    let made = [("version", VERSION)].into_iter().chain(MADE);
+    let made: Vec<String> = made.map(|(name, value)| format!("    {}", field(name, &string(value)))).collect();
+    let fields = [
+        ("picture", string(&order.name)),
+        ("width", order.width.to_string()),
+        ("height", order.height.to_string()),
+        ("pixels", order.pixels().to_string()),
+        ("colours", order.colours.to_string()),
+        ("shades", order.lines.len().to_string()),
+        ("in_use", in_use.to_string()),
+        ("limit", limit.to_string()),
+        ("rounds", order.rounds.to_string()),
+        ("settled", order.settled.to_string()),
+        ("distances", run.distances.to_string()),
+        ("final_total", run.total.to_string()),
+        ("error", order.error.to_string()),
+        ("mean_square_error", order.mean()),
+        ("order", format!("[\n{}\n  ]", shades.join(",\n"))),
+        ("made", format!("{{\n{}\n  }}", made.join(",\n"))),
+    ];
+    let fields = fields.map(|(name, value)| format!("  {}", field(name, &value)));
+    format!("{{\n{}\n}}\n", fields.join(",\n"))
+}
+
+/// A shade as a JSON object in one line.
+fn shade(order: &Order, number: usize) -> String {
+    let values = row(order, number, "\"", ["true", "false"]);
+    let fields: Vec<String> = COLUMNS.iter().zip(&values).map(|(name, value)| field(name, value)).collect();
+    format!("{{{}}}", fields.join(", "))
+}
+
+/// A shade's values in the order of the columns, with the quotes that a text wants and the words for used and unused.
+fn row(order: &Order, number: usize, quote: &str, [used, unused]: [&str; 2]) -> [String; COLUMNS.len()] {
+    let line = &order.lines[number];
+    let [red, green, blue] = line.levels.map(|level| level.to_string());
+    let hex = format!("{quote}{}{quote}", line.hex());
+    let word = if line.pixels > 0 { used } else { unused };
+    [number.to_string(), red, green, blue, hex, line.pixels.to_string(), order.share(line), word.into()]
+}
+
+/// A JSON field.
+fn field(name: &str, value: &str) -> String {
+    format!("{}: {value}", string(name))
+}
+
+/// A text as a JSON string.
+fn string(text: &str) -> String {
+    let escaped = text.chars().map(|character| match character {
+        '"' => "\\\"".into(),
+        '\\' => "\\\\".into(),
+        control if control.is_control() => format!("\\u{:04x}", u32::from(control)),
+        other => other.to_string(),
+    });
+    format!("\"{}\"", escaped.collect::<String>())
+}
+
+#[cfg(test)]
+mod tests {
+    use super::string;
+
+    #[test]
+    fn strings_are_escaped() {
+        assert_eq!(string("Läufer"), "\"Läufer\"");
+        assert_eq!(string("a\"b\\c/d"), r#""a\"b\\c/d""#);
+        assert_eq!(string("\0\n\x1f\x7f"), r#""\u0000\u000a\u001f\u007f""#);
+    }
+}
