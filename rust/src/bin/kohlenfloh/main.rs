@@ -2,16 +2,24 @@
 //!
 //! Table, shades, palette and index picture come from the proved library. This program reads, adds up the errors of the
 //! strips, counts index bytes, divides where it rounds, prints and draws.
+mod base64;
 mod digits;
 mod failure;
 mod files;
+mod header;
 mod help;
 mod input;
+mod kinds;
+mod meaning;
 mod options;
 mod order;
 mod outputs;
+mod png;
 mod progress;
+mod remedy;
 mod svg;
+mod svg_shades;
+mod thumbnail;
 mod work;
 
 use std::io::{self, Write};
@@ -42,7 +50,7 @@ fn main() -> ExitCode {
 fn shades(options: &Options) -> Result<(), Failure> {
     let bytes = input::read(options.picture.as_deref())?;
     let name = input::name(options.picture.as_deref());
-    let work = work::find_shades(&name, &bytes, options.count, options.limit)?;
+    let work = work::find_shades(&name, &bytes, options)?;
     let order = Order::of(name, &work);
     let staged: Result<Vec<_>, _> = options
         .outputs

@@ -1,8 +1,13 @@
 //! The order: what is to be bought for a picture, and the sheet that says so.
 use std::fmt::Write;
 
-use crate::digits::quotient;
+use kohlenfloh::{made, RunOptions};
+
+use crate::digits::{percent, quotient};
 use crate::work::Work;
+
+/// What is said of a shade that no pixel has.
+pub const NOT_USED: &str = "not used, buy nothing";
 
 /// What the order sheet tells, in words and as a drawing.
 pub struct Order {
@@ -38,6 +43,11 @@ impl Line {
         let [red, green, blue] = self.levels;
         format!("#{red:02x}{green:02x}{blue:02x}")
     }
+
+    /// Whether a pixel has this shade.
+    pub fn used(&self) -> bool {
+        self.pixels > 0
+    }
 }
 
 impl Order {
@@ -64,9 +74,24 @@ impl Order {
         self.lines.iter().map(|line| line.pixels).sum()
     }
 
+    /// How many shades have a pixel.
+    pub fn in_use(&self) -> usize {
+        self.lines.iter().filter(|line| line.used()).count()
+    }
+
+    /// How many shades have a pixel, in words.
+    pub fn use_in_words(&self) -> String {
+        format!("{} of {} shades in use", self.in_use(), self.lines.len())
+    }
+
+    /// Whether more rounds can be asked for, and may lower the error.
+    pub fn may_go_on(&self) -> bool {
+        !self.settled && self.rounds < RunOptions::MOST_ROUNDS
+    }
+
     /// A shade's share of the pixels, in percent.
     pub fn share(&self, line: &Line) -> String {
-        quotient(100 * line.pixels, self.pixels())
+        percent(line.pixels, self.pixels())
     }
 
     /// The error divided by the pixels.
@@ -76,39 +101,71 @@ impl Order {
 
     /// The order sheet as text.
     pub fn sheet(&self) -> String {
-        let pixels = self.pixels();
-        let mut text = format!(
+        let mut text = self.figures();
+        text.push_str("\nshade    R    G    B  hex        pixels  share %\n");
+        for (number, line) in self.lines.iter().enumerate() {
+            let [red, green, blue] = line.levels;
+            let (hex, share) = (line.hex(), self.share(line));
+            let mark = if line.used() { String::new() } else { format!("  {NOT_USED}") };
+            writeln!(text, "{number:>5}  {red:>3}  {green:>3}  {blue:>3}  {hex}  {:>8}  {share:>7}{mark}", line.pixels)
+                .expect("a string takes what is written");
+        }
+        text.push_str(
+            "\nThe pixels of the shades sum to the picture's pixels. Each share, and the mean, is rounded by itself\n\
+             to two digits by whole-number arithmetic, halves up; <0.01 is a share that is there, but smaller.\n\n",
+        );
+        text + &origin()
+    }
+
+    /// What the text says of the picture and of the run.
+    fn figures(&self) -> String {
+        format!(
             "picture            {}\n\
              width              {}\n\
              height             {}\n\
-             pixels             {pixels}\n\
+             pixels             {}\n\
              colours            {}\n\
              shades             {}\n\
              rounds             {}\n\
              settled            {}\n\
              error              {}\n\
-             mean square error  {}\n\n\
-             shade    R    G    B  hex        pixels  share %\n",
+             mean square error  {}\n",
             self.name,
             self.width,
             self.height,
+            self.pixels(),
             self.colours,
-            self.lines.len(),
+            self.use_in_words(),
             self.rounds,
-            if self.settled { "yes" } else { "no" },
+            self.settled_in_words(),
             self.error,
             self.mean(),
-        );
-        for (number, line) in self.lines.iter().enumerate() {
-            let [red, green, blue] = line.levels;
-            let (hex, share) = (line.hex(), self.share(line));
-            writeln!(text, "{number:>5}  {red:>3}  {green:>3}  {blue:>3}  {hex}  {:>8}  {share:>7}", line.pixels)
-                .expect("a string takes what is written");
-        }
-        text.push_str(
-            "\nThe pixels of the shades sum to the picture's pixels. Each share, and the mean, is rounded by itself\n\
-             to two digits by whole-number arithmetic, halves up.\n",
-        );
-        text
+        )
     }
+
+    /// Whether the last round moved no shade; where it did, what more rounds may do, and how they are asked for.
+    fn settled_in_words(&self) -> String {
+        let most = RunOptions::MOST_ROUNDS;
+        if self.settled {
+            "yes".into()
+        } else if self.may_go_on() {
+            format!("no: more rounds may lower the error, ask for them by --limit {most}")
+        } else {
+            format!("no, and {most} rounds are the most there can be")
+        }
+    }
+}
+
+/// What made the sheet, so that it can be traced to the proved library behind it.
+fn origin() -> String {
+    format!(
+        "made by            kohlenfloh {}\n\
+         toolchain          {}\n\
+         proof              {}\n\
+         sources            {}\n",
+        made::VERSION,
+        made::TOOLCHAIN,
+        made::PROOF,
+        made::SOURCES,
+    )
 }

@@ -47,7 +47,7 @@ pub fn write(output: Output, work: &Work<'_>, order: &Order, to: &mut dyn Write)
             header("P6", width, height, to)?;
             preview(work, to)
         }
-        Output::Sheet => to.write_all(svg::drawing(order).as_bytes()),
+        Output::Sheet => to.write_all(svg::drawing(work, order).as_bytes()),
     }
 }
 

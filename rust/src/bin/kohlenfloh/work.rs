@@ -2,7 +2,9 @@
 use kohlenfloh::{Palette, Picture, Refusal, Run, RunOptions, Table};
 
 use crate::digits::grouped;
-use crate::failure::{Case, Failure};
+use crate::failure::Failure;
+use crate::meaning::Case;
+use crate::options::Options;
 use crate::progress::Progress;
 
 /// The most bytes of a strip. A strip is as many whole rows as fit, and the longest row has 48 KiB. Each add tests the
@@ -26,10 +28,10 @@ pub struct Work<'a> {
 }
 
 /// Finds the shades of a picture and maps it to them. The name is the one that a refusal tells.
-pub fn find_shades<'a>(name: &str, bytes: &'a [u8], count: usize, limit: usize) -> Result<Work<'a>, Failure> {
+pub fn find_shades<'a>(name: &str, input: &'a [u8], options: &Options) -> Result<Work<'a>, Failure> {
     let mut table = Table::with_room(Table::MOST_ENTRIES);
-    make(&mut table, bytes, count, limit).map_err(|refusal| {
-        let case = Case { bytes: bytes.len(), pixels: table.pixels(), colours: table.used(), count, limit };
+    make(&mut table, input, options.count, options.limit).map_err(|refusal| {
+        let case = Case { input, options, pixels: table.pixels(), colours: table.used() };
         Failure::Refused { name: name.into(), refusal, meaning: case.meaning(refusal) }
     })
 }

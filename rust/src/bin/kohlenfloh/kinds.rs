@@ -1,0 +1,46 @@
+//! What a file is that is no P6 picture, by its first bytes, and the programs that make one of it.
+use crate::remedy::Way;
+
+/// A kind of file.
+pub struct Kind {
+    /// What it is called.
+    pub name: &'static str,
+    /// The bytes by which it is known, each with the offset where they stand.
+    marks: &'static [(usize, &'static [u8])],
+    /// How a P6 picture of depth 255 is made of it.
+    pub way: Way,
+}
+
+/// The first bytes of every PNG.
+const PNG: (usize, &[u8]) = (0, b"\x89PNG\r\n\x1a\n");
+
+/// The kinds, each before those that have fewer marks. A picture of colours with 8 bits a level needs one program;
+/// another may come out of it grey or deep, and ppmtoppm makes grey levels colours, as pamdepth makes any depth 255.
+const KINDS: [Kind; 15] = [
+    kind("a PNG picture", &[PNG, (24, b"\x08\x02")], Way::netpbm("pngtopnm", "")),
+    kind("a PNG picture", &[PNG, (24, b"\x08\x06")], Way::netpbm("pngtopnm", "")),
+    kind("a PNG picture", &[PNG], Way::netpbm("pngtopnm", " | ppmtoppm | pamdepth 255")),
+    kind("a JPEG picture", &[(0, b"\xff\xd8\xff")], Way::netpbm("jpegtopnm", " | ppmtoppm")),
+    kind("a GIF picture", &[(0, b"GIF8")], Way::netpbm("giftopnm", " | ppmtoppm")),
+    kind("a BMP picture", &[(0, b"BM"), (6, b"\0\0\0\0")], Way::netpbm("bmptopnm", " | ppmtoppm")),
+    kind("a TIFF picture", &[(0, b"II*\0")], Way::netpbm("tifftopnm", " | ppmtoppm | pamdepth 255")),
+    kind("a TIFF picture", &[(0, b"MM\0*")], Way::netpbm("tifftopnm", " | ppmtoppm | pamdepth 255")),
+    kind("a WebP picture", &[(0, b"RIFF"), (8, b"WEBP")], Way::WEBP),
+    kind("a P1 picture, black and white in digits", &[(0, b"P1")], Way::netpbm("pamdepth 255", " | ppmtoppm")),
+    kind("a P2 picture, grey levels in digits", &[(0, b"P2")], Way::netpbm("pamdepth 255", " | ppmtoppm")),
+    kind("a P3 picture, colours in digits", &[(0, b"P3")], Way::DEPTH_255),
+    kind("a P4 picture, black and white", &[(0, b"P4")], Way::netpbm("pamdepth 255", " | ppmtoppm")),
+    kind("a P5 picture, grey levels", &[(0, b"P5")], Way::netpbm("pamdepth 255", " | ppmtoppm")),
+    kind("a PAM picture", &[(0, b"P7")], Way::netpbm("pamdepth 255", " | pamtopnm | ppmtoppm")),
+];
+
+/// A row of the kinds.
+const fn kind(name: &'static str, marks: &'static [(usize, &'static [u8])], way: Way) -> Kind {
+    Kind { name, marks, way }
+}
+
+/// The kind of an input, if it is one of these.
+pub fn of(input: &[u8]) -> Option<&'static Kind> {
+    let stands = |(offset, bytes): &(usize, &[u8])| input.get(*offset..).is_some_and(|rest| rest.starts_with(bytes));
+    KINDS.iter().find(|kind| kind.marks.iter().all(stands))
+}
