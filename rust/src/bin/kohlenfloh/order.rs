@@ -169,3 +169,18 @@ fn origin() -> String {
         made::SOURCES,
     )
 }
+
+#[cfg(test)]
+mod tests {
+    use super::{Line, Order};
+
+    #[test]
+    fn the_most_rounds_are_told_as_such() {
+        let lines = vec![Line { levels: [0; 3], pixels: 1 }];
+        let (name, error) = (String::new(), 0);
+        let mut order = Order { name, width: 1, height: 1, colours: 1, rounds: 200, settled: false, error, lines };
+        assert!(order.sheet().contains("\nsettled            no, and 200 rounds are the most there can be\n"));
+        order.rounds = 199;
+        assert!(order.sheet().contains("\nsettled            no: more rounds may lower the error, ask for them by"));
+    }
+}

@@ -126,8 +126,8 @@ fn foot(order: &Order, top: usize) -> String {
         r##"<path d="M{LEFT} {top}H{RIGHT}" stroke="#999999"/>
 <text x="{LEFT}" y="{sum}">All shades: <tspan font-weight="bold">{pixels}</tspan>, the pixels of the picture</text>
 <g font-size="12" fill="#666666">
-<text x="{LEFT}" y="{note}">Pixels are counted in the index picture. Each share is rounded by itself to two digits, halves
- up. The greatest share has the longest bar.</text>
+<text x="{LEFT}" y="{note}">Pixels are counted in the index picture. Each share is rounded by itself to two digits,
+ halves up. The greatest share has the longest bar.</text>
 <text x="{LEFT}" y="{origin}">kohlenfloh {version}, {toolchain}, proof {proof}, sources {sources:.SUM_LENGTH$}</text>
 </g>
 "##,
