@@ -1,5 +1,4 @@
 //! The order sheet as a drawing: what it says, the picture in it, and that it can be read and printed.
-#[allow(dead_code, reason = "each file of tests uses a part of it")]
 mod program;
 mod tools;
 
@@ -95,19 +94,20 @@ fn any_number_of_shades_is_a_page_at_most() {
 
 #[test]
 fn the_picture_in_the_drawing_is_the_preview() {
-    if installed(&["base64", "pngtopnm", "ppmtoppm"]) {
+    if installed(&["base64 | pngtopnm | ppmtoppm | pamenlarge"]) {
         let folder = Folder::new("picture");
         let (rug, _) = drawing(&folder, &["7", RUG, "--preview", &folder.path("preview.ppm")], b"");
-        assert_eq!(picture(&folder, &rug), folder.read("preview.ppm"));
+        let preview = shell(Path::new(&folder.path(".")), "pamenlarge 3 preview.ppm").stdout;
+        assert_eq!(picture(&folder, &rug), preview);
     }
 }
 
 #[test]
 fn a_large_picture_is_made_small_and_a_thin_one_stays_seen() {
-    if installed(&["base64", "pngtopnm", "ppmtoppm"]) {
+    if installed(&["base64 | pngtopnm | ppmtoppm"]) {
         let folder = Folder::new("large");
         for (width, height, small) in
-            [(640, 480, "320 240"), (300, 900, "106 320"), (16384, 1, "320 1"), (1, 16384, "1 320"), (1, 1, "1 1")]
+            [(640, 480, "320 240"), (300, 900, "106 320"), (16384, 1, "320 1"), (1, 16384, "1 320"), (1, 1, "4 4")]
         {
             let (drawing, _) = drawing(&folder, &["1"], &colours(width, height));
             assert!(picture(&folder, &drawing).starts_with(format!("P6\n{small}\n255\n").as_bytes()), "{small}");

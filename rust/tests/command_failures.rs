@@ -3,19 +3,13 @@ mod program;
 
 use std::fs::{self, File};
 
-use program::{printed, program, run, said, Folder, OUTPUTS, RUG};
+use program::{printed, program, run, said, too_many_colours, Folder, OUTPUTS, RUG};
 
 /// What is said of a header with a number of twenty digits.
 const LONG: &str = "12 BAD HEADER: the header tells 1 by 18446744073709551617 pixels and the depth 255; its numbers";
 
 /// What is said of a raster of five bytes for two pixels.
 const RASTER: &str = "15 BAD RASTER: the raster should have 6 bytes, for 2 by 1 pixels, and 5 follow the header\n";
-
-/// A picture of 1024 by 1025 pixels, each of a colour of its own: one colour more than a table has entries.
-fn too_many_colours() -> Vec<u8> {
-    let raster = (0..1024 * 1025_u32).flat_map(|key| key.to_be_bytes()[1..].to_vec());
-    b"P6 1024 1025 255\n".iter().copied().chain(raster).collect()
-}
 
 /// Arguments and an input, and the status and words by which they are refused.
 type Refused<'a> = (&'static [&'static str], &'a [u8], i32, &'static str);

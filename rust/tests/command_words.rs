@@ -1,16 +1,15 @@
 //! What the command says of a picture that is refused, and how it can be read all the same. Each remedy is run as it is
 //! told, where its programs are installed.
-#[allow(dead_code, reason = "each file of tests uses a part of it")]
 mod program;
 mod tools;
 
 use std::path::Path;
 
-use program::{printed, program, run, said, Folder, RUG};
+use program::{printed, program, run, said, too_many_colours, Folder, RUG};
 use tools::{installed, shell};
 
-/// Files that programs make of the rug, in colours and in grey, shallow and deep: the programs, the file's name, what it
-/// is, and the programs that make it a picture that is read.
+/// Files that programs make of the rug, in colours and in grey, shallow and deep: the programs, the file's name, what
+/// it is, and the programs that make it a picture that is read.
 const WRITTEN: [(&str, &str, &str, &str); 23] = [
     ("pnmtopng -force", "rgb.png", "a PNG picture", "pngtopnm rgb.png"),
     ("pnmtopng", "palette.png", "a PNG picture", "pngtopnm palette.png | ppmtoppm | pamdepth 255"),
@@ -61,12 +60,6 @@ const TIFF: &[u8] = b"MM\0*\0\0\0\x08\0\x07\
 
 /// A PAM picture with a fourth level for what shows through: 2 by 1 pixels.
 const ALPHA: &[u8] = b"P7\nWIDTH 2\nHEIGHT 1\nDEPTH 4\nMAXVAL 255\nTUPLTYPE RGB_ALPHA\nENDHDR\nabcdefgh";
-
-/// A picture of 1024 by 1025 pixels, each of a colour of its own, for which the table has no room.
-fn too_many_colours() -> Vec<u8> {
-    let raster = (0..1024 * 1025_u32).flat_map(|number| (number * 15).to_be_bytes()[1..].to_vec());
-    b"P6 1024 1025 255\n".iter().copied().chain(raster).collect()
-}
 
 /// A file is refused with a status and words, and the remedy on the line after them leads to a sheet; the file is named
 /// in it, or piped where it comes from standard input.

@@ -44,3 +44,24 @@ pub fn of(input: &[u8]) -> Option<&'static Kind> {
     let stands = |(offset, bytes): &(usize, &[u8])| input.get(*offset..).is_some_and(|rest| rest.starts_with(bytes));
     KINDS.iter().find(|kind| kind.marks.iter().all(stands))
 }
+
+#[cfg(test)]
+mod tests {
+    use super::of;
+
+    #[test]
+    fn a_kind_is_known_by_all_its_marks() {
+        let name = |input: &[u8]| of(input).map(|kind| kind.name);
+        assert_eq!(name(b"\x89PNG\r\n\x1a\n"), Some("a PNG picture"));
+        assert_eq!(name(b"\xff\xd8\xff\xe0"), Some("a JPEG picture"));
+        assert_eq!(name(b"GIF89a"), Some("a GIF picture"));
+        assert_eq!(name(b"BM1234\0\0\0\0"), Some("a BMP picture"));
+        assert_eq!(name(b"II*\0"), Some("a TIFF picture"));
+        assert_eq!(name(b"MM\0*"), Some("a TIFF picture"));
+        assert_eq!(name(b"RIFF1234WEBP"), Some("a WebP picture"));
+        assert_eq!(name(b"P5 1 1 255 a"), Some("a P5 picture, grey levels"));
+        for input in [b"".as_slice(), b"P6", b"RIFF1234WAVE", b"RIFF", b"BM and more", b"P8", b"\x89PNG"] {
+            assert_eq!(name(input), None);
+        }
+    }
+}
