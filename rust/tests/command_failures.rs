@@ -15,7 +15,7 @@ const RASTER: &str = "15 BAD RASTER: the raster should have 6 bytes, for 2 by 1 
 type Refused<'a> = (&'static [&'static str], &'a [u8], i32, &'static str);
 
 /// What is refused of the rug, of a picture with too many colours, and of inputs that are no picture.
-fn refused<'a>(rug: &'a [u8], many: &'a [u8]) -> [Refused<'a>; 18] {
+fn refused<'a>(rug: &'a [u8], many: &'a [u8]) -> [Refused<'a>; 19] {
     [
         (&["6"], many, 3, "3 FULL: the picture has more than 1,048,576 colours; 1,048,576 of its pixels"),
         (&["0"], rug, 4, "4 BAD COUNT: 0 shades are wanted, and there can be 1 to 64"),
@@ -25,6 +25,7 @@ fn refused<'a>(rug: &'a [u8], many: &'a [u8]) -> [Refused<'a>; 18] {
         (&["6", "--limit", "201"], rug, 6, "6 BAD LIMIT: a limit of 201 rounds is wanted"),
         (&["6"], b"", 12, "12 BAD HEADER: the input is empty"),
         (&["6"], b"a letter", 12, "12 BAD HEADER: the byte at offset 0 cannot stand there"),
+        (&["6"], b"P65 1 1 255 abc", 12, "12 BAD HEADER: the byte at offset 2 cannot stand there"),
         (&["6"], b"P6\n# drawn\n", 12, "12 BAD HEADER: the header has a comment at offset 3"),
         (&["6"], b"P6 64 96 255", 12, "12 BAD HEADER: the input ends at offset 12"),
         (&["6"], b"P6 1 18446744073709551617 255 ", 12, LONG),

@@ -10,8 +10,9 @@ use tools::{installed, shell};
 
 /// Files that programs make of the rug, in colours and in grey, shallow and deep: the programs, the file's name, what
 /// it is, and the programs that make it a picture that is read.
-const WRITTEN: [(&str, &str, &str, &str); 23] = [
+const WRITTEN: [(&str, &str, &str, &str); 24] = [
     ("pnmtopng -force", "rgb.png", "a PNG picture", "pngtopnm rgb.png"),
+    (ALPHA_PNG, "alpha.png", "a PNG picture", "pngtopnm alpha.png"),
     ("pnmtopng", "palette.png", "a PNG picture", "pngtopnm palette.png | ppmtoppm | pamdepth 255"),
     ("ppmtopgm | pnmtopng", "grey.png", "a PNG picture", "pngtopnm grey.png | ppmtoppm | pamdepth 255"),
     (BITS_PNG, "bits.png", "a PNG picture", "pngtopnm bits.png | ppmtoppm | pamdepth 255"),
@@ -42,6 +43,8 @@ const BITS: &str = "ppmtopgm | pamthreshold -simple | pamtopnm";
 const PLAIN_BITS: &str = "ppmtopgm | pamthreshold -simple | pamtopnm | pnmtoplainpnm";
 /// The same as a PNG.
 const BITS_PNG: &str = "ppmtopgm | pamthreshold -simple | pamtopnm | pnmtopng";
+/// The rug as a PNG with a fourth level for what shows through.
+const ALPHA_PNG: &str = "pamchannel -tupletype RGB_ALPHA 0 1 2 0 | pamtopng";
 /// The rug as a PNG of 16 bits a level.
 const DEEP_PNG: &str = "pamdepth 65535 | pnmtopng -force";
 /// The rug as a TIFF of 16 bits a level.

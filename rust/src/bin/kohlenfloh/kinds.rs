@@ -13,12 +13,16 @@ pub struct Kind {
 
 /// The first bytes of every PNG.
 const PNG: (usize, &[u8]) = (0, b"\x89PNG\r\n\x1a\n");
+/// In a PNG: 8 bits a level, and pixels of R, G, B.
+const COLOURS: (usize, &[u8]) = (24, b"\x08\x02");
+/// The same with a fourth level for what shows through.
+const COLOURS_AND_ALPHA: (usize, &[u8]) = (24, b"\x08\x06");
 
-/// The kinds, each before those that have fewer marks. A picture of colours with 8 bits a level needs one program;
-/// another may come out of it grey or deep, and ppmtoppm makes grey levels colours, as pamdepth makes any depth 255.
+/// The kinds, each before those that have fewer marks. Where a picture may be grey, ppmtoppm makes its levels colours;
+/// where it may have another depth, pamdepth makes it 255.
 const KINDS: [Kind; 15] = [
-    kind("a PNG picture", &[PNG, (24, b"\x08\x02")], Way::netpbm("pngtopnm", "")),
-    kind("a PNG picture", &[PNG, (24, b"\x08\x06")], Way::netpbm("pngtopnm", "")),
+    kind("a PNG picture", &[PNG, COLOURS], Way::netpbm("pngtopnm", "")),
+    kind("a PNG picture", &[PNG, COLOURS_AND_ALPHA], Way::netpbm("pngtopnm", "")),
     kind("a PNG picture", &[PNG], Way::netpbm("pngtopnm", " | ppmtoppm | pamdepth 255")),
     kind("a JPEG picture", &[(0, b"\xff\xd8\xff")], Way::netpbm("jpegtopnm", " | ppmtoppm")),
     kind("a GIF picture", &[(0, b"GIF8")], Way::netpbm("giftopnm", " | ppmtoppm")),

@@ -23,8 +23,7 @@ impl Case<'_> {
     /// What a refusal means here.
     pub fn meaning(&self, refusal: Refusal) -> String {
         let Options { count, limit, .. } = self.options;
-        let header = header::read(self.input);
-        match (refusal, header) {
+        match (refusal, header::read(self.input)) {
             (Refusal::Full { .. }, _) => self.full(),
             (Refusal::BadCount, _) => format!("{count} shades are wanted, and there can be 1 to 64"),
             (Refusal::FewColours, _) => {
@@ -48,7 +47,7 @@ impl Case<'_> {
         format!(
             "the picture has more than 1,048,576 colours; {} of its pixels were taken before the table was full. {}",
             grouped(self.pixels),
-            Way::FEWER_COLOURS.advice("this leaves at most 1,030,301, each level 1 away at most", self.options),
+            Way::FEWER_COLOURS.advice("this leaves at most 1,030,301 and moves no level by more than 1", self.options),
         )
     }
 
@@ -65,7 +64,7 @@ impl Case<'_> {
                 "the header has a comment at offset {offset}, and comments are not read. {}",
                 Way::DEPTH_255.advice("this leaves it out", self.options)
             ),
-            (Some(b'0'..=b'9'), Some(header)) => format!(
+            (Some(b'0'..=b'9'), Some(header)) if offset > 2 => format!(
                 "the header tells {} and the depth {}; its numbers can have 5 digits at most",
                 header.sides(),
                 told(header.depth)
