@@ -3,34 +3,46 @@ mod program;
 
 use std::fs::{self, File};
 
-use program::{printed, program, run, said, Folder, OUTPUTS, RUG};
+use program::{printed, program, run, said, too_many_colours, Folder, OUTPUTS, RUG};
 
-/// A picture of 1024 by 1025 pixels, each of a colour of its own: one colour more than a table has entries.
-fn too_many_colours() -> Vec<u8> {
-    let raster = (0..1024 * 1025_u32).flat_map(|key| key.to_be_bytes()[1..].to_vec());
-    b"P6 1024 1025 255\n".iter().copied().chain(raster).collect()
+/// What is said of a header with a number of twenty digits.
+const LONG: &str = "12 BAD HEADER: the header tells 1 by 18446744073709551617 pixels and the depth 255; its numbers";
+
+/// What is said of a raster of five bytes for two pixels.
+const RASTER: &str = "15 BAD RASTER: the raster should have 6 bytes, for 2 by 1 pixels, and 5 follow the header\n";
+
+/// Arguments and an input, and the status and words by which they are refused.
+type Refused<'a> = (&'static [&'static str], &'a [u8], i32, &'static str);
+
+/// What is refused of the rug, of a picture with too many colours, and of inputs that are no picture.
+fn refused<'a>(rug: &'a [u8], many: &'a [u8]) -> [Refused<'a>; 19] {
+    [
+        (&["6"], many, 3, "3 FULL: the picture has more than 1,048,576 colours; 1,048,576 of its pixels"),
+        (&["0"], rug, 4, "4 BAD COUNT: 0 shades are wanted, and there can be 1 to 64"),
+        (&["65"], rug, 4, "4 BAD COUNT: 65 shades"),
+        (&["99999999999999999999999"], rug, 4, "4 BAD COUNT"),
+        (&["43"], rug, 5, "5 FEW COLOURS: 43 shades are wanted, and the picture has 42 colours; ask for 42 at most"),
+        (&["6", "--limit", "201"], rug, 6, "6 BAD LIMIT: a limit of 201 rounds is wanted"),
+        (&["6"], b"", 12, "12 BAD HEADER: the input is empty"),
+        (&["6"], b"a letter", 12, "12 BAD HEADER: the byte at offset 0 cannot stand there"),
+        (&["6"], b"P65 1 1 255 abc", 12, "12 BAD HEADER: the byte at offset 2 cannot stand there"),
+        (&["6"], b"P6\n# drawn\n", 12, "12 BAD HEADER: the header has a comment at offset 3"),
+        (&["6"], b"P6 64 96 255", 12, "12 BAD HEADER: the input ends at offset 12"),
+        (&["6"], b"P6 1 18446744073709551617 255 ", 12, LONG),
+        (&["6"], b"P6 16384 1025 255 ", 13, "13 BAD SIZE: the picture has 16384 by 1025 pixels; a side can be 1 to"),
+        (&["6"], b"P6 0 99999 255 ", 13, "13 BAD SIZE: the picture has 0 by 99999 pixels; a side can be 1 to 16,384"),
+        (&["6"], b"P6 1 1 65535 abcdef", 14, "14 BAD DEPTH: the depth is 65535, 16 bits a level, and it must be 255. "),
+        (&["6"], b"P6 1 1 15 abc", 14, "14 BAD DEPTH: the depth is 15, and it must be 255. With netpbm"),
+        (&["6"], b"P6 1 1 65536 abcdef", 14, "14 BAD DEPTH: the depth is 65536, and it must be 255\n"),
+        (&["6"], b"P6 2 1 255 abcde", 15, RASTER),
+        (&["0", "--limit", "999"], b"P6 2 1 255 abcdefg", 15, "15 BAD RASTER: the raster should have 6 bytes"),
+    ]
 }
 
 #[test]
 fn a_refusal_is_told_and_touches_no_file() {
     let rug = fs::read(RUG).unwrap();
-    let many = too_many_colours();
-    let cases: [(&[&str], &[u8], i32, &str); 13] = [
-        (&["6"], &many, 3, "3 FULL: the picture has more than 1,048,576 colours; 1,048,576 of its pixels"),
-        (&["0"], &rug, 4, "4 BAD COUNT: 0 shades are wanted, and there can be 1 to 64"),
-        (&["65"], &rug, 4, "4 BAD COUNT: 65 shades"),
-        (&["99999999999999999999999"], &rug, 4, "4 BAD COUNT"),
-        (&["43"], &rug, 5, "5 FEW COLOURS: 43 shades are wanted, and the picture's colours are fewer: 42"),
-        (&["6", "--limit", "201"], &rug, 6, "6 BAD LIMIT: a limit of 201 rounds is wanted"),
-        (&["6"], b"", 12, "12 BAD HEADER: the input ends at offset 0"),
-        (&["6"], b"P6\n# drawn\n", 12, "12 BAD HEADER: the byte at offset 3 cannot"),
-        (&["6"], b"P6 64 96 255", 12, "12 BAD HEADER: the input ends at offset 12"),
-        (&["6"], b"P6 16384 1025 255 ", 13, "13 BAD SIZE"),
-        (&["6"], b"P6 1 1 65535 abcdef", 14, "14 BAD DEPTH: the depth is not 255"),
-        (&["6"], b"P6 2 1 255 abcde", 15, "15 BAD RASTER"),
-        (&["0", "--limit", "999"], b"P6 2 1 255 abcdefg", 15, "15 BAD RASTER"),
-    ];
-    for (arguments, input, status, words) in cases {
+    for (arguments, input, status, words) in refused(&rug, &too_many_colours()) {
         let folder = Folder::new("refused");
         OUTPUTS.iter().for_each(|(_, name)| drop(folder.write(name, b"former")));
         let arguments: Vec<String> =
@@ -39,7 +51,8 @@ fn a_refusal_is_told_and_touches_no_file() {
         assert_eq!(output.status.code(), Some(status), "{arguments:?}");
         let told = said(&output);
         assert!(told.starts_with(&format!("kohlenfloh: standard input: refused {words}")), "{told}");
-        assert_eq!((printed(&output), told.lines().count()), ("", 1));
+        // A remedy stands on a line of its own.
+        assert_eq!((printed(&output), told.lines().count()), ("", 1 + told.matches(" installed, ").count()));
         assert_eq!(folder.names(), OUTPUTS.map(|(_, name)| name));
         assert!(OUTPUTS.iter().all(|(_, name)| folder.read(name) == b"former"));
     }

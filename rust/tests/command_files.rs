@@ -1,6 +1,4 @@
 //! The command on files that are somebody's: nothing is overwritten that is not meant.
-// Other tests use the rest of it.
-#[allow(dead_code)]
 mod program;
 
 use std::fs::{self, File, Permissions};

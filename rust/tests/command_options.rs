@@ -1,6 +1,4 @@
 //! The command line: options, their values, and how what it holds is told.
-// Other tests use the rest of it.
-#[allow(dead_code)]
 mod program;
 
 use std::ffi::OsStr;

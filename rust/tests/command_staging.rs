@@ -1,7 +1,5 @@
 //! The command between the writing of its files and their coming to their places: signals, failures, and files that are
 //! left of another run.
-// Other tests use the rest of it.
-#[allow(dead_code)]
 mod program;
 
 use std::fs::{self, File, Permissions};

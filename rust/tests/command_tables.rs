@@ -1,6 +1,4 @@
 //! CSV, JSON and standard output as an output, held against the order sheet; and what the help tells of them.
-// Other tests use the rest of it.
-#[allow(dead_code)]
 mod program;
 
 use std::ffi::OsStr;
@@ -62,15 +60,15 @@ fn line_of(shade: &[&str], words: [&str; 2]) -> String {
 fn the_table_tells_what_the_sheet_tells() {
     let folder = Folder::new("csv");
     let path = folder.path("order.csv");
-    let output = run(&["shades", "6", RUG, "--csv", &path], b"");
+    let output = run(&["shades", "7", RUG, "--csv", &path], b"");
     assert_eq!((said(&output), output.status.code()), ("", Some(0)));
     let shades = shades_of(printed(&output));
-    assert_eq!(shades.len(), 6);
+    assert_eq!(shades.len(), 7);
     let mut lines = vec!["shade red green blue hex pixels share used".to_string()];
     lines.extend(shades.iter().map(|shade| line_of(shade, ["yes", "no"])));
     assert_eq!(python(READ_CSV, &path), lines);
     let text = String::from_utf8(folder.read("order.csv")).unwrap();
-    assert!(text.starts_with("shade,red,green,blue,hex,pixels,share,used\n0,113,71,63,#71473f,0,0.00,no\n"));
+    assert!(text.starts_with("shade,red,green,blue,hex,pixels,share,used\n0,108,81,69,#6c5145,0,0.00,no\n"));
     assert!(text.ends_with(",yes\n") && !text.contains('\r'));
 }
 
@@ -81,20 +79,21 @@ fn the_object_tells_what_the_sheet_tells() {
     let name = OsStr::from_bytes(b"a \"b\" c\\d\ne\xfff, \xc3\xa4.ppm");
     let picture = Path::new(&folder.path("")).join(name);
     fs::copy(RUG, &picture).unwrap();
-    let mut command = program(&["shades", "6", "--json", &path]);
+    let mut command = program(&["shades", "7", "--json", &path]);
     let output = command.arg(&picture).stdin(Stdio::null()).output().unwrap();
     assert_eq!((said(&output), output.status.code()), ("", Some(0)));
     let sheet = printed(&output);
 
     let mut lines = vec!["picture: a \"b\" c\\d\u{fffd}e\u{fffd}f, ä.ppm".to_string()];
     assert_eq!(lines[0], format!("picture: {}", figure(sheet, "picture")));
-    for name in ["width", "height", "pixels", "colours", "shades"] {
+    for name in ["width", "height", "pixels", "colours"] {
         lines.push(format!("{name}: {}", figure(sheet, name)));
     }
-    lines.extend(["in_use: 5".into(), "limit: 20".into()]);
+    assert_eq!(figure(sheet, "shades"), "6 of 7 shades in use");
+    lines.extend(["shades: 7", "in_use: 6", "wanted_in_use: None", "limit: 20"].map(String::from));
     lines.push(format!("rounds: {}", figure(sheet, "rounds")));
     assert_eq!(figure(sheet, "settled"), "yes");
-    lines.extend(["settled: True".into(), "distances: 274".into(), "final_total: 118230616".into()]);
+    lines.extend(["settled: True".into(), "distances: 302".into(), "final_total: 21345408".into()]);
     lines.push(format!("error: {}", figure(sheet, "error")));
     lines.push(format!("mean_square_error: {}", figure(sheet, "mean square error")));
     let version = run(&["--version"], b"");
@@ -114,7 +113,7 @@ fn the_object_tells_the_limit_in_force() {
         ("1", "  \"limit\": 1,\n  \"rounds\": 1,\n  \"settled\": false,\n"),
         ("200", "  \"limit\": 200,\n  \"rounds\": 2,\n  \"settled\": true,\n"),
     ] {
-        let output = run(&["shades", "6", RUG, "--limit", limit, "--json", "-"], b"");
+        let output = run(&["shades", "7", RUG, "--limit", limit, "--json", "-"], b"");
         assert!(printed(&output).contains(lines), "{}", printed(&output));
     }
 }

@@ -1,4 +1,5 @@
 //! Running the built program, in a folder of its own.
+#![allow(dead_code, reason = "each file of tests uses a part of this")]
 use std::fs;
 use std::io::Write;
 use std::path::{Path, PathBuf};
@@ -6,6 +7,12 @@ use std::process::{Command, Output, Stdio};
 
 /// The picture that comes with the repository.
 pub const RUG: &str = concat!(env!("CARGO_MANIFEST_DIR"), "/../examples/rug.ppm");
+
+/// A picture of 1024 by 1025 pixels, each of a colour of its own: one row more than a table has entries for.
+pub fn too_many_colours() -> Vec<u8> {
+    let raster = (0..1024 * 1025_u32).flat_map(|number| (15 * number).to_be_bytes()[1..].to_vec());
+    b"P6 1024 1025 255\n".iter().copied().chain(raster).collect()
+}
 
 /// The options that name an output file, and the file that the tests name.
 pub const OUTPUTS: [(&str, &str); 4] =

@@ -7,6 +7,14 @@ pub fn quotient(part: u64, whole: u64) -> String {
     format!("{}.{:02}", hundredths / 100, hundredths % 100)
 }
 
+/// A part of a whole in percent, to two digits after the point. A part that is there and below 0.01 % is told as such.
+pub fn percent(part: u64, whole: u64) -> String {
+    if part > 0 && 10_000 * part < whole {
+        return "<0.01".into();
+    }
+    quotient(100 * part, whole)
+}
+
 /// A number with a comma before each group of three digits.
 pub fn grouped(number: u64) -> String {
     let digits = number.to_string();
@@ -22,7 +30,7 @@ pub fn grouped(number: u64) -> String {
 
 #[cfg(test)]
 mod tests {
-    use super::{grouped, quotient};
+    use super::{grouped, percent, quotient};
 
     #[test]
     fn quotients_are_rounded_halves_up() {
@@ -32,6 +40,15 @@ mod tests {
         assert_eq!(quotient(200, 3), "66.67");
         assert_eq!(quotient(100 * 16_777_215, 16_777_216), "100.00");
         assert_eq!(quotient(3_272_815_411_200, 16_777_216), "195075.00");
+    }
+
+    #[test]
+    fn a_part_below_a_hundredth_of_a_percent_is_told_as_such() {
+        assert_eq!(percent(0, 16_777_216), "0.00");
+        assert_eq!(percent(1, 16_777_216), "<0.01");
+        assert_eq!(percent(1, 10_001), "<0.01");
+        assert_eq!(percent(1, 10_000), "0.01");
+        assert_eq!(percent(16_777_215, 16_777_216), "100.00");
     }
 
     #[test]

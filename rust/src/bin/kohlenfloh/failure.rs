@@ -5,10 +5,9 @@ use std::path::PathBuf;
 
 use kohlenfloh::Refusal;
 
-use crate::digits::grouped;
 use crate::help;
+use crate::in_use::Unmet;
 use crate::names::shown;
-use crate::number::Number;
 
 /// Why the program ends without having done what was asked.
 pub enum Failure {
@@ -20,47 +19,8 @@ pub enum Failure {
     Unwritable { path: PathBuf, why: io::Error },
     /// The library refuses.
     Refused { name: String, refusal: Refusal, meaning: String },
-}
-
-/// What is known of a picture when the library refuses something.
-pub struct Case {
-    /// Bytes of the input.
-    pub bytes: usize,
-    /// Pixels that are in the table.
-    pub pixels: u64,
-    /// Colours that are in the table.
-    pub colours: usize,
-    /// Shades that are wanted.
-    pub count: Number,
-    /// The round limit that is wanted.
-    pub limit: Number,
-}
-
-impl Case {
-    /// What a refusal means here.
-    pub fn meaning(&self, refusal: Refusal) -> String {
-        match refusal {
-            Refusal::Full { .. } => format!(
-                "the picture has more than 1,048,576 colours; {} of its pixels were taken before the table was full",
-                grouped(self.pixels)
-            ),
-            Refusal::BadCount => format!("{} shades are wanted, and there can be 1 to 64", self.count),
-            Refusal::FewColours => {
-                format!("{} shades are wanted, and the picture's colours are fewer: {}", self.count, self.colours)
-            }
-            Refusal::BadLimit => format!("a limit of {} rounds is wanted, and it can be at most 200", self.limit),
-            Refusal::BadHeader { offset } if offset == self.bytes => {
-                format!("the input ends at offset {offset}, inside what should be the header of a P6 picture")
-            }
-            Refusal::BadHeader { offset } => {
-                format!("the byte at offset {offset} cannot stand there in the header of a P6 picture")
-            }
-            Refusal::BadSize => "a side is not 1 to 16,384, or there are more than 16,777,216 pixels".into(),
-            Refusal::BadDepth => "the depth is not 255".into(),
-            Refusal::BadRaster => "the raster is shorter or longer than three bytes for each pixel".into(),
-            other => other.sentence().into(),
-        }
-    }
+    /// No count of shades gives a picture that uses as many as are wanted.
+    Unmet { name: String, unmet: Unmet },
 }
 
 impl Failure {
@@ -68,6 +28,7 @@ impl Failure {
     pub fn status(&self) -> u8 {
         match self {
             Failure::Usage(_) => 64,
+            Failure::Unmet { .. } => 65,
             Failure::Unreadable { .. } => 66,
             Failure::Unwritable { .. } => 73,
             Failure::Refused { refusal: Refusal::Unknown { .. }, .. } => 70,
@@ -86,6 +47,7 @@ impl fmt::Display for Failure {
             Failure::Refused { name, refusal, meaning } => {
                 write!(to, "{}: refused {} {}: {meaning}", shown(name), refusal.number(), refusal.name())
             }
+            Failure::Unmet { name, unmet } => write!(to, "{}: {unmet}", shown(name)),
         }
     }
 }

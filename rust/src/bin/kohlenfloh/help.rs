@@ -6,6 +6,7 @@ pub const USAGE: &str = "\
 usage: kohlenfloh shades K [PICTURE.ppm] [--limit N] [--index FILE]
                   [--palette FILE] [--preview FILE] [--sheet FILE]
                   [--csv FILE] [--json FILE]
+       kohlenfloh shades --in-use N [PICTURE.ppm] [the same options]
 `kohlenfloh --help` tells what these are";
 
 /// What made the library, each by its name.
@@ -45,6 +46,7 @@ const BEFORE_REFUSALS: &str = "\
 kohlenfloh - the shades of a drawing, and the pixels of each
 
 usage: kohlenfloh shades K [PICTURE.ppm] [options]
+       kohlenfloh shades --in-use N [PICTURE.ppm] [options]
 
 Reduces a picture to K shades and prints the order sheet: for each shade its
 number, its levels R, G and B, the pixels that have it, and its share. The
@@ -52,15 +54,24 @@ pixels are the yarn to be bought, and they sum to the picture's pixels. The
 same picture and the same K give the same sheet every time: what is computed
 comes from a library that is proved.
 
+A shade can end without a pixel: the sheet says \"not used, buy nothing\". Of a
+drawing of six yarns ask for --in-use 6, or for one shade more than it has
+yarns: asked for as many shades as yarns, the method often joins two yarns in
+one shade. Where the drawing's colours are exactly its yarns, one more is
+refused by 5; an error of 0 on the sheet says then that every yarn has its
+shade.
+
   K              how many shades, 1 to 64
   PICTURE.ppm    a P6 picture without comments, depth 255, at most 16,777,216
                  pixels with at most 1,048,576 colours; `-` or no name means
                  standard input
 
 Options
+  --in-use N       in place of K: the smallest count of shades, from N on, whose
+                   picture uses exactly N of them; a run is made for each count
   --limit N        at most N rounds, 1 to 200; 0 means 20, as does no --limit
   --index FILE     the index picture, P5: each pixel's shade as its number
-  --palette FILE   the shades as a P6 picture, K wide and 1 high
+  --palette FILE   the shades as a P6 picture, 1 high, a pixel for each shade
   --preview FILE   the picture in its shades, P6
   --sheet FILE     the order sheet as a drawing, SVG
   --csv FILE       the order as a table, CSV
@@ -85,10 +96,11 @@ CSV has the line shade,red,green,blue,hex,pixels,share,used and then a line for
 each shade: its number, its levels, these as # and six hexadecimal digits, the
 pixels that have it, their share in percent, and whether there are any, yes or
 no. JSON is one object with picture, width, height, pixels, colours, shades,
-in_use (the shades that have pixels), limit (the one in force), rounds, settled,
-distances (worked out in all rounds), final_total, error, mean_square_error;
-order, a list with the columns of the CSV for each shade, used being true or
-false; and made, which holds version, toolchain, proof and sources.
+in_use (the shades that have pixels), wanted_in_use (as asked for, or null),
+limit (the one in force), rounds, settled, distances (worked out in all rounds),
+final_total, error, mean_square_error; order, a list with the columns of the CSV
+for each shade, used being true or false; and made, which holds version,
+toolchain, proof and sources.
 
 On the order sheet, \"settled\" means that the last round moved no shade. The
 error is the sum of squared level differences between the picture and its
@@ -101,17 +113,18 @@ Exit status
 
 /// What --help answers after the refusals.
 const AFTER_REFUSALS: &str = "  64  the command line is wrong
+  65  no count of shades gives a picture that uses as many as --in-use wants
   66  the picture cannot be read
   70  the library refused by a number that has no name here
   73  an output cannot be written
 
 Examples
-  Six shades of a rug, the sheet on the screen and as a drawing:
-    kohlenfloh shades 6 rug.ppm --sheet rug.svg
+  Six yarns of a rug, the sheet on the screen and as a drawing:
+    kohlenfloh shades --in-use 6 rug.ppm --sheet rug.svg
 
   A PNG by way of netpbm, with as many rounds as there can be:
     pngtopnm rug.png | kohlenfloh shades 12 --limit 200 --preview small.ppm
 
   The order for a spreadsheet, and nothing else on standard output:
-    kohlenfloh shades 6 rug.ppm --csv - > rug.csv
+    kohlenfloh shades --in-use 6 rug.ppm --csv - > rug.csv
 ";

@@ -2,24 +2,33 @@
 //!
 //! Table, shades, palette and index picture come from the proved library. This program reads, adds up the errors of the
 //! strips, counts index bytes, divides where it rounds, prints and draws.
+mod base64;
 mod clashes;
 mod digits;
 mod failure;
 mod files;
+mod header;
 mod help;
+mod in_use;
 mod input;
+mod kinds;
+mod meaning;
 mod names;
 mod number;
 mod options;
 mod order;
 mod outputs;
 mod places;
+mod png;
 mod progress;
+mod remedy;
 mod replaced;
 mod signals;
 mod svg;
+mod svg_shades;
 mod tables;
 mod temporary;
+mod thumbnail;
 mod work;
 
 use std::io::{self, Write};
@@ -54,8 +63,8 @@ fn shades(options: &Options) -> Result<(), Failure> {
     clashes::check(options)?;
     let picture = options.picture.as_deref();
     let bytes = input::read(picture)?;
-    let work = work::find_shades(&input::path_of(picture).to_string_lossy(), &bytes, &options.count, &options.limit)?;
-    let order = Order::of(input::name(picture), &work);
+    let work = work::find_shades(&input::path_of(picture).to_string_lossy(), &bytes, options)?;
+    let order = Order::of(input::name(picture), &work, &options.wanted);
     let limit = if options.limit.value == 0 { RunOptions::USUAL_LIMIT } else { options.limit.value };
     let answer = Answer { work, order, limit };
     files::write_all(&options.outputs, |output, to| answer.write(output, to))

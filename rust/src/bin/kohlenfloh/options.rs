@@ -1,5 +1,6 @@
 //! The command line.
 use std::ffi::{OsStr, OsString};
+use std::fmt;
 use std::os::unix::ffi::OsStrExt;
 use std::path::PathBuf;
 
@@ -9,6 +10,8 @@ use crate::outputs::Output;
 
 /// The option that gives the round limit.
 const LIMIT: &str = "--limit";
+/// The option that gives the shades in use.
+const IN_USE: &str = "--in-use";
 
 /// What the command line asks for.
 pub enum Request {
@@ -23,7 +26,7 @@ pub enum Request {
 /// What is asked of a picture.
 pub struct Options {
     /// How many shades.
-    pub count: Number,
+    pub wanted: Wanted,
     /// The round limit; 0 where none is given.
     pub limit: Number,
     /// The picture's file; none for standard input.
@@ -32,10 +35,36 @@ pub struct Options {
     pub outputs: Vec<(Output, Option<PathBuf>)>,
 }
 
+/// How many shades are wanted. It prints as it is asked for.
+pub enum Wanted {
+    /// So many shades.
+    Count(Number),
+    /// So many that the picture uses, of as few as can be.
+    InUse(Number),
+}
+
+impl Wanted {
+    /// The number that is asked for.
+    pub fn number(&self) -> &Number {
+        let (Wanted::Count(number) | Wanted::InUse(number)) = self;
+        number
+    }
+}
+
+impl fmt::Display for Wanted {
+    fn fmt(&self, to: &mut fmt::Formatter<'_>) -> fmt::Result {
+        match self {
+            Wanted::Count(number) => write!(to, "{number}"),
+            Wanted::InUse(number) => write!(to, "{IN_USE} {number}"),
+        }
+    }
+}
+
 /// The arguments of `shades` as far as they are read.
 #[derive(Default)]
 struct Given {
     limit: Option<Number>,
+    in_use: Option<Number>,
     outputs: Vec<(Output, Option<PathBuf>)>,
     names: Vec<OsString>,
 }
@@ -77,13 +106,14 @@ impl Given {
         value: Option<&OsStr>,
         arguments: &mut impl Iterator<Item = OsString>,
     ) -> Result<(), Failure> {
-        if option == LIMIT {
+        if let Some((place, what)) = self.number_of(option) {
             let value = match value {
                 Some(value) => value.into(),
                 None => following(option, arguments)?,
             };
-            let number = Number::read(&value).ok_or_else(|| usage("--limit wants a whole number of rounds"))?;
-            return once(self.limit.replace(number).is_some(), option);
+            let number = Number::read(&value);
+            let number = number.ok_or_else(|| usage(format!("{option} wants a whole number of {what}")))?;
+            return once(place.replace(number).is_some(), option);
         }
         let output = Output::of_option(option).ok_or_else(|| usage(format!("there is no option {option}")))?;
         once(self.outputs.iter().any(|(other, _)| *other == output), option)?;
@@ -102,28 +132,49 @@ impl Given {
         Ok(())
     }
 
+    /// Where the number of an option belongs, and what it counts; none for an option that has no number.
+    fn number_of(&mut self, option: &str) -> Option<(&mut Option<Number>, &'static str)> {
+        match option {
+            LIMIT => Some((&mut self.limit, "rounds")),
+            IN_USE => Some((&mut self.in_use, "shades")),
+            _ => None,
+        }
+    }
+
     /// Whether an output goes to standard output.
     fn uses_standard_output(&self) -> bool {
         self.outputs.iter().any(|(_, path)| path.is_none())
     }
 
-    /// What is asked of the picture. The names are the count and the picture where one is named. The order sheet goes
-    /// to standard output where nothing else does.
+    /// What is asked of the picture. The names are the count, where --in-use does not stand for it, and the picture
+    /// where one is named. The order sheet goes to standard output where nothing else does.
     fn options(mut self) -> Result<Options, Failure> {
         if !self.uses_standard_output() {
             self.outputs.push((Output::Text, None));
         }
+        let in_use = self.in_use.is_some();
         let mut names = self.names.into_iter();
-        let count = names.next().ok_or_else(|| usage("K, the number of shades, is missing"))?;
-        let count = Number::read(&count)
-            .ok_or_else(|| usage(format!("K, the number of shades, is not a whole number: {}", count.display())))?;
-        let picture = names.next().filter(|name| name != "-").map(PathBuf::from);
+        let wanted = match self.in_use {
+            Some(number) => Wanted::InUse(number),
+            None => Wanted::Count(count_of(names.next())?),
+        };
+        let picture = names.next();
         if let Some(more) = names.next() {
+            if in_use && picture.is_some_and(|name| Number::read(&name).is_some()) {
+                return Err(usage("K and --in-use cannot both be given"));
+            }
             return Err(usage(format!("one picture is read, and {} is one too many", more.display())));
         }
-        let limit = self.limit.unwrap_or(Number::ZERO);
-        Ok(Options { count, limit, picture, outputs: self.outputs })
+        let picture = picture.filter(|name| name != "-").map(PathBuf::from);
+        Ok(Options { wanted, limit: self.limit.unwrap_or(Number::ZERO), picture, outputs: self.outputs })
     }
+}
+
+/// The count of shades that a name is.
+fn count_of(name: Option<OsString>) -> Result<Number, Failure> {
+    let name = name.ok_or_else(|| usage("K, the number of shades, is missing"))?;
+    let number = Number::read(&name);
+    number.ok_or_else(|| usage(format!("K, the number of shades, is not a whole number: {}", name.display())))
 }
 
 /// What an option asks for that stands for itself, such as --help; none for every other option.
@@ -164,7 +215,9 @@ fn following_file(option: &str, arguments: &mut impl Iterator<Item = OsString>) 
         return Ok(value);
     }
     let (name, _) = parts(&value);
-    let known = name == LIMIT || Output::of_option(&name).is_some() || !matches!(alone(&name, None), Ok(None));
+    let known = [LIMIT, IN_USE].contains(&&*name)
+        || Output::of_option(&name).is_some()
+        || !matches!(alone(&name, None), Ok(None));
     let what = if known { "is an option" } else { "begins as options do" };
     let value = value.display();
     Err(usage(format!("{option} wants the name of a file, and {value} {what}; write {option}={value} if it is a file")))

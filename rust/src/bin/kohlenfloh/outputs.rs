@@ -75,7 +75,7 @@ impl Answer<'_> {
                 header("P6", width, height, to)?;
                 preview(work, to)
             }
-            Output::Sheet => to.write_all(svg::drawing(order).as_bytes()),
+            Output::Sheet => to.write_all(svg::drawing(work, order).as_bytes()),
             Output::Csv => to.write_all(tables::csv(order).as_bytes()),
             Output::Json => to.write_all(tables::json(order, &work.run, *limit).as_bytes()),
             Output::Text => to.write_all(order.sheet().as_bytes()),

@@ -1,127 +1,158 @@
-//! The order sheet as a drawing, for a buyer to look at: SVG without scripts and without fonts from elsewhere.
-use crate::digits::grouped;
-use crate::order::{Line, Order};
+//! The order sheet as a drawing, for a buyer to look at and to print: SVG without scripts and without fonts from
+//! elsewhere. It is as wide as an A4 page and at most as high, for any number of shades.
+use kohlenfloh::{made, RunOptions};
 
+use crate::digits::{grouped, quotient};
+use crate::order::Order;
+use crate::svg_shades::Shades;
+use crate::thumbnail;
+use crate::work::Work;
+
+/// The units of a millimetre. All lengths here are in units.
+const MILLIMETRE: usize = 4;
 /// The drawing's width.
-const WIDTH: usize = 840;
-/// Where the first shade's row begins.
-const TOP: usize = 178;
-/// The height of a row.
-const ROW: usize = 56;
-/// The height of what stands under the rows.
-const FOOT: usize = 82;
-/// Where rows end.
-const RIGHT: usize = WIDTH - 24;
-/// Where bars begin.
-const BAR_LEFT: usize = 606;
-/// The most characters of a name that fit in a row.
+const WIDTH: usize = 210 * MILLIMETRE;
+/// The height of a page.
+const PAGE: usize = 297 * MILLIMETRE;
+/// Where everything begins from the left.
+pub const LEFT: usize = 32;
+/// Where everything ends on the right.
+pub const RIGHT: usize = WIDTH - LEFT;
+/// Where the shades begin.
+pub const TOP: usize = 318;
+/// The height of what stands under the shades.
+const FOOT: usize = 106;
+/// The most height that the shades can have.
+pub const ROOM: usize = PAGE - TOP - FOOT;
+/// Where the figures begin.
+const FIGURES: usize = 114;
+/// The most width of the small picture, which ends on the right.
+const PICTURE_WIDTH: usize = 320;
+/// Where the small picture begins.
+const PICTURE_TOP: usize = 94;
+/// The most height of the small picture.
+const PICTURE_HEIGHT: usize = 204;
+/// The least side of the small picture, so that it is seen.
+const PICTURE_LEAST: usize = 4;
+/// The most room of a name in a row, by characters of the usual width.
 const NAME_LENGTH: usize = 72;
+/// How many digits of the sources' sum are told.
+const SUM_LENGTH: usize = 16;
 
 /// The whole drawing.
-pub fn drawing(order: &Order) -> String {
-    let rows: String = (0..order.lines.len()).map(|number| row(order, number)).collect();
-    let height = TOP + ROW * order.lines.len() + FOOT;
+pub fn drawing(work: &Work<'_>, order: &Order) -> String {
+    let shades = Shades::of(order);
+    let bottom = TOP + shades.height();
+    let height = bottom + FOOT;
     format!(
-        r##"<svg xmlns="http://www.w3.org/2000/svg" width="{WIDTH}" height="{height}" viewBox="0 0 {WIDTH} {height}"
+        r##"<svg xmlns="http://www.w3.org/2000/svg" xmlns:xlink="http://www.w3.org/1999/xlink"
+ width="{page_width}mm" height="{page_height}mm" viewBox="0 0 {WIDTH} {height}"
  font-family="Helvetica, Arial, sans-serif" font-size="15" fill="#222222">
 <title>Order sheet: {name}</title>
 <rect width="{WIDTH}" height="{height}" fill="#ffffff"/>
-{head}{rows}{foot}</svg>
+{head}{picture}{shades}{foot}</svg>
 "##,
+        page_width = WIDTH / MILLIMETRE,
+        page_height = quotient(height as u64, MILLIMETRE as u64),
         name = escaped(&order.name),
         head = head(order),
-        foot = foot(order, TOP + ROW * order.lines.len()),
+        picture = picture(work),
+        shades = shades.drawn(),
+        foot = foot(order, bottom),
     )
 }
 
-/// Title, figures and the columns' names.
+/// Title and figures.
 fn head(order: &Order) -> String {
-    format!(
-        r##"<text x="24" y="46" font-size="26" font-weight="bold">Order sheet</text>
-<text x="24" y="74" font-size="18">{name}</text>
-<text x="24" y="100">{width} by {height}. Pixels {pixels}. Colours {colours}. Shades {shades}.</text>
-<text x="24" y="122">Rounds {rounds}, {settled}. Error {error}. Mean square error {mean}.</text>
-<g font-size="13" fill="#666666">
-<text x="24" y="154">Shade</text>
-<text x="76" y="154">Colour</text>
-<text x="196" y="154">Hex</text>
-<text x="300" y="154">R, G, B</text>
-<text x="500" y="154" text-anchor="end">Pixels</text>
-<text x="590" y="154" text-anchor="end">Share</text>
-</g>
-<path d="M24 166H{RIGHT}" stroke="#999999"/>
-"##,
-        name = escaped(&shortened(&order.name)),
-        width = order.width,
-        height = order.height,
-        pixels = grouped(order.pixels()),
-        colours = grouped(order.colours as u64),
-        shades = order.lines.len(),
-        rounds = order.rounds,
-        settled = if order.settled { "settled" } else { "not settled" },
-        error = grouped(order.error),
-        mean = order.mean(),
-    )
-}
-
-/// A shade: number, swatch, levels, pixels, share and the share's bar.
-fn row(order: &Order, number: usize) -> String {
-    let line = &order.lines[number];
-    let [red, green, blue] = line.levels;
-    let hex = line.hex();
-    let top = TOP + ROW * number;
-    format!(
-        r##"<g>
-<text x="52" y="{text}" text-anchor="end" font-weight="bold">{number}</text>
-<rect x="76" y="{top}" width="100" height="44" fill="{hex}" stroke="#999999"/>
-<text x="196" y="{text}" font-family="monospace">{hex}</text>
-<text x="300" y="{text}">{red}, {green}, {blue}</text>
-<text x="500" y="{text}" text-anchor="end">{pixels}</text>
-<text x="590" y="{text}" text-anchor="end">{share} %</text>
-{bar}</g>
-"##,
-        text = top + 27,
-        pixels = grouped(line.pixels),
-        share = order.share(line),
-        bar = bar(order, line, top + 14),
-    )
-}
-
-/// A bar as long as the shade's share, where the greatest share fills the row; none for no pixels.
-fn bar(order: &Order, line: &Line, top: usize) -> String {
-    let greatest = order.lines.iter().map(|line| line.pixels).max().unwrap_or(0);
-    if line.pixels == 0 {
-        return String::new();
-    }
-    let width = ((RIGHT - BAR_LEFT) as u64 * line.pixels).div_ceil(greatest);
-    let hex = line.hex();
-    format!(
-        r##"<rect x="{BAR_LEFT}" y="{top}" width="{width}" height="16" fill="{hex}" stroke="#999999"/>
+    let figures = [
+        ("Size", format!("{} by {}", order.width, order.height)),
+        ("Pixels", grouped(order.pixels())),
+        ("Colours", grouped(order.colours as u64)),
+        ("Shades", order.use_in_words()),
+        ("Rounds", rounds(order)),
+        ("Error", grouped(order.error)),
+        ("Mean square error", order.mean()),
+    ];
+    let figures = figures.iter().enumerate().map(|(row, (name, figure))| {
+        let y = FIGURES + 28 * row;
+        format!(
+            r##"<text x="{LEFT}" y="{y}" fill="#666666">{name}</text><text x="176" y="{y}">{figure}</text>
 "##
+        )
+    });
+    format!(
+        r##"<text x="{LEFT}" y="48" font-size="26" font-weight="bold">Order sheet</text>
+<text x="{LEFT}" y="76" font-size="18">{name}</text>
+{figures}"##,
+        name = escaped(&shortened(&order.name)),
+        figures = figures.collect::<String>(),
     )
 }
 
-/// The sum of the pixels, and how shares and bars are made.
+/// Rounds made, whether the shades are settled, and where they are not, what can be asked for.
+fn rounds(order: &Order) -> String {
+    let (rounds, most) = (order.rounds, RunOptions::MOST_ROUNDS);
+    if order.settled {
+        format!("{rounds}, settled")
+    } else if order.may_go_on() {
+        format!("{rounds}, not settled: more by --limit {most}")
+    } else {
+        format!("{rounds}, the most there can be, not settled")
+    }
+}
+
+/// The picture in its shades, small, in a thin frame.
+fn picture(work: &Work<'_>) -> String {
+    let small = thumbnail::of(work);
+    let (width, height) = if small.width * PICTURE_HEIGHT > small.height * PICTURE_WIDTH {
+        (PICTURE_WIDTH, small.height * PICTURE_WIDTH / small.width)
+    } else {
+        (small.width * PICTURE_HEIGHT / small.height, PICTURE_HEIGHT)
+    };
+    let (width, height) = (width.max(PICTURE_LEAST), height.max(PICTURE_LEAST));
+    let place = format!(r#"x="{}" y="{PICTURE_TOP}" width="{width}" height="{height}""#, RIGHT - width);
+    format!(
+        r##"<image {place} preserveAspectRatio="none" image-rendering="pixelated"
+ xlink:href="{address}"/>
+<rect {place} fill="none" stroke="#999999"/>
+"##,
+        address = small.address,
+    )
+}
+
+/// The sum of the pixels, how shares and bars are made, and what made the sheet.
 fn foot(order: &Order, top: usize) -> String {
     format!(
-        r##"<path d="M24 {top}H{RIGHT}" stroke="#999999"/>
-<text x="76" y="{sum}">All shades: the pixels of the picture</text>
-<text x="500" y="{sum}" text-anchor="end" font-weight="bold">{pixels}</text>
-<text x="24" y="{note}" font-size="13" fill="#666666">Pixels are counted in the index picture. Each share is rounded by
- itself to two digits, halves up. The greatest share has the longest bar.</text>
+        r##"<path d="M{LEFT} {top}H{RIGHT}" stroke="#999999"/>
+<text x="{LEFT}" y="{sum}">All shades: <tspan font-weight="bold">{pixels}</tspan>, the pixels of the picture</text>
+<g font-size="12" fill="#666666">
+<text x="{LEFT}" y="{note}">Pixels are counted in the index picture. Each share is rounded by itself to two digits,
+ halves up. The greatest share has the longest bar.</text>
+<text x="{LEFT}" y="{origin}">kohlenfloh {version}, {toolchain}, proof {proof}, sources {sources:.SUM_LENGTH$}</text>
+</g>
 "##,
         sum = top + 26,
-        note = top + 58,
+        note = top + 54,
+        origin = top + 74,
         pixels = grouped(order.pixels()),
+        version = made::VERSION,
+        toolchain = escaped(made::TOOLCHAIN),
+        proof = escaped(made::PROOF),
+        sources = made::SOURCES,
     )
 }
 
-/// A name cut to what fits in a row.
+/// A name cut to what fits in a row. Characters of the scripts that are written wide take two places.
 fn shortened(name: &str) -> String {
-    match name.char_indices().nth(NAME_LENGTH) {
-        Some((end, _)) => format!("{}…", &name[..end]),
-        None => name.into(),
+    let mut room = NAME_LENGTH;
+    for (end, character) in name.char_indices() {
+        let places = if character < '\u{1100}' { 1 } else { 2 };
+        if places > room {
+            return format!("{}…", &name[..end]);
+        }
+        room -= places;
     }
+    name.into()
 }
 
 /// A text as it may stand in XML.

@@ -2,6 +2,7 @@
 use kohlenfloh::made::VERSION;
 use kohlenfloh::Run;
 
+use crate::digits::quotient;
 use crate::help::MADE;
 use crate::order::Order;
 
@@ -17,7 +18,6 @@ pub fn csv(order: &Order) -> String {
 /// The order as a JSON object: the figures of the run that found it and of the mapping, the shades, and what made the
 /// program.
 pub fn json(order: &Order, run: &Run, limit: usize) -> String {
-    let in_use = order.lines.iter().filter(|line| line.pixels > 0).count();
     let shades: Vec<String> = (0..order.lines.len()).map(|number| format!("    {}", shade(order, number))).collect();
     let made = [("version", VERSION)].into_iter().chain(MADE);
     let made: Vec<String> = made.map(|(name, value)| format!("    {}", field(name, &string(value)))).collect();
@@ -28,7 +28,8 @@ pub fn json(order: &Order, run: &Run, limit: usize) -> String {
         ("pixels", order.pixels().to_string()),
         ("colours", order.colours.to_string()),
         ("shades", order.lines.len().to_string()),
-        ("in_use", in_use.to_string()),
+        ("in_use", order.in_use().to_string()),
+        ("wanted_in_use", order.wanted_in_use.map_or("null".into(), |wanted| wanted.to_string())),
         ("limit", limit.to_string()),
         ("rounds", order.rounds.to_string()),
         ("settled", order.settled.to_string()),
@@ -55,8 +56,9 @@ fn row(order: &Order, number: usize, quote: &str, [used, unused]: [&str; 2]) -> 
     let line = &order.lines[number];
     let [red, green, blue] = line.levels.map(|level| level.to_string());
     let hex = format!("{quote}{}{quote}", line.hex());
-    let word = if line.pixels > 0 { used } else { unused };
-    [number.to_string(), red, green, blue, hex, line.pixels.to_string(), order.share(line), word.into()]
+    let share = quotient(100 * line.pixels, order.pixels());
+    let word = if line.used() { used } else { unused };
+    [number.to_string(), red, green, blue, hex, line.pixels.to_string(), share, word.into()]
 }
 
 /// A JSON field.

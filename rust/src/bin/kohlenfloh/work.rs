@@ -1,9 +1,11 @@
 //! The way from a picture to its index picture, strip by strip.
-use kohlenfloh::{Palette, Picture, Refusal, Run, RunOptions, Table};
+use kohlenfloh::{Palette, Picture, Run, RunOptions, Table};
 
 use crate::digits::grouped;
-use crate::failure::{Case, Failure};
-use crate::number::Number;
+use crate::failure::Failure;
+use crate::in_use::{self, Failed};
+use crate::meaning::Case;
+use crate::options::{Options, Wanted};
 use crate::progress::Progress;
 
 /// The most bytes of a strip. A strip is as many whole rows as fit, and the longest row has 48 KiB. Each add tests the
@@ -27,27 +29,28 @@ pub struct Work<'a> {
 }
 
 /// Finds the shades of a picture and maps it to them. The name is the one that a refusal tells.
-pub fn find_shades<'a>(name: &str, bytes: &'a [u8], count: &Number, limit: &Number) -> Result<Work<'a>, Failure> {
+pub fn find_shades<'a>(name: &str, input: &'a [u8], options: &Options) -> Result<Work<'a>, Failure> {
     let mut table = Table::with_room(Table::MOST_ENTRIES);
-    make(&mut table, bytes, count, limit).map_err(|refusal| {
-        let (count, limit) = (count.clone(), limit.clone());
-        let case = Case { bytes: bytes.len(), pixels: table.pixels(), colours: table.used(), count, limit };
-        Failure::Refused { name: name.into(), refusal, meaning: case.meaning(refusal) }
+    make(&mut table, input, options).map_err(|failed| match failed {
+        Failed::Refused(refusal) => {
+            let case = Case { input, options, pixels: table.pixels(), colours: table.used() };
+            Failure::Refused { name: name.into(), refusal, meaning: case.meaning(refusal) }
+        }
+        Failed::Unmet(unmet) => Failure::Unmet { name: name.into(), unmet },
     })
 }
 
 /// Picture, table, run, palette and mapping, as far as the library accepts them.
-fn make<'a>(table: &mut Table, bytes: &'a [u8], count: &Number, limit: &Number) -> Result<Work<'a>, Refusal> {
+fn make<'a>(table: &mut Table, input: &'a [u8], options: &Options) -> Result<Work<'a>, Failed> {
     let progress = Progress::start();
-    let picture = Picture::read(bytes)?;
+    let picture = Picture::read(input)?;
     let strip_pixels = picture.width() * (STRIP_BYTES / (3 * picture.width()));
     let strips = picture.raster().chunks(3 * strip_pixels);
     for (number, strip) in strips.clone().enumerate() {
         progress.part("adding pixels", number, strips.len());
         table.add(strip)?;
     }
-    progress.say(&format!("looking for {count} shades of {} colours", grouped(table.used() as u64)));
-    let run = table.run(RunOptions::shades(count.value).limit(limit.value))?;
+    let run = run_of(table, options, &progress)?;
     let palette = run.shades.palette()?;
     let mut index = vec![0; picture.pixels()];
     let mut error = 0;
@@ -56,4 +59,19 @@ fn make<'a>(table: &mut Table, bytes: &'a [u8], count: &Number, limit: &Number) 
         error += palette.map_into(strip, &mut index, number * strip_pixels)?.error;
     }
     Ok(Work { picture, colours: table.used(), run, palette, index, error })
+}
+
+/// The run that is wanted: one of so many shades, or the first of those whose picture uses so many.
+fn run_of(table: &Table, options: &Options, progress: &Progress) -> Result<Run, Failed> {
+    let Options { wanted, limit, .. } = options;
+    let tell = |count: usize| {
+        progress.say(&format!("looking for {count} shades of {} colours", grouped(table.used() as u64)));
+    };
+    match wanted {
+        Wanted::InUse(number) => in_use::find(table, number.value, limit.value, tell),
+        Wanted::Count(number) => {
+            tell(number.value);
+            Ok(table.run(RunOptions::shades(number.value).limit(limit.value))?)
+        }
+    }
 }
