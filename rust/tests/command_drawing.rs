@@ -73,7 +73,8 @@ fn the_drawing_tells_what_the_sheet_tells() {
 fn small_shares_and_more_rounds_are_told() {
     let folder = Folder::new("small");
     let (one, _) = drawing(&folder, &["64", "--limit", "1"], &colours(200, 100));
-    assert!(texts(&one).contains(&"1, not settled: more by --limit 200"));
+    let rounds = texts(&one).into_iter().find(|text| text.starts_with("1, not settled<tspan")).unwrap();
+    assert!(rounds.ends_with(">more rounds may lower the error: ask for them by --limit 200</tspan>"), "{rounds}");
     let mut picture = b"P6 200 100 255\n".to_vec();
     picture.resize(picture.len() + 3 * 19_999, 0);
     picture.extend([255, 255, 255]);

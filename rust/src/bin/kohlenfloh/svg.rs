@@ -26,6 +26,8 @@ const FOOT: usize = 106;
 pub const ROOM: usize = PAGE - TOP - FOOT;
 /// Where the figures begin.
 const FIGURES: usize = 114;
+/// Where the numbers of the figures begin from the left.
+const FIGURE_LEFT: usize = 176;
 /// The most width of the small picture, which ends on the right.
 const PICTURE_WIDTH: usize = 320;
 /// Where the small picture begins.
@@ -76,7 +78,7 @@ fn head(order: &Order) -> String {
     let figures = figures.iter().enumerate().map(|(row, (name, figure))| {
         let y = FIGURES + 28 * row;
         format!(
-            r##"<text x="{LEFT}" y="{y}" fill="#666666">{name}</text><text x="176" y="{y}">{figure}</text>
+            r##"<text x="{LEFT}" y="{y}" fill="#666666">{name}</text><text x="{FIGURE_LEFT}" y="{y}">{figure}</text>
 "##
         )
     });
@@ -89,16 +91,18 @@ fn head(order: &Order) -> String {
     )
 }
 
-/// Rounds made, whether the shades are settled, and where they are not, what can be asked for.
+/// Rounds made, whether the shades are settled, and under it, where they are not, what can be asked for.
 fn rounds(order: &Order) -> String {
     let (rounds, most) = (order.rounds, RunOptions::MOST_ROUNDS);
     if order.settled {
-        format!("{rounds}, settled")
-    } else if order.may_go_on() {
-        format!("{rounds}, not settled: more by --limit {most}")
-    } else {
-        format!("{rounds}, the most there can be, not settled")
+        return format!("{rounds}, settled");
     }
+    let more = if order.may_go_on() {
+        format!("more rounds may lower the error: ask for them by --limit {most}")
+    } else {
+        format!("{most} rounds are the most there can be")
+    };
+    format!(r##"{rounds}, not settled<tspan x="{FIGURE_LEFT}" dy="12" font-size="11" fill="#666666">{more}</tspan>"##)
 }
 
 /// The picture in its shades, small, in a thin frame.
