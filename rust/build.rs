@@ -46,8 +46,11 @@ fn take(folder: &Path, built: &Path) {
 fn build(built: &Path) {
     let here = PathBuf::from(env::var_os("CARGO_MANIFEST_DIR").expect("cargo names the crate's folder"));
     let top = here.parent().expect("the crate stands in the repository");
-    for source in ["crates", "crates.txt", "Cargo.toml", "tools"] {
+    for source in ["crates", "crates.txt", "Cargo.toml"] {
         println!("cargo:rerun-if-changed={}", top.join(source).display());
+    }
+    for tool in ["library", "prove", "below", "jobs", "native-lib"] {
+        println!("cargo:rerun-if-changed={}", top.join("tools").join(tool).display());
     }
     let mut command = Command::new(top.join("tools/library"));
     command.arg(built);

@@ -82,9 +82,10 @@
 //!
 //! # Building
 //!
-//! The build proves and compiles the library with the Rattle toolchain's `rt`, or takes the `libkohlenfloh.a` in the
-//! folder that the environment variable `KOHLENFLOH_ARCHIVE` names. With the library comes a command of the same name:
-//! `cargo run --release -- shades 6 picture.ppm` prints the order sheet of a picture, and `--help` tells the rest.
+//! The build proves and compiles the library with the Rattle toolchain's `rt`, below cargo's own output folder, or takes
+//! the one in the folder that the environment variable `KOHLENFLOH_ARCHIVE` names. [`made`] tells what made it. With the
+//! library comes a command of the same name: `cargo run --release -- shades 6 picture.ppm` prints the order sheet of a
+//! picture, and `--help` tells the rest.
 //!
 //! # Where things are
 //!
