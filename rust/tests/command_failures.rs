@@ -3,7 +3,7 @@ mod program;
 
 use std::fs::{self, File};
 
-use program::{printed, program, run, said, too_many_colours, Folder, OUTPUTS, RUG};
+use program::{assert_wrong, printed, program, run, said, too_many_colours, Folder, OUTPUTS, RUG};
 
 /// What is said of a header with a number of twenty digits.
 const LONG: &str = "12 BAD HEADER: the header tells 1 by 18446744073709551617 pixels and the depth 255; its numbers";
@@ -90,14 +90,7 @@ fn a_wrong_command_line_is_64() {
         (&["shades", "6", "--index", "x", "--sheet", "x"], "two outputs cannot both be x"),
         (&["shades", "6", "one.ppm", "two.ppm"], "one picture is read, and two.ppm is one too many"),
     ];
-    for (arguments, words) in cases {
-        let output = run(arguments, b"");
-        assert_eq!((printed(&output), output.status.code()), ("", Some(64)), "{arguments:?}");
-        assert!(
-            said(&output).starts_with(&format!("kohlenfloh: {words}\nusage: kohlenfloh shades K")),
-            "{arguments:?}"
-        );
-    }
+    cases.iter().for_each(|(arguments, words)| assert_wrong(arguments, words));
 }
 
 #[test]

@@ -3,7 +3,7 @@ mod program;
 
 use std::fs;
 
-use program::{printed, run, said, RUG};
+use program::{assert_wrong, printed, run, said, RUG};
 
 /// A drawing of three flat colours, which as three shades come out as two.
 fn three_colours() -> Vec<u8> {
@@ -75,14 +75,15 @@ fn what_the_library_refuses_it_refuses_here_too() {
 #[test]
 fn it_stands_for_the_count() {
     for (arguments, words) in [
-        (["6", RUG, "--in-use", "6"].as_slice(), "K and --in-use cannot both be given"),
-        (&[RUG, "two.ppm", "--in-use", "6"], "one picture is read, and two.ppm is one too many"),
-        (&[RUG, "--in-use", "six"], "--in-use wants a whole number of shades"),
-        (&[RUG, "--in-use", "6", "--in-use=6"], "--in-use is given twice"),
-        (&[RUG, "--sheet", "--in-use", "6"], "--sheet wants the name of a file, and --in-use is an option"),
+        (["shades", "6", RUG, "--in-use", "6"].as_slice(), "K and --in-use cannot both be given"),
+        (&["shades", RUG, "two.ppm", "--in-use", "6"], "one picture is read, and two.ppm is one too many"),
+        (&["shades", RUG, "--in-use", "six"], "--in-use wants a whole number of shades"),
+        (&["shades", RUG, "--in-use", "6", "--in-use=6"], "--in-use is given twice"),
+        (
+            &["shades", RUG, "--sheet", "--in-use", "6"],
+            "--sheet wants the name of a file, and --in-use is an option; write --sheet=--in-use if it is a file",
+        ),
     ] {
-        let output = run(&[["shades"].as_slice(), arguments].concat(), b"");
-        assert_eq!((printed(&output), output.status.code()), ("", Some(64)));
-        assert!(said(&output).starts_with(&format!("kohlenfloh: {words}")), "{}", said(&output));
+        assert_wrong(arguments, words);
     }
 }

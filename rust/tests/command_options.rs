@@ -7,7 +7,7 @@ use std::os::unix::ffi::OsStrExt;
 use std::path::Path;
 use std::process::{Output, Stdio};
 
-use program::{printed, program, run, said, Folder, RUG};
+use program::{assert_wrong, printed, program, run, said, Folder, RUG};
 
 /// A picture of four pixels of two colours.
 const SMALL: &[u8] = b"P6\n2 2\n255\n\0\0\0\0\0\0\0\0\0\x0a\0\0";
@@ -83,14 +83,7 @@ fn a_wrong_value_is_64() {
         (&["shades", "6", "--csv"], "nothing follows --csv"),
         (&["shades", "6", "--csv", "-", "--json=-"], "two outputs cannot both be standard output"),
     ];
-    for (arguments, words) in cases {
-        let output = run(arguments, b"");
-        assert_eq!((printed(&output), output.status.code()), ("", Some(64)), "{arguments:?}");
-        assert!(
-            said(&output).starts_with(&format!("kohlenfloh: {words}\nusage: kohlenfloh shades K")),
-            "{arguments:?}"
-        );
-    }
+    cases.iter().for_each(|(arguments, words)| assert_wrong(arguments, words));
 }
 
 #[test]

@@ -93,3 +93,11 @@ pub fn printed(output: &Output) -> &str {
 pub fn said(output: &Output) -> &str {
     std::str::from_utf8(&output.stderr).unwrap()
 }
+
+/// The program tells in these words that its command line is wrong, and does nothing else.
+pub fn assert_wrong(arguments: &[&str], words: &str) {
+    let output = run(arguments, b"");
+    assert_eq!((printed(&output), output.status.code()), ("", Some(64)), "{arguments:?}");
+    let told = said(&output);
+    assert!(told.starts_with(&format!("kohlenfloh: {words}\nusage: kohlenfloh shades K")), "{arguments:?} {told}");
+}
