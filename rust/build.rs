@@ -46,6 +46,10 @@ fn take(folder: &Path, built: &Path) {
 fn build(built: &Path) {
     let here = PathBuf::from(env::var_os("CARGO_MANIFEST_DIR").expect("cargo names the crate's folder"));
     let top = here.parent().expect("the crate stands in the repository");
+    let processor = |name: &str| env::var(name).ok().and_then(|triple| triple.split('-').next().map(String::from));
+    if processor("TARGET") != processor("HOST") {
+        fail("the library is built for the processor at hand; KOHLENFLOH_ARCHIVE can name one for another");
+    }
     for source in ["crates", "crates.txt", "Cargo.toml"] {
         println!("cargo:rerun-if-changed={}", top.join(source).display());
     }
