@@ -13,7 +13,7 @@ VERSION := $(shell sed -n '/^\[workspace\.package\]/,/^$$/s/^version = "\(.*\)"$
 SONAME := libkohlenfloh.so.$(basename $(VERSION))
 LIBRARY := target/library
 COMMAND := target/release/kohlenfloh
-SOURCES := crates.txt Cargo.toml $(wildcard tools/*) $(shell find crates -type f)
+SOURCES := crates.txt Cargo.toml $(addprefix tools/,library prove below jobs native-lib) $(shell find crates -type f)
 
 # What made the library, by name.
 made = $(shell sed -n 's/^$(1): //p' $(LIBRARY)/libkohlenfloh.made)
