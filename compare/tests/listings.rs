@@ -3,7 +3,7 @@
 use std::fs;
 use std::path::Path;
 
-use compare::make::listing::{inputs, stored};
+use compare::make::listing::{inputs, settling_in_thirty, stored};
 use compare::model::slip::{ListingSlip, LISTING_SLIPS};
 use compare::model::Model;
 
@@ -65,4 +65,13 @@ fn every_slip_of_the_listing_shows_in_a_stored_one() {
     for slip in LISTING_SLIPS {
         assert!(printed(&mut Model::default(), Some(slip)) != stored, "{slip:?}");
     }
+}
+
+#[test]
+fn a_run_that_would_settle_in_its_thirtieth_round_is_listed_after_twenty() {
+    let due = Model::default().listing(&settling_in_thirty(), None);
+    assert!(due.starts_with(b"300 300 20 0 "), "{}", String::from_utf8_lossy(&due));
+    assert!(file("listing_many", "stdout").ends_with(&due));
+    let longer = Model::default().listing(&settling_in_thirty(), Some(ListingSlip::RunsWithALimitOfAHundred));
+    assert!(longer.starts_with(b"300 300 30 1 "), "{}", String::from_utf8_lossy(&longer));
 }

@@ -1,6 +1,7 @@
 //! Inputs of the listing program: a count line and a picture, good, damaged, and at the bounds of length and rounds.
 use super::colours::{levels, strip};
 use super::header::{damaged, Way};
+use crate::ask::Run;
 use crate::chance::Chance;
 use crate::model::listing::MOST_INPUT;
 use crate::model::Model;
@@ -53,6 +54,18 @@ fn unsettled(count: usize, side: usize) -> Vec<u8> {
     (0..).map(by_case).find(stays).expect("some run stays unsettled")
 }
 
+/// The first picture by chance of 300 pixels whose run of eight shades settles in its thirtieth round, where it may.
+pub fn settling_in_thirty() -> Vec<u8> {
+    let settles = |raster: &Vec<u8>| {
+        let mut model = Model::default();
+        let table = model.table_of(raster).expect("300 pixels have room");
+        let ran = model.run(&Run { table, count: 8, limit: 200, members: vec![0; 300], totals: vec![0; 200] });
+        ran.longs("rounds, settled, distances, final total")[..2] == [30, 1]
+    };
+    let raster = (0..).map(|case| Chance::of_case(13, case).bytes(3 * 300)).find(settles);
+    input("8", (20, 15), &raster.expect("some run settles in its thirtieth round"))
+}
+
 /// An input of so many bytes: a count line, and a picture of one pixel behind many white bytes.
 fn long(count: &str, bytes: usize) -> Vec<u8> {
     let short = input(count, (1, 1), b"abc");
@@ -61,13 +74,14 @@ fn long(count: &str, bytes: usize) -> Vec<u8> {
     [&short[..place], &blanks, &short[place..]].concat()
 }
 
-/// The inputs that are stored: the scope's example first.
+/// The inputs that are stored: the scope's example first, the run that would go on to a thirtieth round last.
 pub fn inputs() -> Vec<Vec<u8>> {
     let example = input("2", (2, 2), &[0, 0, 0, 0, 0, 0, 0, 0, 0, 10, 0, 0]);
     let long_and_malformed = long("2x", MOST_INPUT + 1);
     let mut inputs =
         vec![example, unsettled(9, 24), unsettled(16, 20), long_and_malformed, long("1", MOST_INPUT + 1), Vec::new()];
     inputs.extend((0..300).map(|case| by_chance(&mut Chance::of_case(11, case))));
+    inputs.push(settling_in_thirty());
     inputs
 }
 

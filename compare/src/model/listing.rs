@@ -63,15 +63,19 @@ impl Model {
             return Err(refusal);
         };
         let raster = self.raster_to_list(picture)?;
-        let limit = if slips(ListingSlip::RunsWithALimitOfTwo) { 2 } else { 0 };
+        let limit = match slip {
+            Some(ListingSlip::RunsWithALimitOfTwo) => 2,
+            Some(ListingSlip::RunsWithALimitOfAHundred) => 100,
+            _ => 0,
+        };
         let table = self.table_of(raster)?;
-        let run = Run { table, count, limit, members: vec![0; MOST_LISTED], totals: vec![0; 20] };
+        let run = Run { table, count, limit, members: vec![0; MOST_LISTED], totals: vec![0; 100] };
         let ran = accepted(self.run(&run))?;
         self.tell(raster, &run, &ran, slip)
     }
 
     /// The table of a raster, from an empty one.
-    fn table_of(&mut self, raster: &[u8]) -> Result<Table, u32> {
+    pub fn table_of(&mut self, raster: &[u8]) -> Result<Table, u32> {
         let empty = Table { record: Record::new(0, 0), keys: vec![0; MOST_LISTED], weights: vec![0; MOST_LISTED] };
         let added = accepted(self.add(&Add { table: empty, strip: raster.to_vec() }))?;
         Ok(Table::left_by(&added))

@@ -31,6 +31,7 @@ pub const SLIPS: [Slip; 9] = [
 #[derive(Clone, Copy, Debug, PartialEq)]
 pub enum ListingSlip {
     RunsWithALimitOfTwo,
+    RunsWithALimitOfAHundred,
     PrintsEveryRunAsSettled,
     TestsTheLengthBeforeTheCountLine,
     ReadsNoByteMoreThanAnInputMayHave,
@@ -38,8 +39,9 @@ pub enum ListingSlip {
 }
 
 /// Every slip of the listing program.
-pub const LISTING_SLIPS: [ListingSlip; 5] = [
+pub const LISTING_SLIPS: [ListingSlip; 6] = [
     ListingSlip::RunsWithALimitOfTwo,
+    ListingSlip::RunsWithALimitOfAHundred,
     ListingSlip::PrintsEveryRunAsSettled,
     ListingSlip::TestsTheLengthBeforeTheCountLine,
     ListingSlip::ReadsNoByteMoreThanAnInputMayHave,
