@@ -41,7 +41,7 @@ extern "C" {
 #endif
 
 /* The version of the library that this header belongs to. */
-#define KF_VERSION "0.1.0"
+#define KF_VERSION "0.2.0"
 
 /* The refusals. */
 enum kf_refusal {
@@ -54,7 +54,7 @@ enum kf_refusal {
     KF_BAD_COUNT = 4,    /* shades not 1 to 64; lent coordinates not 3 to 192 or not a multiple of 3 */
     KF_FEW_COLOURS = 5,  /* a run wants more shades than used entries */
     KF_BAD_LIMIT = 6,    /* round limit above 200 */
-    KF_SHORT_ROOM = 7,   /* members fewer than the used entries; totals fewer than the round limit (20 for 0); palette
+    KF_SHORT_ROOM = 7,   /* members fewer than the used entries; totals fewer than the round limit (100 for 0); palette
                             bytes fewer than 3 for each shade; or the stretch past the end of the index picture */
     KF_BAD_CENTRE = 8,   /* a coordinate above 4080 */
     KF_BAD_MEMBER = 9,   /* a used entry's former shade number not below the count */
@@ -107,8 +107,9 @@ static inline const char *kf_refusal_sentence(uint32_t number)
     case KF_FEW_COLOURS: return "a run wants more shades than used entries";
     case KF_BAD_LIMIT: return "round limit above 200";
     case KF_SHORT_ROOM:
-        return "members fewer than the used entries; totals fewer than the round limit (20 for 0); palette bytes fewer "
-               "than 3 for each shade; or the stretch's first place plus the strip's pixels above the index length";
+        return "members fewer than the used entries; totals fewer than the round limit (100 for 0); palette bytes "
+               "fewer than 3 for each shade; or the stretch's first place plus the strip's pixels above the index "
+               "length";
     case KF_BAD_CENTRE: return "a coordinate above 4080";
     case KF_BAD_MEMBER: return "a used entry's former shade number not below the count";
     case KF_BAD_PALETTE: return "palette bytes not 3 to 192 or not a multiple of 3";
@@ -126,7 +127,7 @@ static inline const char *kf_refusal_sentence(uint32_t number)
 #define KF_MOST_ENTRIES 1048576u /* entries of a table */
 #define KF_MOST_SHADES 64u       /* shades of a round or a run */
 #define KF_MOST_ROUNDS 200u      /* rounds of a run */
-#define KF_USUAL_LIMIT 20u       /* the round limit that 0 means */
+#define KF_USUAL_LIMIT 100u      /* the round limit that 0 means */
 #define KF_MOST_PIXELS 16777216u /* pixels of a table, a mapping or a picture */
 #define KF_MOST_COORDINATES 192u /* coordinates of the most shades, and bytes of their palette */
 
@@ -181,7 +182,8 @@ enum kf_run_place {
 };
 
 /* A run: count starting shades, every colour in shade 0, then shortened rounds to the first that moves no shade
- * ("settled") or to the limit. A limit of 0 means KF_USUAL_LIMIT.
+ * ("settled") or to the limit. A limit of 0 means KF_USUAL_LIMIT, and as many totals: a caller who lends fewer names a
+ * limit.
  * Writes the last round's grouping to members, each round's total to totals (places past those filled stay), to shades
  * three coordinates a shade and zeros past the count, and the answer.
  * Refuses, in this order: KF_BAD_TABLE, KF_BAD_COUNT, KF_FEW_COLOURS, KF_BAD_LIMIT, KF_SHORT_ROOM. */

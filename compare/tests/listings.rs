@@ -72,6 +72,6 @@ fn a_run_that_would_settle_in_its_thirtieth_round_is_listed_after_twenty() {
     let due = Model::default().listing(&settling_in_thirty(), None);
     assert!(due.starts_with(b"300 300 20 0 "), "{}", String::from_utf8_lossy(&due));
     assert!(file("listing_many", "stdout").ends_with(&due));
-    let longer = Model::default().listing(&settling_in_thirty(), Some(ListingSlip::RunsWithALimitOfAHundred));
+    let longer = Model::default().listing(&settling_in_thirty(), Some(ListingSlip::ListsByTheUsualLimit));
     assert!(longer.starts_with(b"300 300 30 1 "), "{}", String::from_utf8_lossy(&longer));
 }

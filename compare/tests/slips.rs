@@ -24,6 +24,7 @@ fn due_in(slip: Slip) -> &'static [&'static str] {
         }
         Slip::ResetsAnEmptyShade | Slip::LeavesWeightsOutOfAGroupsMean => &["rounds", "run"],
         Slip::LeavesWeightsOutOfShadeZero => &["run"],
+        Slip::TakesALimitOfZeroAsTwenty | Slip::TakesALimitOfZeroAsNinetyNine => &["run"],
         Slip::TakesTheHighestNumberAtATie => &["rounds", "run", "map", "strips"],
         Slip::CutsPaletteBytes => &["palette"],
         Slip::PutsTheOffsetOneTooFar => &["picture"],

@@ -6,14 +6,14 @@
 //! refusals of each are listed in the order in which they are tested.
 //!
 //! ```
-//! use kohlenfloh::{calls, Record};
+//! use kohlenfloh::{calls, Record, RunOptions};
 //!
 //! # fn main() -> Result<(), kohlenfloh::Refusal> {
 //! let (mut record, mut keys, mut weights) = (Record::default(), [0; 16], [0; 16]);
 //! let strip = [0, 0, 0, 0, 0, 0, 0, 0, 0, 10, 0, 0];
 //! assert_eq!(calls::add_strip(&mut record, &mut keys, &mut weights, &strip)?, 4);
 //!
-//! let (mut members, mut totals) = ([0; 16], [0; 20]);
+//! let (mut members, mut totals) = ([0; 16], [0; RunOptions::USUAL_LIMIT]);
 //! let ran = calls::run(record, &keys, &weights, 2, 0, &mut members, &mut totals)?;
 //! assert_eq!((ran.rounds, ran.settled, ran.shades[3]), (2, true, 160));
 //!
@@ -164,7 +164,8 @@ fn round(
 }
 
 /// A run: starting shades, then shortened rounds to the first that moves no shade or to the limit; a limit of 0 means
-/// 20. The last grouping is left in the members, and each round's total in the totals; places past those filled stay.
+/// 100, and as many totals, so that a caller who lends fewer names a limit. The last grouping is left in the members,
+/// and each round's total in the totals; places past those filled stay.
 ///
 /// # Refusals
 /// BAD TABLE, BAD COUNT, FEW COLOURS, BAD LIMIT, SHORT ROOM.

@@ -19,7 +19,7 @@
 //! assert_eq!(table.keys(), [0, 655_360]);
 //! assert_eq!(table.weights(), [3, 1]);
 //!
-//! // A run that looks for two shades, in at most as many rounds as usual, which is 20.
+//! // A run that looks for two shades, in at most as many rounds as usual, which is 100.
 //! let run = table.run(RunOptions::shades(2))?;
 //! assert_eq!(run.shades.coordinates(), [0, 0, 0, 160, 0, 0]);
 //! assert_eq!(run.totals, [4800, 0]);
@@ -68,7 +68,7 @@
 //! |---|---|
 //! | [`Shades::MOST`], shades of a run and entries of a palette | 64 |
 //! | [`RunOptions::MOST_ROUNDS`], rounds of a run | 200 |
-//! | [`RunOptions::USUAL_LIMIT`], rounds where no limit is given | 20 |
+//! | [`RunOptions::USUAL_LIMIT`], rounds where no limit is given | 100 |
 //! | [`Table::MOST_ENTRIES`], colours of a table | 1,048,576 |
 //! | [`Table::MOST_PIXELS`], pixels of a table | 16,777,216 |
 //! | [`Palette::MOST_PIXELS`], pixels of one mapping | 16,777,216 |

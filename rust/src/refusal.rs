@@ -69,7 +69,7 @@ refusals! {
     5, FewColours, "FEW COLOURS", "a run wants more shades than used entries";
     6, BadLimit, "BAD LIMIT", "round limit above 200";
     7, ShortRoom, "SHORT ROOM",
-        "members fewer than the used entries; totals fewer than the round limit (20 for 0); palette bytes fewer than \
+        "members fewer than the used entries; totals fewer than the round limit (100 for 0); palette bytes fewer than \
          3 for each shade; or the stretch's first place plus the strip's pixels above the index length";
     8, BadCentre, "BAD CENTRE", "a coordinate above 4080";
     9, BadMember, "BAD MEMBER", "a used entry's former shade number not below the count";

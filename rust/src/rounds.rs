@@ -27,8 +27,8 @@ impl RunOptions {
     /// The most rounds a run can make, and so the most totals it can leave: 200.
     pub const MOST_ROUNDS: usize = 200;
 
-    /// The round limit where none is asked for: 20.
-    pub const USUAL_LIMIT: usize = 20;
+    /// The round limit where none is asked for: 100.
+    pub const USUAL_LIMIT: usize = 100;
 
     /// A run that looks for so many shades, in the usual number of rounds.
     pub const fn shades(count: usize) -> RunOptions {

@@ -90,7 +90,7 @@ fn the_object_tells_what_the_sheet_tells() {
         lines.push(format!("{name}: {}", figure(sheet, name)));
     }
     assert_eq!(figure(sheet, "shades"), "6 of 7 shades in use");
-    lines.extend(["shades: 7", "in_use: 6", "wanted_in_use: None", "limit: 20"].map(String::from));
+    lines.extend(["shades: 7", "in_use: 6", "wanted_in_use: None", "limit: 100"].map(String::from));
     lines.push(format!("rounds: {}", figure(sheet, "rounds")));
     assert_eq!(figure(sheet, "settled"), "yes");
     lines.extend(["settled: True".into(), "distances: 302".into(), "final_total: 21345408".into()]);
@@ -109,7 +109,7 @@ fn the_object_tells_what_the_sheet_tells() {
 #[test]
 fn the_object_tells_the_limit_in_force() {
     for (limit, lines) in [
-        ("0", "  \"limit\": 20,\n  \"rounds\": 2,\n  \"settled\": true,\n"),
+        ("0", "  \"limit\": 100,\n  \"rounds\": 2,\n  \"settled\": true,\n"),
         ("1", "  \"limit\": 1,\n  \"rounds\": 1,\n  \"settled\": false,\n"),
         ("200", "  \"limit\": 200,\n  \"rounds\": 2,\n  \"settled\": true,\n"),
     ] {

@@ -1,5 +1,5 @@
 //! Each refusal, met through the safe types, and what is left unchanged by it.
-use kohlenfloh::{Palette, Picture, Record, Refusal, RunOptions, Shades, Table};
+use kohlenfloh::{calls, Palette, Picture, Record, Refusal, RunOptions, Shades, Table};
 
 /// A table of two colours.
 fn two_colours() -> Table {
@@ -98,6 +98,24 @@ fn bad_count_few_colours_bad_limit_in_their_order() {
     assert_eq!(table.run(RunOptions::shades(2).limit(201)), Err(Refusal::BadLimit));
     assert_eq!(table.run(RunOptions::shades(2).limit(usize::MAX)), Err(Refusal::BadLimit));
     assert!(table.run(RunOptions::shades(2).limit(200)).is_ok());
+}
+
+#[test]
+fn short_room_by_the_totals_lent_to_a_run() {
+    let table = two_colours();
+    let run = |limit: usize, lent: usize| {
+        let (mut members, mut totals) = ([8; 3], vec![5; lent]);
+        let ran = calls::run(table.record(), table.keys(), table.weights(), 2, limit, &mut members, &mut totals);
+        (ran.map(|ran| (ran.rounds, ran.settled)), members, totals)
+    };
+    for (limit, lent) in [(0, 0), (0, 20), (0, 99), (20, 19), (200, 199)] {
+        assert_eq!(run(limit, lent), (Err(Refusal::ShortRoom), [8; 3], vec![5; lent]), "{lent} totals for {limit}");
+    }
+    for (limit, lent) in [(0, RunOptions::USUAL_LIMIT), (0, 100), (20, 20), (20, 99), (200, 200)] {
+        let (ran, members, totals) = run(limit, lent);
+        assert_eq!((ran, members), (Ok((2, true)), [1, 0, 8]), "{lent} totals for {limit}");
+        assert_eq!((totals.len(), &totals[2..]), (lent, &vec![5; lent - 2][..]));
+    }
 }
 
 #[test]

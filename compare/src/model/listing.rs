@@ -1,6 +1,7 @@
 //! The listing program: from its standard input to its standard output.
 use kohlenfloh::Record;
 
+use super::run::limit_meant;
 use super::slip::ListingSlip;
 use super::{when, Model, BAD_COUNT, BAD_SIZE};
 use crate::ask::{Add, Map, Palette, Run, Table};
@@ -45,7 +46,7 @@ impl Model {
     }
 
     /// "a malformed count line is BAD COUNT; an input over 65,536 bytes is BAD SIZE; then the picture's own refusals ..;
-    /// then the run's, with limit 0".
+    /// then the run's", with limit 20: "the listing program .. now passes 20" (document 02, CR 10).
     fn lines_of(&mut self, input: &[u8], slip: Option<ListingSlip>) -> Result<String, u32> {
         let slips = |one| slip == Some(one);
         let cut = slips(ListingSlip::ReadsNoByteMoreThanAnInputMayHave);
@@ -65,11 +66,11 @@ impl Model {
         let raster = self.raster_to_list(picture)?;
         let limit = match slip {
             Some(ListingSlip::RunsWithALimitOfTwo) => 2,
-            Some(ListingSlip::RunsWithALimitOfAHundred) => 100,
-            _ => 0,
+            Some(ListingSlip::ListsByTheUsualLimit) => 0,
+            _ => 20,
         };
         let table = self.table_of(raster)?;
-        let run = Run { table, count, limit, members: vec![0; MOST_LISTED], totals: vec![0; 100] };
+        let run = Run { table, count, limit, members: vec![0; MOST_LISTED], totals: vec![0; limit_meant(limit)] };
         let ran = accepted(self.run(&run))?;
         self.tell(raster, &run, &ran, slip)
     }

@@ -16,10 +16,13 @@ struct Made {
     distances: u64,
 }
 
-/// "A limit of 0 means 20."
+/// "A limit of 0 is to mean 100." (document 02, CR 10)
+pub const USUAL_LIMIT: usize = 100;
+
+/// The limit that one asked for means.
 pub fn limit_meant(limit: usize) -> usize {
     if limit == 0 {
-        20
+        USUAL_LIMIT
     } else {
         limit
     }
@@ -66,12 +69,22 @@ impl Model {
         Made { shades, ..made }
     }
 
+    /// The limit that a run asks for, by the slip if there is one.
+    fn limit_of(&self, limit: usize) -> usize {
+        match (limit, self.slip) {
+            (0, Some(Slip::TakesALimitOfZeroAsTwenty)) => 20,
+            (0, Some(Slip::TakesALimitOfZeroAsNinetyNine)) => 99,
+            _ => limit_meant(limit),
+        }
+    }
+
     /// "Run: 2, 4, 5, 6, 7."
     pub fn run(&mut self, ask: &Run) -> Outcome {
         let used = u128::from(ask.table.record.used);
-        // "members fewer than the used entries; totals fewer than the round limit (20 for 0)"
+        let limit = self.limit_of(ask.limit);
+        // "members fewer than the used entries; totals fewer than the round limit (100 for 0)"
         let short_members = when((ask.members.len() as u128) < used, "members fewer than used");
-        let short_totals = when(ask.totals.len() < limit_meant(ask.limit), "totals fewer than the limit");
+        let short_totals = when(ask.totals.len() < limit, "totals fewer than the limit");
         let refusal = self.first_of(&[
             (BAD_TABLE, bad_table(&ask.table)),
             (BAD_COUNT, when(ask.count < 1, "a count of 0")),
@@ -81,13 +94,16 @@ impl Model {
             (SHORT_ROOM, short_members),
             (SHORT_ROOM, short_totals),
         ]);
+        let lent = (20..USUAL_LIMIT).contains(&ask.totals.len());
+        self.meet_if(refusal == SHORT_ROOM && ask.limit == 0 && lent, "a limit of 0 with 20 to 99 totals");
         let mut answer = [0; 4];
         let mut coordinates = [0; 192];
         let mut members = ask.members.clone();
         let mut totals = ask.totals.clone();
         if refusal == 0 {
             let colours = colours_of(&ask.table);
-            let made = self.rounds(&colours, ask.count, limit_meant(ask.limit));
+            let made = self.rounds(&colours, ask.count, limit);
+            self.meet_if(ask.limit == 0 && made.totals.len() > 20, "a limit of 0 and more than 20 rounds");
             // "the final total: the last grouping against the final shades"
             let total = total_of(&colours, &made.members, &made.shades);
             answer = [made.totals.len() as u64, made.settled.into(), made.distances, total as u64];

@@ -12,10 +12,12 @@ pub enum Slip {
     TakesTheHighestNumberAtATie,
     CutsPaletteBytes,
     PutsTheOffsetOneTooFar,
+    TakesALimitOfZeroAsTwenty,
+    TakesALimitOfZeroAsNinetyNine,
 }
 
 /// Every slip.
-pub const SLIPS: [Slip; 9] = [
+pub const SLIPS: [Slip; 11] = [
     Slip::SkipsAShadeAtExactlyFourD,
     Slip::RoundsMeansDown,
     Slip::RecordsTheTotalAfterTheMove,
@@ -25,13 +27,15 @@ pub const SLIPS: [Slip; 9] = [
     Slip::TakesTheHighestNumberAtATie,
     Slip::CutsPaletteBytes,
     Slip::PutsTheOffsetOneTooFar,
+    Slip::TakesALimitOfZeroAsTwenty,
+    Slip::TakesALimitOfZeroAsNinetyNine,
 ];
 
 /// Slips of the listing program, which the calls of the library do not show.
 #[derive(Clone, Copy, Debug, PartialEq)]
 pub enum ListingSlip {
     RunsWithALimitOfTwo,
-    RunsWithALimitOfAHundred,
+    ListsByTheUsualLimit,
     PrintsEveryRunAsSettled,
     TestsTheLengthBeforeTheCountLine,
     ReadsNoByteMoreThanAnInputMayHave,
@@ -41,7 +45,7 @@ pub enum ListingSlip {
 /// Every slip of the listing program.
 pub const LISTING_SLIPS: [ListingSlip; 6] = [
     ListingSlip::RunsWithALimitOfTwo,
-    ListingSlip::RunsWithALimitOfAHundred,
+    ListingSlip::ListsByTheUsualLimit,
     ListingSlip::PrintsEveryRunAsSettled,
     ListingSlip::TestsTheLengthBeforeTheCountLine,
     ListingSlip::ReadsNoByteMoreThanAnInputMayHave,

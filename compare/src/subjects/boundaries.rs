@@ -29,6 +29,7 @@ fn one_case(bench: &mut Bench, chance: &mut Chance) -> Result<(), Difference> {
     most_pixels(bench)?;
     numbers_of_shades(bench, chance)?;
     numbers_of_rounds(bench, chance)?;
+    rounds_past_the_usual_limit(bench)?;
     most_coordinate(bench)?;
     stretches(bench, chance)?;
     many_pixels_mapped(bench, chance)?;
@@ -116,7 +117,7 @@ fn colours(count: usize) -> Table {
 fn numbers_of_shades(bench: &mut Bench, chance: &mut Chance) -> Result<(), Difference> {
     for (count, number) in [(64, 0), (65, BAD_COUNT)] {
         let table = colours(100);
-        let run = Run { table: table.clone(), count, limit: 0, members: chance.words(100), totals: vec![7; 20] };
+        let run = Run { table: table.clone(), count, limit: 0, members: chance.words(100), totals: vec![7; 100] };
         refused_by(number, bench.compare(&run, library::run, Model::run)?)?;
         let coordinates = shades::coordinates(chance, &[1, 2, 3], count);
         let palette = Palette { coordinates: coordinates.clone(), palette: chance.bytes(195) };
@@ -130,13 +131,36 @@ fn numbers_of_shades(bench: &mut Bench, chance: &mut Chance) -> Result<(), Diffe
     Ok(())
 }
 
-/// Limits of 200 and 201, and a limit of 0 with 20 totals and with 19.
+/// Limits of 200 and 201; a limit of 0 with 100 totals, with 99 and with 20, and a limit of 20 with 20 and with 19.
 fn numbers_of_rounds(bench: &mut Bench, chance: &mut Chance) -> Result<(), Difference> {
-    for (limit, totals, number) in
-        [(200, 200, 0), (201, 201, BAD_LIMIT), (200, 199, SHORT_ROOM), (0, 20, 0), (0, 19, SHORT_ROOM)]
-    {
+    for (limit, totals, number) in [
+        (200, 200, 0),
+        (201, 201, BAD_LIMIT),
+        (200, 199, SHORT_ROOM),
+        (0, 100, 0),
+        (0, 99, SHORT_ROOM),
+        (0, 20, SHORT_ROOM),
+        (20, 20, 0),
+        (20, 19, SHORT_ROOM),
+    ] {
         let run = Run { table: colours(60), count: 9, limit, members: chance.words(60), totals: vec![7; totals] };
         refused_by(number, bench.compare(&run, library::run, Model::run)?)?;
+    }
+    Ok(())
+}
+
+/// A run that would settle in its 131st round: a limit of 0 ends it after 100, and 200 does not.
+fn rounds_past_the_usual_limit(bench: &mut Bench) -> Result<(), Difference> {
+    let pixel = |n: usize| [n * n % 251, n * n / 251 % 256, n * 7919 % 253].map(|level| level as u8);
+    let strip: Vec<u8> = (0..128 * 128).flat_map(pixel).collect();
+    let table = Table { record: Record::default(), keys: vec![0; 128 * 128], weights: vec![0; 128 * 128] };
+    let table = add(bench, 0, &Add { table, strip })?;
+    for (limit, rounds, settled) in [(0, 100, 0), (20, 20, 0), (200, 131, 1)] {
+        let members = vec![9; table.used()];
+        let run = Run { table: table.clone(), count: 12, limit, members, totals: vec![7; 200] };
+        let seen = refused_by(0, bench.compare(&run, library::run, Model::run)?)?;
+        let answer = &seen.longs("rounds, settled, distances, final total")[..2];
+        Difference::unless_equal("rounds and settled at a boundary", answer, &[rounds, settled])?;
     }
     Ok(())
 }

@@ -12,6 +12,7 @@ use crate::bench::Bench;
 use crate::chance::Chance;
 use crate::library;
 use crate::make::colours::{levels, strip};
+use crate::model::run::USUAL_LIMIT;
 use crate::model::Model;
 use crate::outcome::Difference;
 
@@ -132,7 +133,8 @@ fn listed(lines: &[u8]) -> Vec<(u32, u32)> {
 /// The palette of a run's shades.
 fn palette_of(bench: &mut Bench, table: Table, count: usize) -> Result<Vec<u8>, Difference> {
     let members = vec![0; table.used()];
-    let run = bench.compare(&Run { table, count, limit: 0, members, totals: vec![0; 20] }, library::run, Model::run)?;
+    let ask = Run { table, count, limit: 0, members, totals: vec![0; USUAL_LIMIT] };
+    let run = bench.compare(&ask, library::run, Model::run)?;
     let coordinates = run.words("shades")[..3 * count].to_vec();
     let ask = Palette { coordinates, palette: vec![0; 3 * count] };
     Ok(bench.compare(&ask, library::palette, Model::palette)?.bytes("palette").to_vec())

@@ -27,10 +27,12 @@ pub const SUBJECT: Subject = Subject {
         "not settled",
         "settled at the limit",
         "eight rounds or more",
+        "a limit of 0 and more than 20 rounds",
         "a count of 0",
         "a count above 64",
         "members fewer than used",
         "totals fewer than the limit",
+        "a limit of 0 with 20 to 99 totals",
     ],
     refuses: &[2, 4, 5, 6, 7],
 };
@@ -41,7 +43,7 @@ fn good_run(chance: &mut Chance) -> Run {
     let most = chance.one_of(&[1, 5, 15, 40, 40, 90, 500]);
     let table = table::table(chance, &levels, most);
     let count = shades::count(chance).min(table.used()).max(1);
-    let limit = chance.one_of(&[0, 0, 1, 2, 3, 5, 200]);
+    let limit = chance.one_of(&[0, 0, 1, 2, 3, 5, 20, 200]);
     let spare = chance.one_of(&[0, 1, 7]);
     let members = chance.words(table.used() + spare);
     let totals = (0..limit_meant(limit) + spare).map(|_| chance.long()).collect();
@@ -50,12 +52,13 @@ fn good_run(chance: &mut Chance) -> Run {
 
 /// Damages what is asked of a run in one of its parts.
 fn damage(chance: &mut Chance, ask: &mut Run) {
-    match chance.below(6) {
+    match chance.below(7) {
         0 => table::damage(chance, &mut ask.table),
         1 => ask.count = chance.one_of(&[0, 65, usize::MAX, 1 << 32]),
         2 => ask.count = ask.table.used().saturating_add(1),
         3 => ask.limit = chance.one_of(&[201, usize::MAX, 1 << 32]),
         4 => ask.members.truncate(ask.table.used().saturating_sub(1)),
+        5 => (ask.limit, ask.totals) = (0, vec![chance.long(); chance.between(20, 100)]),
         _ => ask.totals.truncate(limit_meant(ask.limit).saturating_sub(1)),
     }
 }

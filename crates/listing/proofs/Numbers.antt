@@ -1,5 +1,6 @@
--- The numbers of a listing: the pixels of the shades add up to the picture's, and every number has at most 20 digits.
-use Prim.Native.Nat.{ℕ, suc, _+_, _*_, _/_, _^_, _<_}
+-- The numbers of a listing: the pixels of the shades add up to the picture's, the rounds are at most 20, and every number
+-- has at most 20 digits.
+use Prim.Native.Nat.{ℕ, suc, _+_, _*_, _/_, _^_, _≤_, _<_}
 use mathlib.Core.List.{List}
 use mathlib.Core.Path.{_≡_, sym, _∙_, subst}
 use native.Mathlib.Omega.{arith}
@@ -17,7 +18,16 @@ use Rattle.listing_lines.specs.{Summary, mappedTo, fieldAt}
 use Rattle.listing_lines.proofs.Fields.{lines-count, pixels-add, every-field, mapped-most}
 use Rattle.listing_test.specs.{smallRows}
 use Rattle.listing_test.proofs.Smalls.{small-accepted, small-pixels, small-raster}
-use Rattle.listing_work.specs.{tableOf, runOn, runTests, paletteBytes, mappedRaster, summaryOf, workRun}
+use Rattle.listing_work.specs.{
+  listedLimit,
+  tableOf,
+  runOn,
+  runTests,
+  paletteBytes,
+  mappedRaster,
+  summaryOf,
+  workRun,
+}
 use Rattle.listing_work.proofs.Works.{run-count}
 use Rattle.listing_work.proofs.Mapped.{
   entries-count,
@@ -25,6 +35,7 @@ use Rattle.listing_work.proofs.Mapped.{
   index-count,
   index-below,
   table-pixels,
+  rounds-most,
   head-small,
   error-small,
 }
@@ -66,6 +77,11 @@ module _ (p : List ℕ) (count : ℕ) (small : firstOf (smallRows p) ≡ done) (
       (pixels-add told palette index
       (λ i h. omega (arith, entries, index-below p count small ok i (omega (arith, places))))
       ∙ places ∙ sym (table-pixels p count small ok))
+
+  -- line 1 tells at most 20 rounds
+  rounds-printed : fieldAt (listingLines p count) 0 2 ≤ listedLimit
+  unfolding workRun
+  rounds-printed = rounds-most p count small ok
 
   -- every number has at most 20 digits
   numbers-small : Bytes (rasterOf p) → (i j : ℕ) → fieldAt (listingLines p count) i j < 10 ^ mostDecimal
@@ -123,6 +139,10 @@ module _ (s : List ℕ) (none : NoneHolds (listingRows s)) where
     shades-add (pictureIn s) (countIn s) small-of run-of,
     pixels-printed (pictureIn s) (countIn s) small-of run-of,
   )
+
+  -- the rounds are at most 20
+  pub rounds-of-input : fieldAt (listingLines (pictureIn s) (countIn s)) 0 2 ≤ listedLimit
+  rounds-of-input = rounds-printed (pictureIn s) (countIn s) small-of run-of
 
   -- every number has at most 20 digits
   pub numbers-of-input : Bytes s → (i j : ℕ)

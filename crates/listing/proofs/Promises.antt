@@ -17,7 +17,7 @@ use Rattle.p6.specs.{readPicture, rasterOf}
 use Rattle.texts.specs.{linesOf}
 use Rattle.listing_lines.specs.{mostText, refusedText, fieldAt}
 use Rattle.listing_test.specs.{smallRows}
-use Rattle.listing_work.specs.{tableOf, runOn, runTests, mappedRaster}
+use Rattle.listing_work.specs.{listedLimit, tableOf, runOn, runTests, mappedRaster}
 use Rattle.listing_work.proofs.Accepted as accepted
 use Rattle.listing_work.proofs.Mapped as mapped
 use Rattle.listing.specs.Refusals.{badLine, CountLine, countIn, pictureIn, inputRows, listingRows}
@@ -89,6 +89,11 @@ pub pixels-add : (s : List ℕ) → NoneHolds (listingRows s)
     (sum (countIn s) (λ q. fieldAt lines (suc q) 4) ≡ fieldAt lines 0 1)
     × (fieldAt lines 0 1 ≡ readPicture (pictureIn s) .width * readPicture (pictureIn s) .height))
 pixels-add = numbers.pixels-of-input
+
+-- The rounds in line 1 are at most 20.
+pub rounds-most : (s : List ℕ) → NoneHolds (listingRows s)
+    → fieldAt (listingLines (pictureIn s) (countIn s)) 0 2 ≤ listedLimit
+rounds-most = numbers.rounds-of-input
 
 -- Every number printed is below 10 ^ 20, so that its text is that of the number, whole.
 pub numbers-small : (s : List ℕ) → NoneHolds (listingRows s) → Bytes s → (i j : ℕ)

@@ -21,7 +21,7 @@ use Rattle.table.proofs.Promises.{accepted-exactly, bad-table-exactly, stays-go
 use Rattle.p6.specs.{rasterOf}
 use Rattle.listing_test.specs.{mostListed, smallRows}
 use Rattle.listing_test.proofs.Smalls.{small-raster, small-whole}
-use Rattle.listing_work.specs.Works.{listedZeros, tableOf, runTests}
+use Rattle.listing_work.specs.Works.{listedZeros, listedLimit, listedTotals, tableOf, runTests}
 use Rattle.lloyd.specs.{shortMembers, shortTotals}
 use Rattle.lloyd.proofs.Promises.{short-members-exactly}
 use Rattle.number.proofs.Cases.{never}
@@ -101,7 +101,7 @@ module _ (p : List ℕ) (ok : firstOf (smallRows p) ≡ done) where
         omega (arith, used, room, room-is)
 
     -- so there is a member for each, and a total for each of 20 rounds
-    room-enough : (shortMembers (tableOf p .answer .rec) listedZeros || shortTotals 0 (replicate 20 0)) ≡ false
+    room-enough : (shortMembers (tableOf p .answer .rec) listedZeros || shortTotals listedLimit listedTotals) ≡ false
     room-enough =
         rw (short-members-exactly (tableOf p .answer .rec) listedZeros .1 (omega (arith, few-entries, zeros-length)))
 

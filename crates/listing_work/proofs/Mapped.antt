@@ -39,6 +39,7 @@ use Rattle.listing_test.specs.{smallRows}
 use Rattle.listing_test.proofs.Smalls.{small-raster}
 use Rattle.listing_work.specs.Works.{
   listedZeros,
+  listedLimit,
   tableOf,
   runOn,
   runTests,
@@ -151,6 +152,10 @@ module _ (p : List ℕ) (count : ℕ) (small : firstOf (smallRows p) ≡ done) (
   table-pixels =
       omega (arith, accepted-pixels emptyRecord listedZeros listedZeros (rasterOf p) (adding-accepted p small))
 
+  -- the run made at most 20 rounds
+  pub rounds-most : ran .rounds ≤ listedLimit
+  rounds-most = omega (arith, rounds-within (run-is p count ok) .1, limit-is listedLimit .1 (omega arith))
+
   -- what is told besides the shades
   abbrev told : Summary
   told = summaryOf (tableOf p .answer .rec) ran (mappedRaster (rasterOf p) ran count .answer .error)
@@ -161,7 +166,7 @@ module _ (p : List ℕ) (count : ℕ) (small : firstOf (smallRows p) ≡ done) (
     head-small =
         let run = run-is p count ok in
         let few = small-raster p small in
-        let rounds : ran .rounds ≤ 20 = omega (arith, rounds-within run .1, limit-is 0 .0 refl) in (
+        let few-rounds = rounds-most in (
           omega (arith, few-entries p small bytes count),
           (
             omega (arith, table-pixels),

@@ -19,6 +19,8 @@ use Rattle.mapping.specs.{Mapped, MapMeets, mapStrip}
 use Rattle.p6.specs.{rasterOf}
 use Rattle.listing_work.specs.Works.{
   listedZeros,
+  listedLimit,
+  listedTotals,
   tableOf,
   runOn,
   runTests,
@@ -73,7 +75,8 @@ module _ (p : List ℕ) (count : ℕ) where
   -- the run's number is that of its rows
   run-number : runOn p count .answer .refusal ≡ firstOf (runTests p count)
   run-number =
-      run-refuses (tableOf p .answer .rec) (tableOf p .keys) (tableOf p .weights) count 0 listedZeros (replicate 20 0)
+      run-refuses (tableOf p .answer .rec) (tableOf p .keys) (tableOf p .weights) count listedLimit listedZeros
+      listedTotals
       .number-is
 
   -- where none of them holds the shades are at most 64
@@ -82,7 +85,8 @@ module _ (p : List ℕ) (count : ℕ) where
 
   -- and the run is accepted
   pub run-is : firstOf (runTests p count) ≡ done
-      → AcceptedRun (tableOf p .answer .rec) (tableOf p .keys) (tableOf p .weights) count 0 listedZeros (replicate 20 0)
+      → AcceptedRun (tableOf p .answer .rec) (tableOf p .keys) (tableOf p .weights) count listedLimit listedZeros
+      listedTotals
       (runOn p count .answer) (runOn p count .members) (runOn p count .totals)
   run-is e = record {
     meets = record { answer = refl; members-are = refl; totals-are = refl };
@@ -101,7 +105,7 @@ pub record Ready (p : List ℕ) (count : ℕ) (rec : Record) (ran : Ran) : Type 
 -- it is, once the raster is added and the run made
 pub ready : (p : List ℕ) (count : ℕ) {raster : List ℕ} {added : Added} {ks ws ms ts : List ℕ} {ran : Ran}
     → raster ≡ rasterOf p → AddMeets emptyRecord (replicate 8192 0) (replicate 8192 0) raster added ks ws
-    → RunMeets (runOf (added .rec) ks ws count 0 (replicate 8192 0) (replicate 20 0)) ran ms ts
+    → RunMeets (runOf (added .rec) ks ws count listedLimit (replicate 8192 0) listedTotals) ran ms ts
     → Ready p count (added .rec) ran
 unfolding listedZeros
 ready p count {raster} {added} {ks} {ws} {ran = ran} r a m =
@@ -113,9 +117,10 @@ ready p count {raster} {added} {ks} {ws} {ran = ran} r a m =
     record {
       rec-is = ap (λ (x : Added). x .rec) answer;
       ran-is = m .answer
-          ∙ ap (λ (x : Added). runOf (x .rec) ks ws count 0 listedZeros (replicate 20 0) .answer) answer
-          ∙ ap (λ k. runOf (tableOf p .answer .rec) k ws count 0 listedZeros (replicate 20 0) .answer) keys
-          ∙ ap (λ w. runOf (tableOf p .answer .rec) (tableOf p .keys) w count 0 listedZeros (replicate 20 0) .answer)
+          ∙ ap (λ (x : Added). runOf (x .rec) ks ws count listedLimit listedZeros listedTotals .answer) answer
+          ∙ ap (λ k. runOf (tableOf p .answer .rec) k ws count listedLimit listedZeros listedTotals .answer) keys
+          ∙ ap
+          (λ w. runOf (tableOf p .answer .rec) (tableOf p .keys) w count listedLimit listedZeros listedTotals .answer)
           weights;
     }
 

@@ -1,5 +1,7 @@
 -- Glossary.
 --   listedZeros          8,192 zeros
+--   listedLimit          20, the most rounds of a listed run
+--   listedTotals         a zero for the total of each
 --   tableOf, runOn       the table of a picture, and the run on it
 --   runTests             the run's tests, in their order
 --   paletteBytes, mappedRaster   the palette of a run's shades, and the raster mapped to it
@@ -12,6 +14,8 @@ pub mod Works
 pub use declared.Work.{Work}
 unfoldable pub use Works.{
   listedZeros,
+  listedLimit,
+  listedTotals,
   tableOf,
   runOn,
   runTests,

@@ -20,20 +20,28 @@ use Rattle.listing_work.specs.declared.Work.{Work}
 unfoldable pub listedZeros : List ℕ
 listedZeros = replicate mostListed 0
 
+-- the most rounds of a listed run
+abbrev pub listedLimit : ℕ
+listedLimit = 20
+
+-- a zero for the total of each of them
+abbrev pub listedTotals : List ℕ
+listedTotals = replicate listedLimit 0
+
 -- the table of a picture, in slices of 8,192 places
 abbrev pub tableOf : List ℕ → Outcome
 tableOf p = addStrip emptyRecord listedZeros listedZeros (rasterOf p)
 
--- the run on it, with limit 0
+-- the run on it, of at most 20 rounds
 abbrev pub runOn : List ℕ → ℕ → RunOutcome
 runOn p count =
-    runOf (tableOf p .answer .rec) (tableOf p .keys) (tableOf p .weights) count 0 listedZeros
-    (replicate 20 0)
+    runOf (tableOf p .answer .rec) (tableOf p .keys) (tableOf p .weights) count listedLimit listedZeros
+    listedTotals
 
 -- the run's tests, in their order
 abbrev pub runTests : List ℕ → ℕ → List Row
 runTests p count =
-    runRows (tableOf p .answer .rec) (tableOf p .keys) (tableOf p .weights) count 0 listedZeros (replicate 20 0)
+    runRows (tableOf p .answer .rec) (tableOf p .keys) (tableOf p .weights) count listedLimit listedZeros listedTotals
 
 -- the palette of the first shades of a run, zeros behind it
 abbrev pub paletteBytes : Ran → ℕ → List ℕ

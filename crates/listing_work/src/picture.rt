@@ -4,6 +4,7 @@ ghost use Prim.Native.Nat.{_*_, _≤_};
 ghost use lib.ListN.{length};
 ghost use Rattle.shades.specs.{mostShades};
 ghost use Rattle.listing_work.specs.Works.{refusedWork, workRun, workPicture};
+use super::LISTED_LIMIT;
 use super::Work;
 use listing_lines::Summary;
 use lloyd::Ran;
@@ -64,7 +65,7 @@ fn work_run(raster: &[u8], rec: Record, ran: Ran, count: usize) -> Work
     }
 }
 
-// Makes the calls on a picture: its table is filled, the run made with the usual limit, and its
+// Makes the calls on a picture: its table is filled, a run of at most 20 rounds made, and its
 // shades mapped. Refuses what the run refuses.
 pub fn work_picture(picture: &[u8], count: usize) -> Work
     ensures { λ r. ⌜ r ≡ workPicture (now (picture .entry)) count ⌝ }
@@ -76,8 +77,16 @@ pub fn work_picture(picture: &[u8], count: usize) -> Work
     let added = table::add_strip(empty, &mut keys, &mut weights, raster);
     let rec = added.rec;
     let mut members = [0u32; 8192];
-    let mut totals = [0u64; 20];
-    let ran = lloyd::run(rec, &keys, &weights, count, 0, &mut members, &mut totals);
+    let mut totals = [0u64; LISTED_LIMIT];
+    let ran = lloyd::run(
+        rec,
+        &keys,
+        &weights,
+        count,
+        LISTED_LIMIT,
+        &mut members,
+        &mut totals,
+    );
     let number = ran.refusal;
     if number != DONE {
         return refused(number);

@@ -27,7 +27,7 @@ use Rattle.lloyd.proofs.Wholes.{RunGood, run-refuses, run-good, runnabl
 module _ {rec : Record} {ks ws : List ℕ} {k limit : ℕ} {ms ts : List ℕ} {r : Ran} {members totals : List ℕ}
     (h : AcceptedRun rec ks ws k limit ms ts r members totals) where
   -- the outcome is accepted
-  done-is : runOf rec ks ws k limit ms ts .answer .refusal ≡ done
+  pub done-is : runOf rec ks ws k limit ms ts .answer .refusal ≡ done
   done-is = ap (λ (x : Ran). x .refusal) (sym (h .meets .answer)) ∙ h .accepted
 
   -- and its tests failed

@@ -12,5 +12,7 @@ pub mod Made
 pub mod Accepted
 -- A run depends on the used entries alone.
 pub mod Used
+-- A settled run under other limits.
+pub mod Limits
 -- The rounds of a run as calls of single rounds, and what a settled run leaves lent to one.
 pub mod Calls

@@ -6,7 +6,7 @@
 -- each test fails exactly when the fact it asks for holds
 pub use Rattle.lloyd_tests.proofs.Promises.{bad-count-exactly, few-colours-exactly, bad-limit-exactly}
 pub use Rattle.lloyd_tests.proofs.Promises.{short-members-exactly, short-totals-exactly, bad-member-exactly}
--- a limit of 0 means 20
+-- a limit of 0 means 100
 pub use Rattle.lloyd_tests.proofs.Promises.{limit-is}
 -- ---- the Promises of lloyd_rounds: single rounds
 -- a round gives each refusal exactly when its row is the first that holds
@@ -67,6 +67,8 @@ pub use Runs.{settled-final, settled-joined}
 pub mod Calls
 -- the contract of a run determines the answer and both lent slices
 pub use Calls.{run-only}
+-- a run with limit 0 is the run with limit 100, and a settled one is the same with any limit that has its rounds
+pub use Calls.{run-of-usual, settled-at-any-limit}
 -- a run depends on the used entries alone
 pub use Calls.{run-of-used}
 -- its rounds are calls of short_round, one after the other, each accepted, with its totals and distances

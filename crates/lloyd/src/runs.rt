@@ -23,7 +23,7 @@ fn refused(number: u8) -> Ran
 }
 
 // A run of `count` shades: maximin starting shades, every colour in shade 0, then shortened rounds
-// up to the first that moves no shade or to the limit. A limit of 0 means 20.
+// up to the first that moves no shade or to the limit. A limit of 0 means 100.
 // Refuses, in this order:
 //   2 BAD TABLE     the record and the used entries are no table;
 //   4 BAD COUNT     the shades are not 1 to 64;

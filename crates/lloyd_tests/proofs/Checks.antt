@@ -25,7 +25,7 @@ bad-count-exactly k = (
 pub not-below-exactly : (a b : ℕ) → (ltb a b ≡ false) ↔ (b ≤ a)
 not-below-exactly a b = (ltb-false a b, le-ltb a b)
 
--- a limit of 0 means 20, any other itself
+-- a limit of 0 means 100, any other itself
 pub limit-is : (limit : ℕ) → (limit ≡ 0 → limitOf limit ≡ usualLimit) × (0 < limit → limitOf limit ≡ limit)
 limit-is limit = (λ e. rw (eq-eqb limit 0 e), λ h. rw (ne-eqb limit 0 (λ e. omega arith)))
 

@@ -45,6 +45,6 @@ pub bad-member-exactly : (used k : ℕ) (ms : List ℕ)
     → (badMember used k ms ≡ false) ↔ ((i : ℕ) → i < used → getD ms i 0 < k)
 bad-member-exactly = checks.bad-member-exactly
 
--- A limit of 0 means 20; any other is itself.
+-- A limit of 0 means 100; any other is itself.
 pub limit-is : (limit : ℕ) → (limit ≡ 0 → limitOf limit ≡ usualLimit) × (0 < limit → limitOf limit ≡ limit)
 limit-is = checks.limit-is

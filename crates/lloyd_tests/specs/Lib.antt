@@ -1,5 +1,5 @@
 -- Glossary.
---   usualLimit             20, what a limit of 0 means
+--   usualLimit             100, what a limit of 0 means
 --   limitOf limit          the limit asked for
 --   badCount k             the test of 4 BAD COUNT of a run
 --   fewColours             the test of 5 FEW COLOURS

@@ -12,7 +12,7 @@ use Rattle.method.specs.{mostRounds}
 
 -- what a limit of 0 means
 abbrev pub usualLimit : ℕ
-usualLimit = 20
+usualLimit = 100
 
 -- the limit asked for
 abbrev pub limitOf : ℕ → ℕ
@@ -34,7 +34,7 @@ badLimit limit = ltb mostRounds limit
 abbrev pub shortMembers : Record → List ℕ → Bool
 shortMembers rec ms = ltb (length ms) (rec .used)
 
--- SHORT ROOM: totals fewer than the round limit, which is 20 for 0
+-- SHORT ROOM: totals fewer than the round limit, which is 100 for 0
 abbrev pub shortTotals : ℕ → List ℕ → Bool
 shortTotals limit ts = ltb (length ts) (limitOf limit)
 

@@ -16,7 +16,7 @@ pub fn bad_count(count: usize) -> bool
     shades::MOST_SHADES < count
 }
 
-// The limit asked for: 20 for 0.
+// The limit asked for: 100 for 0.
 pub fn limit_of(limit: usize) -> usize
     ensures { λ r. ⌜ r ≡ limitOf limit ⌝ }
 {

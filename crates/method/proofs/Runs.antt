@@ -8,18 +8,29 @@ use lib.Dec.{ltb}
 use borrow.Author.Tests.{lt-ltb, le-ltb, ltb-true, ltb-false}
 use Rattle.number.specs.{firstThat, First}
 use Rattle.number.proofs.Cases.{never}
-use Rattle.number.proofs.Firsts.{first-that}
+use Rattle.number.proofs.Firsts.{first-that, first-that-only}
 use Rattle.number.proofs.Searches.{below-or-last}
 use Rattle.method.specs.Running.{roundsMade}
 
 module _ (limit : ℕ) (quiet : ℕ → Bool) where
   -- where a round below the limit is quiet, the first such is the last made
-  made-quiet : firstThat limit quiet < limit → roundsMade limit quiet ≡ firstThat limit quiet + 1
+  pub made-quiet : firstThat limit quiet < limit → roundsMade limit quiet ≡ firstThat limit quiet + 1
   made-quiet h = rw (lt-ltb _ _ h)
 
   -- where none is, the limit is reached
   made-limit : limit ≤ firstThat limit quiet → roundsMade limit quiet ≡ limit
   made-limit h = rw (le-ltb (firstThat limit quiet) limit h)
+
+  -- then it is the first below any other limit, where that is not below the rounds made
+  pub made-any : (other : ℕ) → firstThat limit quiet < limit → roundsMade limit quiet ≤ other
+      → firstThat other quiet ≡ firstThat limit quiet
+  made-any other h enough =
+      let f : First limit quiet (firstThat limit quiet) = first-that limit quiet in
+      sym (first-that-only other quiet (firstThat limit quiet) (record {
+        within = omega (arith, made-quiet h);
+        before = f .before;
+        found = λ l. f .found h;
+      }))
 
   -- no more rounds than the limit
   pub made-at-most : roundsMade limit quiet ≤ limit

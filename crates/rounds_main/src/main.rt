@@ -49,11 +49,12 @@ fn show_members(members: &[u32; 3]) {
     place(members[2]);
 }
 
-// Three totals.
-fn show_totals(totals: &[u64; 200]) {
-    field(totals[0]);
-    field(totals[1]);
-    field(totals[2]);
+// Three totals, and the end of their line.
+fn show_totals(first: u64, second: u64, third: u64) {
+    field(first);
+    field(second);
+    field(third);
+    end_line();
 }
 
 // The answer of a run: of its shades the first two.
@@ -75,15 +76,26 @@ fn show_ran(a: Ran) {
     show_shades(&two);
 }
 
-// The line of a run on two colours.
-fn show_run(rec: Record, keys: &[u32; 2], weights: &[u32; 2], count: usize, limit: usize) {
+// The line of a run on two colours, up to its totals, which are lent.
+fn show_lent(
+    rec: Record,
+    keys: &[u32; 2],
+    weights: &[u32; 2],
+    count: usize,
+    limit: usize,
+    totals: &mut [u64],
+) {
     let mut members = [8u32; 3];
-    let mut totals = [5u64; 200];
-    let a = lloyd::run(rec, keys, weights, count, limit, &mut members, &mut totals);
+    let a = lloyd::run(rec, keys, weights, count, limit, &mut members, totals);
     show_ran(a);
     show_members(&members);
-    show_totals(&totals);
-    end_line();
+}
+
+// The same, with 200 totals lent and three of them shown.
+fn show_run(rec: Record, keys: &[u32; 2], weights: &[u32; 2], count: usize, limit: usize) {
+    let mut totals = [5u64; 200];
+    show_lent(rec, keys, weights, count, limit, &mut totals);
+    show_totals(totals[0], totals[1], totals[2]);
 }
 
 // The line of a single round: its answer, the shades that it leaves, and the members.
@@ -117,6 +129,25 @@ fn limits() {
     show_run(rec, &keys, &weights, 2, 1);
     show_run(rec, &keys, &weights, 2, 200);
     show_run(rec, &keys, &weights, 2, 201);
+}
+
+// Two shades of sheet A's table: 20 totals lent for the limits 0 and 20, then 99 and 100 for the
+// limit 0.
+fn rooms() {
+    let keys = [0u32, 655360];
+    let weights = [3u32, 1];
+    let rec = Record { used: 2, pixels: 4 };
+    let mut few = [5u64; 20];
+    show_lent(rec, &keys, &weights, 2, 0, &mut few);
+    show_totals(few[0], few[1], few[2]);
+    show_lent(rec, &keys, &weights, 2, 20, &mut few);
+    show_totals(few[0], few[1], few[2]);
+    let mut short = [5u64; 99];
+    show_lent(rec, &keys, &weights, 2, 0, &mut short);
+    show_totals(short[0], short[1], short[2]);
+    let mut enough = [5u64; 100];
+    show_lent(rec, &keys, &weights, 2, 0, &mut enough);
+    show_totals(enough[0], enough[1], enough[2]);
 }
 
 // Means that go up: a half (sheet H), and two thirds, where a mean rounded down costs more.
@@ -186,6 +217,7 @@ fn refused() {
 fn main() {
     counts();
     limits();
+    rooms();
     means();
     tie();
     twins();

@@ -65,11 +65,12 @@ bounds =
     ∷ lists (those (fewColours (usedOnly 2)) (1 ∷ 2 ∷ 3 ∷ [])) (3 ∷ [])
     -- 6 BAD LIMIT
     ∷ lists (those badLimit (0 ∷ 1 ∷ 200 ∷ 201 ∷ [])) (201 ∷ [])
-    -- 7 SHORT ROOM: members for 2 used entries; totals for the limits 0, 1 and 200; palette bytes for 2 shades; first
-    -- places for 2 pixels in 5 index bytes
+    -- 7 SHORT ROOM: members for 2 used entries; totals for the limits 0, 1, 20 and 200; palette bytes for 2 shades;
+    -- first places for 2 pixels in 5 index bytes
     ∷ lists (those (λ n. shortMembers (usedOnly 2) (zeros n)) (0 ∷ 1 ∷ 2 ∷ 3 ∷ [])) (0 ∷ 1 ∷ [])
-    ∷ lists (those (λ n. shortTotals 0 (zeros n)) (0 ∷ 19 ∷ 20 ∷ [])) (0 ∷ 19 ∷ [])
+    ∷ lists (those (λ n. shortTotals 0 (zeros n)) (0 ∷ 20 ∷ 99 ∷ 100 ∷ [])) (0 ∷ 20 ∷ 99 ∷ [])
     ∷ lists (those (λ n. shortTotals 1 (zeros n)) (0 ∷ 1 ∷ [])) (0 ∷ [])
+    ∷ lists (those (λ n. shortTotals 20 (zeros n)) (19 ∷ 20 ∷ [])) (19 ∷ [])
     ∷ lists (those (λ n. shortTotals 200 (zeros n)) (199 ∷ 200 ∷ [])) (199 ∷ [])
     ∷ lists (those (λ n. shortPalette (zeros 6) (zeros n)) (5 ∷ 6 ∷ 7 ∷ [])) (5 ∷ [])
     ∷ lists (those (shortIndex (zeros 6) (zeros 5)) (0 ∷ 3 ∷ 4 ∷ [])) (4 ∷ [])

@@ -24,6 +24,7 @@ use Rattle.grammar.specs.{isDigit, mostDigits, blank, lineFeed}
 use Rattle.p6_header.specs.{isWhite, letterP, figureSix}
 use Rattle.p6.specs.{mostSide, theDepth}
 use Rattle.listing_test.specs.{mostListed}
+use Rattle.listing_work.specs.{listedLimit}
 use Rattle.listing.specs.{mostInput}
 use Rattle.sheets.specs.{Example}
 use Rattle.scope.specs.Lines.{says, lists, those}
@@ -52,10 +53,10 @@ constants =
     -- shades 1 to 64, coordinates to 192
     ∷ says mostShades 64
     ∷ says mostCoordinates 192
-    -- rounds to 200; a limit of 0 means 20
+    -- rounds to 200; a limit of 0 means 100
     ∷ says mostRounds 200
-    ∷ says usualLimit 20
-    ∷ lists (map limitOf (0 ∷ 1 ∷ 19 ∷ 20 ∷ 200 ∷ [])) (20 ∷ 1 ∷ 19 ∷ 20 ∷ 200 ∷ [])
+    ∷ says usualLimit 100
+    ∷ lists (map limitOf (0 ∷ 1 ∷ 20 ∷ 99 ∷ 100 ∷ 200 ∷ [])) (100 ∷ 1 ∷ 20 ∷ 99 ∷ 100 ∷ 200 ∷ [])
     -- palette byte: the whole part of (coordinate + 8) / 16
     ∷ lists (map levelOf (0 ∷ 7 ∷ 8 ∷ 23 ∷ 24 ∷ [])) (0 ∷ 0 ∷ 1 ∷ 1 ∷ 2 ∷ [])
     ∷ lists (map levelOf (4071 ∷ 4072 ∷ 4080 ∷ [])) (254 ∷ 255 ∷ 255 ∷ [])
@@ -67,8 +68,9 @@ constants =
     -- sides to 16,384, depth 255
     ∷ says mostSide 16384
     ∷ says theDepth 255
-    -- the listing: input to 65,536 bytes, pictures to 8,192 pixels; LF and blank
+    -- the listing: input to 65,536 bytes, pictures to 8,192 pixels, runs of 20 rounds; LF and blank
     ∷ says mostInput 65536
     ∷ says mostListed 8192
+    ∷ says listedLimit 20
     ∷ lists (lineFeed ∷ blank ∷ []) (10 ∷ 32 ∷ [])
     ∷ []

@@ -65,4 +65,4 @@ members = 8 ∷ 8 ∷ 8 ∷ []
 
 -- and totals
 abbrev pub totals : List ℕ
-totals = replicate 20 5
+totals = replicate 100 5

@@ -53,7 +53,7 @@ sheetB = record {
   written = (done ∷ 1 ∷ 1 ∷ 2 ∷ 19200 ∷ [])
       ∷ (40 ∷ 0 ∷ 0 ∷ replicate 189 0)
       ∷ (0 ∷ 0 ∷ 8 ∷ [])
-      ∷ (19200 ∷ replicate 19 5)
+      ∷ (19200 ∷ replicate 99 5)
       ∷ ((4 * 19200) ∷ [])
       ∷ [];
 }
@@ -95,7 +95,7 @@ sheetD = record {
       ∷ (done ∷ 2 ∷ 1 ∷ (3 + 2) ∷ 0 ∷ [])
       ∷ (0 ∷ 0 ∷ 0 ∷ 160 ∷ 0 ∷ 0 ∷ replicate 186 0)
       ∷ (0 ∷ 1 ∷ 8 ∷ [])
-      ∷ (4800 ∷ 0 ∷ replicate 18 5)
+      ∷ (4800 ∷ 0 ∷ replicate 98 5)
       ∷ [];
 }
 
@@ -106,7 +106,7 @@ sheetE = record {
   written = (done ∷ 1 ∷ 0 ∷ 3 ∷ 0 ∷ [])
       ∷ (0 ∷ 0 ∷ 0 ∷ 160 ∷ 0 ∷ 0 ∷ replicate 186 0)
       ∷ (0 ∷ 1 ∷ 8 ∷ [])
-      ∷ (4800 ∷ replicate 19 5)
+      ∷ (4800 ∷ replicate 99 5)
       ∷ [];
 }
 
@@ -119,7 +119,7 @@ sheetF = record {
       ∷ (done ∷ 2 ∷ 1 ∷ 6 ∷ 0 ∷ [])
       ∷ (160 ∷ 0 ∷ 0 ∷ 0 ∷ 0 ∷ 0 ∷ replicate 186 0)
       ∷ (1 ∷ 0 ∷ 8 ∷ [])
-      ∷ (6400 ∷ 0 ∷ replicate 18 5)
+      ∷ (6400 ∷ 0 ∷ replicate 98 5)
       ∷ [];
 }
 

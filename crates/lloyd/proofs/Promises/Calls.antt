@@ -3,17 +3,19 @@
 use Prim.Native.Nat.{ℕ, _≤_, _<_}
 use mathlib.Core.Bool.{true}
 use mathlib.Core.List.{List}
-use mathlib.Core.Path.{_≡_, sym, _∙_}
-use lib.ListN.{getD}
+use mathlib.Core.Path.{_≡_, refl, sym, _∙_}
+use lib.ListN.{getD, length}
 use Rattle.number.specs.{sum}
 use Rattle.refusal.specs.{done}
 use Rattle.table_test.specs.{Record, roomOf}
-use Rattle.method.specs.{coloursOf, frontOf, toMean, after, movedOf, begin}
+use Rattle.method.specs.{mostRounds, coloursOf, frontOf, toMean, after, movedOf, begin}
+use Rattle.lloyd_tests.specs.{usualLimit, limitOf}
 use Rattle.lloyd_rounds.specs.{plainRound, shortRound}
 use Rattle.lloyd.specs.Calling.{shortCalls, lentStart, Stays}
 use Rattle.lloyd.specs.Outcomes.{RunMeets, AcceptedRun, runOf, left}
 use Rattle.lloyd.specs.declared.Ran.{Ran}
 use Rattle.lloyd.proofs.Calls as calls
+use Rattle.lloyd.proofs.Limits as limits
 use Rattle.lloyd.proofs.Used as used
 
 -- ---- the contract
@@ -24,6 +26,23 @@ pub run-only : (rec : Record) (ks ws : List ℕ) (k limit : ℕ) (ms ts : List �
     → (r ≡ r′) × (x ≡ x′) × (t ≡ t′)
 run-only rec ks ws k limit ms ts a b =
     (a .answer ∙ sym (b .answer), a .members-are ∙ sym (b .members-are), a .totals-are ∙ sym (b .totals-are))
+
+-- ---- limits
+
+-- A run with limit 0 is the run with limit 100: it is refused by the same number, or answers the same and leaves the same
+-- in members and totals.
+pub run-of-usual : (rec : Record) (ks ws : List ℕ) (k : ℕ) (ms ts : List ℕ)
+    → runOf rec ks ws k 0 ms ts ≡ runOf rec ks ws k usualLimit ms ts
+unfolding runOf
+run-of-usual rec ks ws k ms ts = refl
+
+-- A settled run is the run with any other limit that is not below the rounds it made and that has its totals lent: more
+-- rounds by default change the answer of no run that is settled without them.
+pub settled-at-any-limit : {rec : Record} {ks ws : List ℕ} {k limit : ℕ} {ms ts : List ℕ} {r : Ran}
+    {members totals : List ℕ} → AcceptedRun rec ks ws k limit ms ts r members totals → r .settled ≡ true
+    → (other : ℕ) → r .rounds ≤ limitOf other → other ≤ mostRounds → limitOf other ≤ length ts
+    → runOf rec ks ws k other ms ts ≡ runOf rec ks ws k limit ms ts
+settled-at-any-limit = limits.settled-at-any-limit
 
 -- ---- the used entries
 

@@ -69,7 +69,7 @@ shade.
 Options
   --in-use N       in place of K: the smallest count of shades, from N on, whose
                    picture uses exactly N of them; a run is made for each count
-  --limit N        at most N rounds, 1 to 200; 0 means 20, as does no --limit
+  --limit N        at most N rounds, 1 to 200; 0 means 100, as does no --limit
   --index FILE     the index picture, P5: each pixel's shade as its number
   --palette FILE   the shades as a P6 picture, 1 high, a pixel for each shade
   --preview FILE   the picture in its shades, P6
