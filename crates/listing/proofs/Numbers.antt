@@ -1,5 +1,5 @@
--- The numbers of a listing: the pixels of the shades add up to the picture's, the rounds are at most 20, and every number
--- has at most 20 digits.
+-- The numbers of a listing: the pixels of the shades add up to the picture's, the rounds are at most 20, and every
+-- number has at most 20 digits.
 use Prim.Native.Nat.{ℕ, suc, _+_, _*_, _/_, _^_, _≤_, _<_}
 use mathlib.Core.List.{List}
 use mathlib.Core.Path.{_≡_, sym, _∙_, subst}

@@ -29,15 +29,15 @@ run-only rec ks ws k limit ms ts a b =
 
 -- ---- limits
 
--- A run with limit 0 is the run with limit 100: it is refused by the same number, or answers the same and leaves the same
--- in members and totals.
+-- A run with limit 0 is the run with limit 100: it is refused by the same number, or answers the same and leaves the
+-- same in members and totals.
 pub run-of-usual : (rec : Record) (ks ws : List ℕ) (k : ℕ) (ms ts : List ℕ)
     → runOf rec ks ws k 0 ms ts ≡ runOf rec ks ws k usualLimit ms ts
 unfolding runOf
 run-of-usual rec ks ws k ms ts = refl
 
--- A settled run is the run with any other limit that is not below the rounds it made and that has its totals lent: more
--- rounds by default change the answer of no run that is settled without them.
+-- A settled run is the run with any other limit that is not below the rounds it made and whose totals are lent: a higher
+-- limit changes only runs that are not settled.
 pub settled-at-any-limit : {rec : Record} {ks ws : List ℕ} {k limit : ℕ} {ms ts : List ℕ} {r : Ran}
     {members totals : List ℕ} → AcceptedRun rec ks ws k limit ms ts r members totals → r .settled ≡ true
     → (other : ℕ) → r .rounds ≤ limitOf other → other ≤ mostRounds → limitOf other ≤ length ts
