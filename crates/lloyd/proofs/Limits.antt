@@ -12,7 +12,7 @@ use Rattle.refusal.specs.{done, firstOf}
 use Rattle.refusal.proofs.Promises.{done-exactly}
 use Rattle.table_test.specs.{Record}
 use Rattle.method.specs.{Rule, Colours, State, mostRounds, coloursOf, toMean, quiet, roundsMade, begin}
-use Rattle.method.proofs.Runs.{made-any, made-quiet}
+use Rattle.method.proofs.Runs.{made-quiet, first-at-any-limit}
 use Rattle.lloyd_tests.specs.{limitOf}
 use Rattle.lloyd_tests.proofs.Promises.{bad-limit-exactly, short-totals-exactly}
 use Rattle.lloyd_refusal.specs.{runRows}
@@ -30,7 +30,7 @@ made-alike rule C k limit other a ts settled enough =
     let still = quiet rule C k a in
     let below : firstThat limit still < limit = ltb-true (firstThat limit still) limit settled in
     let within : firstThat limit still < other = omega (arith, made-quiet limit still below) in
-    rw (made-any limit still other below enough, lt-ltb (firstThat limit still) other within, settled)
+    rw (first-at-any-limit limit still other below enough, lt-ltb (firstThat limit still) other within, settled)
 
 module _ {rec : Record} {ks ws : List ℕ} {k limit : ℕ} {ms ts : List ℕ} {r : Ran} {members totals : List ℕ}
     (h : AcceptedRun rec ks ws k limit ms ts r members totals) where

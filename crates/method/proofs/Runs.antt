@@ -17,20 +17,20 @@ module _ (limit : ℕ) (quiet : ℕ → Bool) where
   pub made-quiet : firstThat limit quiet < limit → roundsMade limit quiet ≡ firstThat limit quiet + 1
   made-quiet h = rw (lt-ltb _ _ h)
 
-  -- where none is, the limit is reached
-  made-limit : limit ≤ firstThat limit quiet → roundsMade limit quiet ≡ limit
-  made-limit h = rw (le-ltb (firstThat limit quiet) limit h)
-
-  -- then it is the first below any other limit, where that is not below the rounds made
-  pub made-any : (other : ℕ) → firstThat limit quiet < limit → roundsMade limit quiet ≤ other
+  -- and it is the first below any other limit that is not below the rounds made
+  pub first-at-any-limit : (other : ℕ) → firstThat limit quiet < limit → roundsMade limit quiet ≤ other
       → firstThat other quiet ≡ firstThat limit quiet
-  made-any other h enough =
+  first-at-any-limit other h enough =
       let f : First limit quiet (firstThat limit quiet) = first-that limit quiet in
       sym (first-that-only other quiet (firstThat limit quiet) (record {
         within = omega (arith, made-quiet h);
         before = f .before;
         found = λ l. f .found h;
       }))
+
+  -- where none is, the limit is reached
+  made-limit : limit ≤ firstThat limit quiet → roundsMade limit quiet ≡ limit
+  made-limit h = rw (le-ltb (firstThat limit quiet) limit h)
 
   -- no more rounds than the limit
   pub made-at-most : roundsMade limit quiet ≤ limit

@@ -1,4 +1,4 @@
--- What is shown of the numbers of document 01. The body of the first names the proof; the second is by computation.
+-- What is shown of the numbers of documents 01 and 02. The body of the first names the proof; the second is by computation.
 use Prim.Native.Nat.{ℕ, _<_}
 use mathlib.Core.Bool.{true}
 use mathlib.Core.Path.{_≡_, refl}
@@ -17,7 +17,7 @@ use Rattle.scope.specs.Lines.{orderOf}
 use Rattle.scope.specs.Table.{scopeTable}
 use Rattle.scope.proofs.Table as table
 
--- Every line of the table comes out as document 01 writes it, by one test that is computed.
+-- Every line of the table comes out as the documents write it, by one test that is computed.
 pub as-written : allHold scopeTable ≡ true
 as-written = table.table-holds
 

@@ -1,4 +1,4 @@
--- The numbers that document 01 names: limits, the grid, the rounding of a mean and of a palette byte, and bytes.
+-- The numbers that the documents name: limits, the grid, the rounding of a mean and of a palette byte, and bytes.
 use mathlib.Core.List.{List, [], _∷_, map}
 use Rattle.number.specs.{roundedMean, numbersBelow}
 use Rattle.colour.specs.{
@@ -53,7 +53,7 @@ constants =
     -- shades 1 to 64, coordinates to 192
     ∷ says mostShades 64
     ∷ says mostCoordinates 192
-    -- rounds to 200; a limit of 0 means 100
+    -- rounds to 200; a limit of 0 means 100 (document 02, in place of 20)
     ∷ says mostRounds 200
     ∷ says usualLimit 100
     ∷ lists (map limitOf (0 ∷ 1 ∷ 20 ∷ 99 ∷ 100 ∷ 200 ∷ [])) (100 ∷ 1 ∷ 20 ∷ 99 ∷ 100 ∷ 200 ∷ [])
@@ -68,7 +68,7 @@ constants =
     -- sides to 16,384, depth 255
     ∷ says mostSide 16384
     ∷ says theDepth 255
-    -- the listing: input to 65,536 bytes, pictures to 8,192 pixels, runs of 20 rounds; LF and blank
+    -- the listing: input to 65,536 bytes, pictures to 8,192 pixels, limit 20 (document 02, in place of 0); LF and blank
     ∷ says mostInput 65536
     ∷ says mostListed 8192
     ∷ says listedLimit 20

@@ -1,5 +1,6 @@
 -- Glossary.
--- A line of the table is an `Example` of the crate sheets: what the definitions give, and what document 01 writes down.
+-- A line of the table is an `Example` of the crate sheets: what the definitions give, and what document 01 writes down,
+-- or document 02 in its place.
 --   says n m          the line of one number
 --   lists ns ms       the line of some numbers
 --   those test ns     the numbers of a list at which a test holds
