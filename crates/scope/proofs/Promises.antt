@@ -1,4 +1,5 @@
--- What is shown of the numbers of documents 01 and 02. The body of the first names the proof; the second is by computation.
+-- What is shown of the numbers of documents 01 and 02. The body of the first names the proof; the second is by
+-- computation.
 use Prim.Native.Nat.{ℕ, _<_}
 use mathlib.Core.Bool.{true}
 use mathlib.Core.Path.{_≡_, refl}

@@ -36,8 +36,8 @@ pub run-of-usual : (rec : Record) (ks ws : List ℕ) (k : ℕ) (ms ts : List ℕ
 unfolding runOf
 run-of-usual rec ks ws k ms ts = refl
 
--- A settled run is the run with any other limit that is not below the rounds it made and whose totals are lent: a higher
--- limit changes only runs that are not settled.
+-- A settled run is the run with any other limit that is not below the rounds it made and whose totals are lent: a
+-- higher limit changes only runs that are not settled.
 pub settled-at-any-limit : {rec : Record} {ks ws : List ℕ} {k limit : ℕ} {ms ts : List ℕ} {r : Ran}
     {members totals : List ℕ} → AcceptedRun rec ks ws k limit ms ts r members totals → r .settled ≡ true
     → (other : ℕ) → r .rounds ≤ limitOf other → other ≤ mostRounds → limitOf other ≤ length ts
