@@ -46,7 +46,7 @@ impl Model {
     }
 
     /// "a malformed count line is BAD COUNT; an input over 65,536 bytes is BAD SIZE; then the picture's own refusals ..;
-    /// then the run's", with limit 20: "the listing program .. now passes 20" (document 02, CR 10).
+    /// then the run's", with limit 20: "the listing program .. now passes 20" (document 02).
     fn lines_of(&mut self, input: &[u8], slip: Option<ListingSlip>) -> Result<String, u32> {
         let slips = |one| slip == Some(one);
         let cut = slips(ListingSlip::ReadsNoByteMoreThanAnInputMayHave);

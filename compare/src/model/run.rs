@@ -16,10 +16,10 @@ struct Made {
     distances: u64,
 }
 
-/// "A limit of 0 is to mean 100." (document 02, CR 10)
+/// "A limit of 0 is to mean 100" (document 02).
 pub const USUAL_LIMIT: usize = 100;
 
-/// The limit that one asked for means.
+/// What a limit that is asked for means.
 pub fn limit_meant(limit: usize) -> usize {
     if limit == 0 {
         USUAL_LIMIT

@@ -22,11 +22,11 @@ use Rattle.lloyd.proofs.Accepted.{done-is, tests, making}
 use Rattle.lloyd.proofs.Made.{rounds-made}
 use Rattle.lloyd.proofs.Wholes.{run-refuses}
 
--- a run that is made, and settles, is made alike under another limit
-made-alike : (rule : Rule) (C : Colours) (k limit other : ℕ) (a : State) (ts : List ℕ)
+-- a run that is made and settles is made the same under another limit
+made-at-any-limit : (rule : Rule) (C : Colours) (k limit other : ℕ) (a : State) (ts : List ℕ)
     → ltb (firstThat limit (quiet rule C k a)) limit ≡ true → roundsMade limit (quiet rule C k a) ≤ other
     → madeRun rule C k other a ts ≡ madeRun rule C k limit a ts
-made-alike rule C k limit other a ts settled enough =
+made-at-any-limit rule C k limit other a ts settled enough =
     let still = quiet rule C k a in
     let below : firstThat limit still < limit = ltb-true (firstThat limit still) limit settled in
     let within : firstThat limit still < other = omega (arith, made-quiet limit still below) in
@@ -57,6 +57,6 @@ module _ {rec : Record} {ks ws : List ℕ} {k limit : ℕ} {ms ts : List ℕ} {r
       let C = coloursOf (rec .used) ks ws in
       let m = making h in
       run-refuses rec ks ws k other ms ts .by-none (rows-pass other most room)
-      ∙ made-alike toMean C k (limitOf limit) (limitOf other) (begin C k ms) ts
+      ∙ made-at-any-limit toMean C k (limitOf limit) (limitOf other) (begin C k ms) ts
       (sym (ap (λ (x : Ran). x .settled) (m .meets .answer)) ∙ settled) (rw (rounds-made m) at enough)
       ∙ sym (run-refuses rec ks ws k limit ms ts .accepted-is (done-is h))
