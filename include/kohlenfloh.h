@@ -21,7 +21,8 @@
  *   colour     three bytes R, G, B; its key is 65536 R + 256 G + B
  *   table      keys, strictly rising, and beside them weights, the pixels of each colour; at most 1,048,576 entries and
  *              16,777,216 pixels
- *   record     how much of a table is used, an array of KF_RECORD_PLACES numbers; all zeros for an empty table
+ *   record     how much of a table is used, and its channel sums: an array of KF_RECORD_PLACES numbers, all zeros for
+ *              an empty table
  *   strip      pixels from first to last, three bytes each
  *   shade      three coordinates in sixteenths of a level, 0 to 4080; colour (r, g, b) stands at (16 r, 16 g, 16 b)
  *   distance   the sum of three squared differences
@@ -41,15 +42,15 @@ extern "C" {
 #endif
 
 /* The version of the library that this header belongs to. */
-#define KF_VERSION "0.2.0"
+#define KF_VERSION "0.3.0"
 
 /* The refusals. */
 enum kf_refusal {
     KF_DONE = 0,         /* nothing is refused */
     KF_BAD_STRIP = 1,    /* pixel bytes not a multiple of 3 */
     KF_BAD_TABLE = 2,    /* used entries above the room, a used key above 16,777,215 or not above the one before, a used
-                            weight of 0, or a pixel total that is not the sum of the used weights or is above
-                            16,777,216 */
+                            weight of 0, a pixel total that is not the sum of the used weights or is above 16,777,216,
+                            or a channel sum that is not that of the used entries */
     KF_FULL = 3,         /* the next pixel meets a total of 16,777,216, or is a new colour with no room */
     KF_BAD_COUNT = 4,    /* shades not 1 to 64; lent coordinates not 3 to 192 or not a multiple of 3 */
     KF_FEW_COLOURS = 5,  /* a run wants more shades than used entries */
@@ -99,7 +100,8 @@ static inline const char *kf_refusal_sentence(uint32_t number)
     case KF_BAD_STRIP: return "pixel bytes not a multiple of 3";
     case KF_BAD_TABLE:
         return "used entries above the room, a used key above 16,777,215 or not above the one before, a used weight of "
-               "0, or a pixel total that isn't the sum of the used weights or is above 16,777,216";
+               "0, a pixel total that isn't the sum of the used weights or is above 16,777,216, or a channel sum that "
+               "isn't that of the used entries";
     case KF_FULL: return "the next pixel meets a total of 16,777,216, or is a new colour with no room";
     case KF_BAD_COUNT:
         return "shades not 1 to 64; for a single round or a palette from shades, coordinates not 3 to 192 or not a "
@@ -131,11 +133,17 @@ static inline const char *kf_refusal_sentence(uint32_t number)
 #define KF_MOST_PIXELS 16777216u /* pixels of a table, a mapping or a picture */
 #define KF_MOST_COORDINATES 192u /* coordinates of the most shades, and bytes of their palette */
 
-/* The places of a record. */
+/* The places of a record. The channel sums are in whole levels, each at most 4,278,190,080. A sum divided by the pixels
+ * is the channel's mean over all pixels; the level nearest to it, halves up, is (2 * sum + pixels) / (2 * pixels).
+ * Every call that takes a table refuses sums that are not those of its entries, by KF_BAD_TABLE. A table that is kept
+ * without sums gets them from its entries: the levels of a key are key / 65536, key / 256 % 256 and key % 256. */
 enum kf_record_place {
     KF_RECORD_USED = 0,   /* used entries of the table */
     KF_RECORD_PIXELS = 1, /* its pixels, the sum of the used weights */
-    KF_RECORD_PLACES = 2  /* how many places there are */
+    KF_RECORD_RED = 2,    /* the sum of weight times level R over the used entries */
+    KF_RECORD_GREEN = 3,  /* that of G */
+    KF_RECORD_BLUE = 4,   /* that of B */
+    KF_RECORD_PLACES = 5  /* how many places there are */
 };
 
 /* Adds a strip's pixels to the table, from first to last.

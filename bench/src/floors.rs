@@ -1,8 +1,16 @@
-//! Forms of the table job that the library cannot have: they want more memory than a call's stack holds.
+//! Forms of the table job that the library cannot have: they want more memory than a call's stack holds. Each answers
+//! the record.
 use crate::forms::key_of;
+use crate::forms::table::sums_of;
+use kohlenfloh::Record;
+
+/// The record of so many entries.
+fn record_of(used: usize, keys: &[u32], weights: &[u32], strip: &[u8]) -> Record {
+    Record::new(used as u64, strip.len() as u64 / 3, sums_of(&keys[..used], &weights[..used]))
+}
 
 /// One count for each of the 16,777,216 keys: 64 MiB, cleared at each call.
-pub fn counts(counts: &mut [u32], keys: &mut [u32], weights: &mut [u32], strip: &[u8]) -> usize {
+pub fn counts(counts: &mut [u32], keys: &mut [u32], weights: &mut [u32], strip: &[u8]) -> Record {
     counts.fill(0);
     for pixel in strip.chunks_exact(3) {
         counts[key_of(pixel) as usize] += 1;
@@ -12,11 +20,11 @@ pub fn counts(counts: &mut [u32], keys: &mut [u32], weights: &mut [u32], strip: 
         (keys[used], weights[used]) = (key as u32, *count);
         used += 1;
     }
-    used
+    record_of(used, keys, weights, strip)
 }
 
 /// A bit for each key (2 MiB) and the entries before each 64 of them (1 MiB): a pixel's place is worked out from both.
-pub fn bits(bits: &mut [u64], before: &mut [u32], keys: &mut [u32], weights: &mut [u32], strip: &[u8]) -> usize {
+pub fn bits(bits: &mut [u64], before: &mut [u32], keys: &mut [u32], weights: &mut [u32], strip: &[u8]) -> Record {
     bits.fill(0);
     for pixel in strip.chunks_exact(3) {
         let key = key_of(pixel);
@@ -38,5 +46,5 @@ pub fn bits(bits: &mut [u64], before: &mut [u32], keys: &mut [u32], weights: &mu
         let lower = bits[word] & ((1 << (key & 63)) - 1);
         weights[(before[word] + lower.count_ones()) as usize] += 1;
     }
-    used
+    record_of(used, keys, weights, strip)
 }

@@ -20,8 +20,8 @@ impl Table {
         self.record.used as usize
     }
 
-    /// The pixels and the used entries.
-    pub fn contents(&self) -> (u64, &[u32], &[u32]) {
-        (self.record.pixels, &self.keys[..self.used()], &self.weights[..self.used()])
+    /// The record and the used entries.
+    pub fn contents(&self) -> (Record, &[u32], &[u32]) {
+        (self.record, &self.keys[..self.used()], &self.weights[..self.used()])
     }
 }

@@ -19,6 +19,9 @@
 //! assert_eq!(table.keys(), [0, 655_360]);
 //! assert_eq!(table.weights(), [3, 1]);
 //!
+//! // The average colour of all pixels, in whole levels, halves up.
+//! assert_eq!(table.average(), Some([3, 0, 0]));
+//!
 //! // A run that looks for two shades, in at most as many rounds as usual, which is 100.
 //! let run = table.run(RunOptions::shades(2))?;
 //! assert_eq!(run.shades.coordinates(), [0, 0, 0, 160, 0, 0]);
@@ -58,7 +61,7 @@
 //! | [`Shades::palette`] | none |
 //! | [`Palette::map`] | 1 BAD STRIP, 11 MANY PIXELS |
 //! | [`Palette::map_into`] | 1 BAD STRIP, 11 MANY PIXELS, 7 SHORT ROOM |
-//! | [`Table::from_parts`] | 2 BAD TABLE |
+//! | [`Table::from_parts`], [`Table::from_entries`] | 2 BAD TABLE |
 //! | [`Shades::from_coordinates`] | 4 BAD COUNT, 8 BAD CENTRE |
 //! | [`Palette::from_bytes`] | 10 BAD PALETTE |
 //!

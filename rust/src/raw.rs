@@ -11,8 +11,14 @@ pub const KF_MOST_COORDINATES: usize = 192;
 pub const KF_RECORD_USED: usize = 0;
 /// In a record: its pixels, the sum of the used weights.
 pub const KF_RECORD_PIXELS: usize = 1;
+/// In a record: the sum of weight times level R over the used entries.
+pub const KF_RECORD_RED: usize = 2;
+/// In a record: that of G.
+pub const KF_RECORD_GREEN: usize = 3;
+/// In a record: that of B.
+pub const KF_RECORD_BLUE: usize = 4;
 /// The places of a record.
-pub const KF_RECORD_PLACES: usize = 2;
+pub const KF_RECORD_PLACES: usize = 5;
 
 /// In the answer of a round: its total, against the shades before the move.
 pub const KF_ROUND_TOTAL: usize = 0;

@@ -59,8 +59,9 @@ macro_rules! refusals {
 refusals! {
     1, BadStrip, "BAD STRIP", "pixel bytes not a multiple of 3";
     2, BadTable, "BAD TABLE",
-        "used entries above the room, a used key above 16,777,215 or not above the one before, a used weight of 0, or \
-         a pixel total that isn't the sum of the used weights or is above 16,777,216";
+        "used entries above the room, a used key above 16,777,215 or not above the one before, a used weight of 0, a \
+         pixel total that isn't the sum of the used weights or is above 16,777,216, or a channel sum that isn't that \
+         of the used entries";
     3, Full { taken: u64, "How many pixels of the strip were taken; the table holds exactly these." }, "FULL",
         "the next pixel meets a total of 16,777,216, or is a new colour with no room";
     4, BadCount, "BAD COUNT",

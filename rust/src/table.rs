@@ -2,19 +2,22 @@
 use std::fmt;
 
 use crate::calls;
-use crate::raw::{KF_RECORD_PIXELS, KF_RECORD_PLACES, KF_RECORD_USED};
+use crate::raw::{KF_RECORD_BLUE, KF_RECORD_GREEN, KF_RECORD_PIXELS, KF_RECORD_PLACES, KF_RECORD_RED, KF_RECORD_USED};
 use crate::refusal::Refusal;
 
-/// How much of a table is used: its entries and the pixels they stand for. The default is that of an empty table.
+/// How much of a table is used: its entries, the pixels they stand for, and the channel sums, which are those of weight
+/// times level over the used entries, in whole levels. The default is that of an empty table.
 ///
-/// It is made by [`Record::new`] and read by its fields, so that a record with more of them breaks no caller.
+/// It is made by [`Record::new`] and read by its fields.
 ///
 /// ```
 /// use kohlenfloh::Record;
 ///
-/// let record = Record::new(2, 4);
+/// // Three pixels (0,0,0) and one pixel (10,0,0).
+/// let record = Record::new(2, 4, [10, 0, 0]);
 /// assert_eq!((record.used, record.pixels), (2, 4));
-/// assert_eq!(Record::default(), Record::new(0, 0));
+/// assert_eq!((record.red, record.green, record.blue), (10, 0, 0));
+/// assert_eq!(Record::default(), Record::new(0, 0, [0; 3]));
 /// ```
 #[derive(Clone, Copy, Debug, Default, PartialEq, Eq, Hash)]
 #[non_exhaustive]
@@ -23,18 +26,25 @@ pub struct Record {
     pub used: u64,
     /// Pixels, the sum of the used weights.
     pub pixels: u64,
+    /// The sum of weight times level R over the used entries.
+    pub red: u64,
+    /// That of G.
+    pub green: u64,
+    /// That of B.
+    pub blue: u64,
 }
 
 impl Record {
-    /// A record of so many used entries and so many pixels.
-    pub const fn new(used: u64, pixels: u64) -> Record {
-        Record { used, pixels }
+    /// A record of so many used entries and so many pixels, with the sums of R, G and B.
+    pub const fn new(used: u64, pixels: u64, [red, green, blue]: [u64; 3]) -> Record {
+        Record { used, pixels, red, green, blue }
     }
 
     /// The record in an array of the boundary, by the places that [`raw`](crate::raw) names.
     #[inline]
     pub fn from_array(array: [u64; KF_RECORD_PLACES]) -> Record {
-        Record::new(array[KF_RECORD_USED], array[KF_RECORD_PIXELS])
+        let sums = [KF_RECORD_RED, KF_RECORD_GREEN, KF_RECORD_BLUE].map(|place| array[place]);
+        Record::new(array[KF_RECORD_USED], array[KF_RECORD_PIXELS], sums)
     }
 
     /// The record as an array of the boundary.
@@ -42,15 +52,20 @@ impl Record {
     /// ```
     /// use kohlenfloh::{raw, Record};
     ///
-    /// let array = Record::new(2, 4).to_array();
+    /// let record = Record::new(2, 4, [10, 0, 0]);
+    /// let array = record.to_array();
     /// assert_eq!((array[raw::KF_RECORD_USED], array[raw::KF_RECORD_PIXELS]), (2, 4));
-    /// assert_eq!(Record::from_array(array), Record::new(2, 4));
+    /// assert_eq!(array[raw::KF_RECORD_RED], 10);
+    /// assert_eq!(Record::from_array(array), record);
     /// ```
     #[inline]
     pub fn to_array(self) -> [u64; KF_RECORD_PLACES] {
         let mut array = [0; KF_RECORD_PLACES];
         array[KF_RECORD_USED] = self.used;
         array[KF_RECORD_PIXELS] = self.pixels;
+        array[KF_RECORD_RED] = self.red;
+        array[KF_RECORD_GREEN] = self.green;
+        array[KF_RECORD_BLUE] = self.blue;
         array
     }
 }
@@ -106,12 +121,14 @@ impl Table {
     /// ```
     /// use kohlenfloh::{Record, Refusal, RunOptions, Table};
     ///
-    /// let record = Record::new(2, 4);
+    /// let record = Record::new(2, 4, [10, 0, 0]);
     /// let table = Table::from_parts(record, vec![0, 655_360], vec![3, 1])?;
     /// assert_eq!(table.run(RunOptions::shades(1))?.totals, [19_200]);
     ///
     /// let twice = Table::from_parts(record, vec![7, 7], vec![3, 1]);
     /// assert_eq!(twice.unwrap_err(), Refusal::BadTable);
+    /// let untrue = Table::from_parts(Record::new(2, 4, [11, 0, 0]), vec![0, 655_360], vec![3, 1]);
+    /// assert_eq!(untrue.unwrap_err(), Refusal::BadTable);
     /// # Ok::<(), Refusal>(())
     /// ```
     ///
@@ -121,6 +138,41 @@ impl Table {
         let mut table = Table { record, keys, weights };
         table.add(&[])?;
         Ok(table)
+    }
+
+    /// A table from keys and weights that were stored without a record or without its sums. Every place is a used
+    /// entry, and the record is worked out from them.
+    ///
+    /// The library tests it, as it tests the table at every call. Keys and weights that are not equally many are no
+    /// table.
+    ///
+    /// ```
+    /// use kohlenfloh::{Record, Refusal, Table};
+    ///
+    /// let table = Table::from_entries(vec![0, 655_360], vec![3, 1])?;
+    /// assert_eq!(table.record(), Record::new(2, 4, [10, 0, 0]));
+    ///
+    /// for (keys, weights) in [(vec![7, 7], vec![3, 1]), (vec![0, 655_360], vec![3]), (vec![7], vec![u32::MAX])] {
+    ///     assert_eq!(Table::from_entries(keys, weights).unwrap_err(), Refusal::BadTable);
+    /// }
+    /// # Ok::<(), Refusal>(())
+    /// ```
+    ///
+    /// # Refusals
+    /// BAD TABLE.
+    pub fn from_entries(keys: Vec<u32>, weights: Vec<u32>) -> Result<Table, Refusal> {
+        let used = keys.len().max(weights.len()) as u64;
+        let (mut pixels, mut sums) = (0u64, [0u64; 3]);
+        // What stands at a level's place of any key is below 2^16, and a weight is below 2^32. A sum that is too great
+        // for 64 bits stays as great as can be; its pixels are too many for a table.
+        for (key, weight) in keys.iter().zip(&weights) {
+            let weight = u64::from(*weight);
+            pixels = pixels.saturating_add(weight);
+            for (sum, level) in sums.iter_mut().zip([key >> 16, key >> 8 & 255, key & 255]) {
+                *sum = sum.saturating_add(weight * u64::from(level));
+            }
+        }
+        Table::from_parts(Record::new(used, pixels, sums), keys, weights)
     }
 
     /// Adds the pixels of a strip, three bytes R, G, B each, and answers how many were taken: all of them.
@@ -150,7 +202,7 @@ impl Table {
     ///
     /// let mut table = Table::with_room(4);
     /// table.add(&[0, 0, 0, 0, 0, 0])?;
-    /// assert_eq!(table.record(), Record::new(1, 2));
+    /// assert_eq!(table.record(), Record::new(1, 2, [0; 3]));
     /// # Ok::<(), kohlenfloh::Refusal>(())
     /// ```
     pub fn record(&self) -> Record {
@@ -165,6 +217,24 @@ impl Table {
     /// The pixels, which is the sum of the weights.
     pub fn pixels(&self) -> u64 {
         self.record.pixels
+    }
+
+    /// The average colour: in each channel the level nearest to the exact mean over all pixels, halves up; none where
+    /// there are no pixels. It is read from the record's sums, whatever the number of entries.
+    ///
+    /// ```
+    /// use kohlenfloh::Table;
+    ///
+    /// let mut table = Table::with_room(4);
+    /// assert_eq!(table.average(), None);
+    /// table.add(&[0, 10, 200, 1, 10, 203])?;
+    /// assert_eq!(table.average(), Some([1, 10, 202]));
+    /// # Ok::<(), kohlenfloh::Refusal>(())
+    /// ```
+    pub fn average(&self) -> Option<[u8; 3]> {
+        let Record { pixels, red, green, blue, .. } = self.record;
+        // The sums are those of levels of 0 to 255, so the quotient is one too.
+        (pixels > 0).then(|| [red, green, blue].map(|sum| ((2 * sum + pixels) / (2 * pixels)) as u8))
     }
 
     /// The most entries this table can come to have.

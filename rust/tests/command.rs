@@ -13,6 +13,7 @@ width              64
 height             96
 pixels             6144
 colours            42
+average colour     108  81  69  #6c5145
 shades             6 of 7 shades in use
 rounds             2
 settled            yes
@@ -109,8 +110,30 @@ fn a_picture_of_several_strips_is_mapped_as_a_whole() {
 
     let output = run(&["shades", "5", "--index", &folder.path("index.pgm")], &input);
     assert!(printed(&output).contains(&format!("\ncolours            {}\n", table.used())));
+    let [red, green, blue] = table.average().unwrap();
+    assert!(printed(&output).contains(&format!("\naverage colour     {red}  {green}  {blue}  #")));
     assert!(printed(&output).contains(&format!("\nerror              {}\n", mapped.figures.error)));
     assert!(folder.read("index.pgm") == [b"P5\n1999 1501\n255\n".as_slice(), &mapped.index].concat());
+}
+
+#[test]
+fn the_average_colour_is_the_nearest_level_halves_up() {
+    let sheet_h = [[10, 0, 0].repeat(17), [11, 0, 0].repeat(15)].concat();
+    let cases: [(&[u8], &str); 5] = [
+        (&[0, 0, 0, 1, 1, 1], "1  1  1  #010101"),
+        (&[0, 254, 7, 0, 255, 8, 0, 255, 8, 1, 255, 7], "0  255  8  #00ff08"),
+        (&[255, 255, 255], "255  255  255  #ffffff"),
+        (&[0, 0, 0, 0, 0, 0, 0, 0, 0, 10, 0, 0], "3  0  0  #030000"),
+        // Rounded to sixteenths and then to levels it would be 11, as the one shade is.
+        (&sheet_h, "10  0  0  #0a0000"),
+    ];
+    for (raster, average) in cases {
+        let picture = [format!("P6 {} 1 255 ", raster.len() / 3).as_bytes(), raster].concat();
+        let output = run(&["shades", "1"], &picture);
+        assert!(printed(&output).contains(&format!("\naverage colour     {average}\n")), "{}", printed(&output));
+    }
+    let picture = [b"P6 32 1 255 ".as_slice(), &sheet_h].concat();
+    assert!(printed(&run(&["shades", "1"], &picture)).contains("\n    0   11    0    0  #0b0000        32   100.00\n"));
 }
 
 #[test]

@@ -49,13 +49,11 @@ fn the_drawing_tells_what_the_sheet_tells() {
     assert!(drawing.contains("<title>Order sheet: a&lt;b&gt;&amp;&apos;&quot;.ppm</title>"));
     let texts = texts(&drawing);
     assert_eq!(texts[1], "a&lt;b&gt;&amp;&apos;&quot;.ppm");
-    assert_eq!(
-        texts[2..10],
-        ["Size", "64 by 96", "Pixels", "6,144", "Colours", "42", "Shades", "6 of 7 shades in use"]
-    );
-    assert_eq!(texts[10..16], ["Rounds", "2, settled", "Error", "86,391", "Mean square error", "14.06"]);
-    assert_eq!(texts[22..26], ["0", "#6c5145", "108, 81, 69", "not used, buy nothing"]);
-    for (row, line) in texts[26..].chunks(5).zip(sheet.lines().skip(13).take(6)) {
+    assert_eq!(texts[2..8], ["Size", "64 by 96", "Pixels", "6,144", "Colours", "42"]);
+    assert_eq!(texts[8..13], ["Average colour", "#6c5145", "108, 81, 69", "Shades", "6 of 7 shades in use"]);
+    assert_eq!(texts[13..19], ["Rounds", "2, settled", "Error", "86,391", "Mean square error", "14.06"]);
+    assert_eq!(texts[25..29], ["0", "#6c5145", "108, 81, 69", "not used, buy nothing"]);
+    for (row, line) in texts[29..].chunks(5).zip(sheet.lines().skip(14).take(6)) {
         let line: Vec<&str> = line.split_whitespace().collect();
         let [number, red, green, blue, hex, pixels, share] = line[..] else { panic!("{line:?}") };
         let levels = format!("{red}, {green}, {blue}");
@@ -67,6 +65,19 @@ fn the_drawing_tells_what_the_sheet_tells() {
     assert_eq!(sum, "All shades: <tspan font-weight=\"bold\">6,144</tspan>, the pixels of the picture");
     let (version, toolchain, proof, sources) = (made::VERSION, made::TOOLCHAIN, made::PROOF, &made::SOURCES[..16]);
     assert_eq!(origin, format!("kohlenfloh {version}, {toolchain}, proof {proof}, sources {sources}"));
+}
+
+#[test]
+fn the_average_colour_has_a_swatch() {
+    let folder = Folder::new("average");
+    // Two pixels whose mean is at a half in each channel, and no shade of that colour.
+    let (drawing, sheet) = drawing(&folder, &["2"], b"P6 2 1 255 \x10\x80\0\x11\xff\x01");
+    assert!(sheet.contains("\naverage colour     17  192  1  #11c001\n"), "{sheet}");
+    let (_, row) = drawing.split_once(">Average colour</text>").unwrap();
+    let (row, _) = row.split_once("</g>").unwrap();
+    assert_eq!(attribute(row, " fill"), "#11c001");
+    assert!(row.trim_start().starts_with("<rect ") && drawing.matches("fill=\"#11c001\"").count() == 1, "{row}");
+    assert_eq!(texts(row), ["#11c001", "17, 192, 1"]);
 }
 
 #[test]

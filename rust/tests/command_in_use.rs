@@ -3,7 +3,7 @@ mod program;
 
 use std::fs;
 
-use program::{assert_wrong, printed, run, said, RUG};
+use program::{assert_wrong, printed, run, said, shade_lines, RUG};
 
 /// A drawing of three flat colours, which as three shades come out as two.
 fn three_colours() -> Vec<u8> {
@@ -19,7 +19,7 @@ fn plain(count: usize) -> String {
 
 /// How many shades the sheet of the rug for so many counts as used, by its lines.
 fn used(count: usize) -> usize {
-    plain(count).lines().filter(|line| line.contains('#') && !line.contains("not used")).count()
+    shade_lines(&plain(count)).filter(|line| !line.contains("not used")).count()
 }
 
 #[test]

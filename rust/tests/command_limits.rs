@@ -4,7 +4,7 @@ mod program;
 use std::fs;
 use std::path::Path;
 
-use program::{printed, run};
+use program::{printed, run, shade_lines};
 
 /// A file that is stored for the program `listing_many`.
 fn stored(name: &str) -> Vec<u8> {
@@ -37,15 +37,13 @@ fn told(arguments: &[&str], picture: &[u8]) -> (Vec<String>, Vec<String>) {
     let output = run(arguments, picture);
     let sheet = printed(&output);
     let rounds = sheet.lines().filter(|line| line.starts_with("rounds ") || line.starts_with("settled "));
-    let shades =
-        sheet.lines().skip_while(|line| !line.starts_with("shade ")).skip(1).take_while(|line| !line.is_empty());
     let listed = |line: &str| {
         let fields: Vec<&str> = line.split_whitespace().collect();
         [&fields[..4], &[fields[5]]].concat().join(" ")
     };
     (
         rounds.map(|line| line.split_whitespace().take(2).collect::<Vec<_>>().join(" ")).collect(),
-        shades.map(listed).collect(),
+        shade_lines(sheet).map(listed).collect(),
     )
 }
 

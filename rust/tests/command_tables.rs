@@ -7,7 +7,7 @@ use std::os::unix::ffi::OsStrExt;
 use std::path::Path;
 use std::process::{Command, Stdio};
 
-use program::{printed, program, run, said, Folder, RUG};
+use program::{printed, program, run, said, shade_lines, Folder, RUG};
 
 /// The options that ask for an output.
 const OPTIONS: [&str; 6] = ["--index", "--palette", "--preview", "--sheet", "--csv", "--json"];
@@ -20,11 +20,14 @@ for row in csv.reader(open(sys.argv[1], newline='', encoding='utf-8')):
 ";
 
 /// Prints what a JSON file holds: a line for each figure, for each shade, and for each thing that made the program.
-/// Numbers with a point are printed by their digits.
+/// Numbers with a point are printed by their digits, the average colour by its values.
 const READ_JSON: &str = "
 import json, sys
 held = json.load(open(sys.argv[1], encoding='utf-8'), parse_float=lambda digits: digits)
 order, made = held.pop('order'), held.pop('made')
+average = held['average']
+assert list(average) == ['red', 'green', 'blue', 'hex']
+held['average'] = '  '.join(str(value) for value in average.values())
 for name, value in list(held.items()) + list(made.items()):
     sys.stdout.buffer.write(f'{name}: {value}\\n'.encode())
 for shade in order:
@@ -41,8 +44,7 @@ fn python(script: &str, path: &str) -> Vec<String> {
 
 /// The shades of an order sheet, each as its first seven values.
 fn shades_of(sheet: &str) -> Vec<Vec<&str>> {
-    let rows = sheet.lines().filter(|line| line.contains('#')).map(|line| line.split_whitespace().take(7).collect());
-    rows.collect()
+    shade_lines(sheet).map(|line| line.split_whitespace().take(7).collect()).collect()
 }
 
 /// A figure of an order sheet.
@@ -89,6 +91,8 @@ fn the_object_tells_what_the_sheet_tells() {
     for name in ["width", "height", "pixels", "colours"] {
         lines.push(format!("{name}: {}", figure(sheet, name)));
     }
+    assert_eq!(figure(sheet, "average colour"), "108  81  69  #6c5145");
+    lines.push(format!("average: {}", figure(sheet, "average colour")));
     assert_eq!(figure(sheet, "shades"), "6 of 7 shades in use");
     lines.extend(["shades: 7", "in_use: 6", "wanted_in_use: None", "limit: 100"].map(String::from));
     lines.push(format!("rounds: {}", figure(sheet, "rounds")));
@@ -115,6 +119,18 @@ fn the_object_tells_the_limit_in_force() {
     ] {
         let output = run(&["shades", "7", RUG, "--limit", limit, "--json", "-"], b"");
         assert!(printed(&output).contains(lines), "{}", printed(&output));
+    }
+}
+
+#[test]
+fn the_object_tells_the_average_colour() {
+    let sheet_h = [b"P6 32 1 255 ".to_vec(), [10, 0, 0].repeat(17), [11, 0, 0].repeat(15)].concat();
+    for (picture, line) in [
+        (b"P6 2 1 255 \0\0\xff\x01\0\xff".as_slice(), r##"{"red": 1, "green": 0, "blue": 255, "hex": "#0100ff"}"##),
+        (&sheet_h, r##"{"red": 10, "green": 0, "blue": 0, "hex": "#0a0000"}"##),
+    ] {
+        let output = run(&["shades", "1", "--json", "-"], picture);
+        assert!(printed(&output).contains(&format!("\n  \"average\": {line},\n")), "{}", printed(&output));
     }
 }
 
@@ -166,7 +182,8 @@ fn the_help_tells_of_every_option_and_of_what_is_refused() {
         "two outputs that are one file",
         "A file that is not writable is not replaced.",
         "shade,red,green,blue,hex,pixels,share,used",
-        "picture, width, height, pixels, colours, shades, in_use",
+        "picture, width, height, pixels, colours, average (an object with red, green, blue and hex), shades, in_use",
+        "the average colour is that of the picture: in each channel the level nearest to the mean of all pixels",
         "rounds, settled, distances",
         "final_total, error, mean_square_error",
         "version, toolchain, proof and sources",

@@ -38,6 +38,9 @@ fn places_are_those_of_the_header() {
     let places = numbers![
         KF_RECORD_USED
         KF_RECORD_PIXELS
+        KF_RECORD_RED
+        KF_RECORD_GREEN
+        KF_RECORD_BLUE
         KF_RECORD_PLACES
         KF_ROUND_TOTAL
         KF_ROUND_MOVED

@@ -50,9 +50,103 @@ fn bad_table() {
         (1, 16_777_217, &[5], &[16_777_217]),
     ];
     for (used, pixels, keys, weights) in cases {
-        let table = Table::from_parts(Record::new(used, pixels), keys.to_vec(), weights.to_vec());
+        let blue = keys.iter().zip(weights).map(|(key, weight)| u64::from(key & 255) * u64::from(*weight)).sum();
+        let table = Table::from_parts(Record::new(used, pixels, [0, 0, blue]), keys.to_vec(), weights.to_vec());
         assert_eq!(table.unwrap_err(), Refusal::BadTable, "{used} {pixels} {keys:?} {weights:?}");
     }
+}
+
+/// Record, keys and weights of two pixels (1,2,3) and three of (0,0,255).
+fn two_and_three() -> (Record, Vec<u32>, Vec<u32>) {
+    (Record::new(2, 5, [2, 4, 771]), vec![255, 66_051], vec![3, 2])
+}
+
+/// Sums that are not those of that table: one off in each channel, two off that cancel, exchanged, as great as can be,
+/// and some that differ by numbers in which a machine's numbers or packed sums agree.
+const UNTRUE: [[u64; 3]; 14] = [
+    [1, 4, 771],
+    [3, 4, 771],
+    [2, 3, 771],
+    [2, 5, 771],
+    [2, 4, 770],
+    [2, 4, 772],
+    [3, 3, 771],
+    [2, 5, 770],
+    [2, 771, 4],
+    [u64::MAX, 4, 771],
+    [2, 4 + (1 << 32), 771],
+    [2 + (1 << 48), 4, 771],
+    [1, 4 + 256, 771],
+    [2, 4 + 3, 771 - 768],
+];
+
+#[test]
+fn bad_table_by_a_channel_sum_in_every_call_that_takes_a_table() {
+    let (record, keys, weights) = two_and_three();
+    assert!(Table::from_parts(record, keys.clone(), weights.clone()).is_ok());
+    for sums in UNTRUE {
+        let untrue = Record::new(2, 5, sums);
+        let (mut lent, mut keys, mut weights) = (untrue, keys.clone(), weights.clone());
+        for strip in [[].as_slice(), &[1, 2, 3], &[9, 9, 9]] {
+            let added = calls::add_strip(&mut lent, &mut keys, &mut weights, strip);
+            assert_eq!((added, lent), (Err(Refusal::BadTable), untrue), "{sums:?}");
+        }
+        let (mut shades, mut members, mut totals) = ([0; 3], [0; 2], [0; 100]);
+        let plain = calls::plain_round(untrue, &keys, &weights, &mut shades, &mut members);
+        let short = calls::short_round(untrue, &keys, &weights, &mut shades, &mut members);
+        let run = calls::run(untrue, &keys, &weights, 1, 0, &mut members, &mut totals);
+        assert_eq!((plain, short), (Err(Refusal::BadTable), Err(Refusal::BadTable)), "{sums:?}");
+        assert_eq!(run, Err(Refusal::BadTable), "{sums:?}");
+        assert_eq!((keys, weights), (vec![255, 66_051], vec![3, 2]));
+    }
+}
+
+#[test]
+fn bad_table_by_a_channel_sum_where_no_entry_is_used() {
+    for sums in [[1, 0, 0], [0, 1, 0], [0, 0, 1], [u64::MAX; 3]] {
+        let table = Table::from_parts(Record::new(0, 0, sums), vec![7; 2], vec![9; 2]);
+        assert_eq!(table.unwrap_err(), Refusal::BadTable, "{sums:?}");
+    }
+    assert_eq!(Table::from_parts(Record::default(), vec![7; 2], vec![9; 2]).unwrap().average(), None);
+}
+
+#[test]
+fn a_bad_strip_hands_an_untrue_record_back() {
+    let (_, mut keys, mut weights) = two_and_three();
+    for sums in UNTRUE {
+        let mut record = Record::new(2, 5, sums);
+        let added = calls::add_strip(&mut record, &mut keys, &mut weights, &[1, 2, 3, 4]);
+        assert_eq!((added, record), (Err(Refusal::BadStrip), Record::new(2, 5, sums)));
+    }
+}
+
+#[test]
+fn entries_without_a_record_are_a_table_or_none() {
+    let (record, keys, weights) = two_and_three();
+    let table = Table::from_entries(keys, weights).unwrap();
+    assert_eq!((table.record(), table.room()), (record, 2));
+    let empty = Table::from_entries(Vec::new(), Vec::new()).unwrap();
+    assert_eq!((empty.record(), empty.average()), (Record::default(), None));
+    let most = Table::from_entries(vec![16_777_215], vec![16_777_216]).unwrap();
+    assert_eq!(most.record(), Record::new(1, 16_777_216, [4_278_190_080; 3]));
+    assert_eq!(most.average(), Some([255; 3]));
+    let many = Table::MOST_ENTRIES as u32;
+    let cases: [(Vec<u32>, Vec<u32>); 9] = [
+        (vec![1, 2], vec![1]),
+        (vec![1], vec![1, 2]),
+        (vec![], vec![1]),
+        (vec![2, 1], vec![1, 1]),
+        (vec![16_777_216], vec![1]),
+        (vec![1, 2], vec![1, 0]),
+        (vec![7], vec![16_777_217]),
+        (vec![u32::MAX; many as usize], vec![u32::MAX; many as usize]),
+        ((0..=many).collect(), vec![1; many as usize + 1]),
+    ];
+    for (keys, weights) in cases {
+        let told = format!("{:?} {:?}", keys.first(), weights.first());
+        assert_eq!(Table::from_entries(keys, weights).unwrap_err(), Refusal::BadTable, "{told}");
+    }
+    assert_eq!(Table::from_entries((0..many).collect(), vec![16; many as usize]).unwrap().pixels(), 16_777_216);
 }
 
 #[test]
@@ -62,6 +156,7 @@ fn full_by_room_holds_the_pixels_taken() {
     assert_eq!(table.add(&strip), Err(Refusal::Full { taken: 3 }));
     let mut taken = Table::with_room(2);
     assert_eq!(taken.add(&strip[..9]), Ok(3));
+    assert_eq!(table.record(), Record::new(2, 3, [19; 3]));
     assert_eq!(table.record(), taken.record());
     assert!(table.entries().eq(taken.entries()));
     assert_eq!(table.add(&[1, 1, 1]), Ok(1));
@@ -71,10 +166,14 @@ fn full_by_room_holds_the_pixels_taken() {
 #[test]
 fn full_by_pixels() {
     let most = Table::MOST_PIXELS;
-    let mut table = Table::from_parts(Record::new(1, most - 1), vec![0, 0], vec![16_777_215, 0]).unwrap();
-    assert_eq!(table.add(&[0; 9]), Err(Refusal::Full { taken: 1 }));
+    let sum = 255 * (most - 1);
+    let record = Record::new(1, most - 1, [sum; 3]);
+    let mut table = Table::from_parts(record, vec![16_777_215, 0], vec![16_777_215, 0]).unwrap();
+    assert_eq!(table.add(&[255; 9]), Err(Refusal::Full { taken: 1 }));
     assert_eq!((table.pixels(), table.weights()), (most, [16_777_216].as_slice()));
+    assert_eq!(table.record(), Record::new(1, most, [4_278_190_080; 3]));
     assert_eq!(table.add(&[]), Ok(0));
+    assert_eq!(table.average(), Some([255; 3]));
 }
 
 #[test]

@@ -22,7 +22,8 @@ fn sheet_a_the_table() {
     assert_eq!(table.keys(), [0, 655_360]);
     assert_eq!(table.weights(), [3, 1]);
     assert_eq!(table.entries().collect::<Vec<_>>(), [(0, 3), (655_360, 1)]);
-    assert_eq!(table.record(), Record::new(2, 4));
+    assert_eq!(table.record(), Record::new(2, 4, [10, 0, 0]));
+    assert_eq!(table.average(), Some([3, 0, 0]));
 }
 
 #[test]
@@ -92,9 +93,21 @@ fn sheet_g_a_distance_of_exactly_four_times() {
 
 #[test]
 fn sheet_h_a_mean_that_is_rounded_twice() {
-    let run = table_of(&pixels_of((17, [10, 0, 0]), (15, [11, 0, 0]))).run(RunOptions::shades(1)).unwrap();
+    let table = table_of(&pixels_of((17, [10, 0, 0]), (15, [11, 0, 0])));
+    let run = table.run(RunOptions::shades(1)).unwrap();
     assert_eq!(run.shades.shade(0), Some([168, 0, 0]));
     assert_eq!(run.shades.palette().unwrap().entry(0), Some([11, 0, 0]));
+    // The average is rounded once, from 335 / 32.
+    assert_eq!(table.average(), Some([10, 0, 0]));
+}
+
+#[test]
+fn an_average_goes_up_at_a_half() {
+    for (first, second, average) in [(0, 1, 1), (254, 255, 255), (7, 7, 7), (0, 255, 128), (0, 0, 0), (255, 255, 255)] {
+        assert_eq!(table_of(&[first, 0, 0, second, 0, 0]).average(), Some([average, 0, 0]));
+        assert_eq!(table_of(&[0, 9, first, 0, 9, second]).average(), Some([0, 9, average]));
+    }
+    assert_eq!(table_of(&pixels_of((2, [0, 0, 0]), (1, [1, 1, 1]))).average(), Some([0; 3]));
 }
 
 #[test]

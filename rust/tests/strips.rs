@@ -49,6 +49,17 @@ fn a_table_in_strips_equals_the_whole() {
 }
 
 #[test]
+fn the_sums_are_those_of_the_pixels_however_they_are_cut() {
+    let raster = raster_of(20_000);
+    let sum = |channel: usize| raster.iter().skip(channel).step_by(3).map(|level| u64::from(*level)).sum();
+    let sums: [u64; 3] = [sum(0), sum(1), sum(2)];
+    for pixels in [1000, 4096, 20_000] {
+        let record = table_in_strips(&raster, pixels).record();
+        assert_eq!([record.red, record.green, record.blue], sums, "strips of {pixels}");
+    }
+}
+
+#[test]
 fn a_mapping_in_strips_equals_the_whole() {
     let raster = raster_of(20_000);
     let palette = run_of(&raster).shades.palette().unwrap();
@@ -66,8 +77,11 @@ fn a_mapping_in_strips_equals_the_whole() {
 fn a_stored_table_is_the_table() {
     let table = table_in_strips(&raster_of(5000), 5000);
     let stored = Table::from_parts(table.record(), table.keys().to_vec(), table.weights().to_vec()).unwrap();
-    assert_eq!(stored.room(), table.used());
+    let without_sums = Table::from_entries(table.keys().to_vec(), table.weights().to_vec()).unwrap();
+    assert_eq!((stored.room(), without_sums.room()), (table.used(), table.used()));
+    assert_eq!((stored.record(), without_sums.record()), (table.record(), table.record()));
     assert_eq!(stored.run(RunOptions::shades(9)), table.run(RunOptions::shades(9)));
+    assert_eq!(without_sums.run(RunOptions::shades(9)), table.run(RunOptions::shades(9)));
 }
 
 #[test]

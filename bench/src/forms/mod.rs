@@ -1,9 +1,9 @@
 //! The same jobs in plain Rust, in lent slices and local arrays under a mebibyte, with the same tests of their input.
 //!
-//! `table` with `merge::walk`, `rounds`, `run`, `blocks` and `header` are the usual forms: the proved library's methods
-//! without what it does for long tables, small ones, pixels that equal the one before, and colours that stay in their
-//! group. `merge::leap`, `first`, `onward` and `cells` are other methods that give the same answers, and on some
-//! pictures sooner.
+//! `table` with `is_table` and `merge::walk`, `rounds`, `run`, `blocks` and `header` are the usual forms: the proved
+//! library's methods without what it does for long tables, small ones, pixels that equal the one before, and colours
+//! that stay in their group. `is_table_packed`, `merge::leap`, `first`, `onward` and `cells` are other methods that
+//! give the same answers, and on some pictures sooner. Rounds and runs test their table by `is_table_packed`.
 #![allow(unsafe_code)]
 pub mod blocks;
 pub mod cells;

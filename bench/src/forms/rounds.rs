@@ -99,7 +99,7 @@ pub fn round(
     coordinates: &mut [u32],
     members: &mut [u32],
 ) -> [u64; 3] {
-    assert!(table::is_table(record, keys, weights), "bad table");
+    assert!(table::is_table_packed(record, keys, weights), "bad table");
     let mut shades = Shades::of(coordinates);
     let used = record.used as usize;
     let count = shades.count as u32;

@@ -5,15 +5,10 @@ use super::rounds::{group_short, Grouping};
 use super::{colour_of, distance, table, Point};
 use kohlenfloh::Record;
 
-/// The rounded mean of a table.
-fn mean_of(keys: &[u32], weights: &[u32]) -> Point {
-    let mut groups = Groups::new();
-    for (key, weight) in keys.iter().zip(weights) {
-        groups.join(*key, *weight, 0);
-    }
-    let mut shades = Shades { count: 1, at: [[0; 3]; 64] };
-    groups.move_shades(&mut shades);
-    shades.at[0]
+/// The rounded mean of a table, from the record's sums.
+fn mean_of(record: Record) -> Point {
+    let pixels = record.pixels;
+    [record.red, record.green, record.blue].map(|sum| ((32 * sum + pixels) / (2 * pixels)) as i32)
 }
 
 /// Lowers the kept distances to those to `shade`: the first place of the greatest that is left.
@@ -36,9 +31,9 @@ fn farthest(keys: &[u32], shade: Point, kept: &mut [u32]) -> usize {
 }
 
 /// The starting shades; every member is 0 then.
-fn starts(keys: &[u32], weights: &[u32], count: usize, members: &mut [u32]) -> Shades {
+fn starts(record: Record, keys: &[u32], count: usize, members: &mut [u32]) -> Shades {
     let mut shades = Shades { count, at: [[0; 3]; 64] };
-    shades.at[0] = mean_of(keys, weights);
+    shades.at[0] = mean_of(record);
     members.fill(u32::MAX);
     for number in 1..count {
         shades.at[number] = colour_of(keys[farthest(keys, shades.at[number - 1], members)]);
@@ -67,11 +62,11 @@ pub fn run(
     totals: &mut [u64],
     coordinates: &mut [u32],
 ) -> [u64; 4] {
-    assert!(table::is_table(record, keys, weights), "bad table");
+    assert!(table::is_table_packed(record, keys, weights), "bad table");
     let used = record.used as usize;
     assert!((1..=64).contains(&count) && count <= used && totals.len() <= 200 && members.len() >= used, "refused");
     let (keys, weights, members) = (&keys[..used], &weights[..used], &mut members[..used]);
-    let mut shades = starts(keys, weights, count, members);
+    let mut shades = starts(record, keys, count, members);
     let (mut rounds, mut settled, mut distances) = (0, 0, 0);
     let mut groups = Groups::new();
     while settled == 0 && rounds < totals.len() {

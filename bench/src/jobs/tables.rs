@@ -1,6 +1,7 @@
 //! Jobs of the table: a whole picture as one strip, a picture row by row, and the test of a table.
 use super::ACCEPTED;
 use crate::floors;
+use crate::forms::table::{is_table, is_table_packed, Adding};
 use crate::forms::{self, merge};
 use crate::pictures::Picture;
 use crate::race::{race, row, timed, Pace};
@@ -11,12 +12,12 @@ use kohlenfloh::{calls, Record};
 const ROOM: usize = 1 << 20;
 
 /// A table's record and used entries, to be compared.
-type Contents = (u64, Vec<u32>, Vec<u32>);
+type Contents = (Record, Vec<u32>, Vec<u32>);
 
 /// A table's contents of its own.
 fn contents(table: &Table) -> Contents {
-    let (pixels, keys, weights) = table.contents();
-    (pixels, keys.to_vec(), weights.to_vec())
+    let (record, keys, weights) = table.contents();
+    (record, keys.to_vec(), weights.to_vec())
 }
 
 /// Fills a table strip by strip, from nothing, by `add`: the seconds, and the contents.
@@ -33,12 +34,14 @@ pub fn proved(table: &mut Table, strip: &[u8]) {
 
 /// Adds a strip by the usual form in Rust.
 fn walked(table: &mut Table, strip: &[u8]) {
-    forms::table::add(merge::walk, &mut table.record, &mut table.keys, &mut table.weights, strip);
+    let adding = Adding { test: is_table, merge: merge::walk };
+    forms::table::add(adding, &mut table.record, &mut table.keys, &mut table.weights, strip);
 }
 
 /// Adds a strip by the other method in Rust.
 fn leapt(table: &mut Table, strip: &[u8]) {
-    forms::table::add(merge::leap, &mut table.record, &mut table.keys, &mut table.weights, strip);
+    let adding = Adding { test: is_table_packed, merge: merge::leap };
+    forms::table::add(adding, &mut table.record, &mut table.keys, &mut table.weights, strip);
 }
 
 /// Races the proved library and both Rust forms in filling a table in strips of so many bytes.
@@ -80,9 +83,9 @@ pub fn floor(pace: Pace, picture: &Picture) -> String {
     let [first, second, third] = &mut lent;
     let (mut counts, mut bits, mut before) = (vec![1; 1 << 24], vec![1; 1 << 18], vec![1; 1 << 18]);
     let (raster, pixels) = (&picture.raster, picture.pixels());
-    let floor = |table: &mut Table, job: &mut dyn FnMut(&mut [u32], &mut [u32]) -> usize| {
-        let (seconds, used) = timed(|| job(&mut table.keys, &mut table.weights));
-        table.record = Record::new(used as u64, pixels as u64);
+    let floor = |table: &mut Table, job: &mut dyn FnMut(&mut [u32], &mut [u32]) -> Record| {
+        let (seconds, record) = timed(|| job(&mut table.keys, &mut table.weights));
+        table.record = record;
         (seconds, contents(table))
     };
     let times = race(
@@ -100,14 +103,18 @@ pub fn floor(pace: Pace, picture: &Picture) -> String {
 
 /// The table's test: an empty strip is added.
 pub fn test(pace: Pace, picture: &Picture, table: &Table) {
-    let (mut first, mut second) = (table.clone(), table.clone());
+    let mut lent = [table.clone(), table.clone(), table.clone()];
+    let [first, second, third] = &mut lent;
     let empty = |table: &mut Table, add: fn(&mut Table, &[u8])| {
         let (seconds, ()) = timed(|| add(table, &[]));
         (seconds, table.record)
     };
-    let times =
-        race(pace, "the table's test", &mut [&mut || empty(&mut first, proved), &mut || empty(&mut second, walked)]);
-    row("the table's test", &picture.name, ("entry", table.used() as f64), &times, "");
+    let times = race(
+        pace,
+        "the table's test",
+        &mut [&mut || empty(first, proved), &mut || empty(second, walked), &mut || empty(third, leapt)],
+    );
+    row("the table's test", &picture.name, ("entry", table.used() as f64), &times, "packed sums");
 }
 
 /// One pixel of a new colour, below nearly all others, so that they move up; the plain form in Rust beside it.

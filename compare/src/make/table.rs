@@ -6,7 +6,7 @@ use kohlenfloh::Record;
 use super::colours::colour;
 use crate::ask::Table;
 use crate::chance::Chance;
-use crate::model::table::{bad_table, key_of};
+use crate::model::table::{good_table, key_of, sums_of};
 use crate::model::{MOST_ENTRIES, MOST_PIXELS};
 
 const MOST: u64 = MOST_PIXELS as u64;
@@ -17,12 +17,18 @@ pub fn table(chance: &mut Chance, levels: &[u8], most: usize) -> Table {
     let drawn: BTreeSet<u32> = (0..draws).map(|_| key_of(&colour(chance, levels))).collect();
     let mut keys: Vec<u32> = drawn.into_iter().collect();
     let mut weights = weights(chance, keys.len());
-    let record = Record::new(keys.len() as u64, sum(&weights));
+    let record = record_of(&keys, &weights);
     for slice in [&mut keys, &mut weights] {
         let spare = chance.one_of(&[0, 0, 1, 2, 5, 40]);
         slice.extend(chance.words(spare));
     }
     Table { record, keys, weights }
+}
+
+/// The record of some entries: every place is used, and what it tells is true.
+pub fn record_of(keys: &[u32], weights: &[u32]) -> Record {
+    let sums = sums_of(keys.iter().copied().zip(weights.iter().copied()));
+    Record::new(keys.len() as u64, sum(weights), sums.map(|sum| sum as u64))
 }
 
 /// The sum of some weights.
@@ -42,11 +48,64 @@ fn weights(chance: &mut Chance, count: usize) -> Vec<u32> {
     weights
 }
 
-/// Damages a good table in one way of those that document 01 lists; a bad one stays as it is.
+/// Damages a good table in one way of those that document 01 lists, or in its sums; a bad one stays as it is. Where the
+/// entries or the total are damaged, the sums are at times those of the damaged entries.
 pub fn damage(chance: &mut Chance, table: &mut Table) {
-    if bad_table(table).is_some() {
+    if !good_table(table) {
         return;
     }
+    if chance.one_in(2) {
+        let (way, one_more) = (chance.below(WAYS), 2 * chance.below(3));
+        table.record = untrue(table.record, way).or(untrue(table.record, one_more)).expect("a sum can be one more");
+        return;
+    }
+    damage_entries(chance, table);
+    let used = table.record.used as usize;
+    if chance.one_in(2) && used <= table.keys.len().min(table.weights.len()) {
+        let Record { red, green, blue, .. } = record_of(&table.keys[..used], &table.weights[..used]);
+        (table.record.red, table.record.green, table.record.blue) = (red, green, blue);
+    }
+}
+
+/// How many ways there are to make the sums of a record untrue.
+pub const WAYS: usize = 18;
+
+/// A true record with its sums made untrue in one way, or none where this way leads below 0 or leaves them true.
+pub fn untrue(record: Record, way: usize) -> Option<Record> {
+    let [red, green, blue] = [record.red, record.green, record.blue].map(i128::from);
+    let sums = match way {
+        // one off by one
+        0 => [red + 1, green, blue],
+        1 => [red - 1, green, blue],
+        2 => [red, green + 1, blue],
+        3 => [red, green - 1, blue],
+        4 => [red, green, blue + 1],
+        5 => [red, green, blue - 1],
+        // two off by one that cancel
+        6 => [red + 1, green - 1, blue],
+        7 => [red, green + 1, blue - 1],
+        8 => [red - 1, green, blue + 1],
+        // green and blue swapped
+        9 => [red, blue, green],
+        // as great as can be
+        10 => [i128::from(u64::MAX), green, blue],
+        11 => [red, green, i128::from(u64::MAX)],
+        // off by what 32 bits do not show, and by what 64 bits do not show of 65536 R
+        12 => [red, green + (1 << 32), blue],
+        13 => [red + (1 << 48), green, blue],
+        // off with 65536 R + 256 G + B as it is
+        14 => [red - 1, green + 256, blue],
+        15 => [red, green - 1, blue + 256],
+        16 => [red + 1, green, blue - 65536],
+        // off with that and 16777216 G + 65537 B as they are
+        _ => [red + 1, green - 16_777_472, blue + (1 << 32)],
+    };
+    let [Ok(red), Ok(green), Ok(blue)] = sums.map(u64::try_from) else { return None };
+    Some(Record::new(record.used, record.pixels, [red, green, blue])).filter(|untrue| *untrue != record)
+}
+
+/// Damages the entries of a good table, or what its record tells of their number and pixels.
+fn damage_entries(chance: &mut Chance, table: &mut Table) {
     let room = table.keys.len().min(table.weights.len());
     if table.used() == 0 || chance.one_in(4) {
         match chance.below(4) {

@@ -77,7 +77,7 @@ impl Model {
 
     /// The table of a raster, from an empty one.
     pub fn table_of(&mut self, raster: &[u8]) -> Result<Table, u32> {
-        let empty = Table { record: Record::new(0, 0), keys: vec![0; MOST_LISTED], weights: vec![0; MOST_LISTED] };
+        let empty = Table { record: Record::default(), keys: vec![0; MOST_LISTED], weights: vec![0; MOST_LISTED] };
         let added = accepted(self.add(&Add { table: empty, strip: raster.to_vec() }))?;
         Ok(Table::left_by(&added))
     }

@@ -1,4 +1,5 @@
-//! A plain model of document 01, written from its sentences; they stand in quotes above what does them.
+//! A plain model of document 01 and of what document 02 changes in it, written from their sentences; these stand in
+//! quotes above what does them.
 //!
 //! Nothing here is quick: full searches, wide sums, no packed numbers. The model notes which edge cases it meets, and
 //! can be bent by one slip, to show that the comparison notices it.

@@ -1,7 +1,6 @@
 //! A round, plain or shortened, and the call of a single one.
 use super::shade::{bad_centre, bad_coordinates, colours_of, coordinates_of, distance, shades_of, Colour, Point};
 use super::slip::Slip;
-use super::table::bad_table;
 use super::{when, Model, BAD_CENTRE, BAD_COUNT, BAD_MEMBER, BAD_TABLE, SHORT_ROOM};
 use crate::ask::{Round, Search};
 use crate::outcome::{Outcome, Values};
@@ -90,8 +89,9 @@ impl Model {
         // "a used entry's former shade number not below the count"
         let formers = ask.members.iter().take(used);
         let bad_member = ask.search == Search::Shortened && formers.clone().any(|&former| former as usize >= count);
+        let bad_table = self.bad_table(&ask.table);
         let refusal = self.first_of(&[
-            (BAD_TABLE, bad_table(&ask.table)),
+            (BAD_TABLE, bad_table),
             (BAD_COUNT, bad_coordinates(&ask.coordinates)),
             (BAD_CENTRE, bad_centre(&ask.coordinates)),
             (SHORT_ROOM, short),

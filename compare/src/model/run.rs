@@ -2,9 +2,9 @@
 use super::round::total_of;
 use super::shade::{colours_of, coordinates_of, distance, Colour, Point};
 use super::slip::Slip;
-use super::table::bad_table;
-use super::{when, Model, BAD_COUNT, BAD_LIMIT, BAD_TABLE, FEW_COLOURS, MOST_SHADES, SHORT_ROOM};
-use crate::ask::Run;
+use super::table::sums_told;
+use super::{when, Model, BAD_COUNT, BAD_LIMIT, BAD_TABLE, FEW_COLOURS, MOST_COORDINATE, MOST_SHADES, SHORT_ROOM};
+use crate::ask::{Run, Table};
 use crate::outcome::{Outcome, Values};
 
 /// What an accepted run makes.
@@ -29,14 +29,30 @@ pub fn limit_meant(limit: usize) -> usize {
 }
 
 impl Model {
-    /// "Shade 0 is the rounded mean of the whole table, weights counted. Each next shade is the table colour whose
-    /// distance to its nearest chosen shade is greatest; at a tie, the lowest key".
-    pub fn starts(&mut self, colours: &[Colour], count: usize) -> Vec<Point> {
-        let mut counted = colours.to_vec();
+    /// "Shade 0 is the rounded mean of the whole table, weights counted." It "reads its mean from" the sums (document
+    /// 02), which are in whole levels, and shades in sixteenths.
+    fn shade_zero(&mut self, table: &Table) -> Point {
         if self.slips(Slip::LeavesWeightsOutOfShadeZero) {
+            let mut counted = colours_of(table);
             counted.iter_mut().for_each(|colour| colour.weight = 1);
+            return self.mean_of(&counted);
         }
-        let mut chosen = vec![self.mean_of(&counted)];
+        let pixels = u128::from(table.record.pixels);
+        sums_told(table.record).map(|sum| {
+            self.meet_if(32 * sum % (2 * pixels) == pixels, "shade 0 at a half");
+            if self.slips(Slip::ReadsShadeZeroWithoutHalvesUp) {
+                return (16 * sum / pixels) as i64;
+            }
+            // No mean of a table is above 4080; a model that takes any sum may meet one.
+            self.rounded_mean((16 * sum).min(u128::from(MOST_COORDINATE) * pixels), pixels)
+        })
+    }
+
+    /// Shade 0, and "Each next shade is the table colour whose distance to its nearest chosen shade is greatest; at a
+    /// tie, the lowest key".
+    pub fn starts(&mut self, table: &Table, count: usize) -> Vec<Point> {
+        let colours = colours_of(table);
+        let mut chosen = vec![self.shade_zero(table)];
         while chosen.len() < count {
             let to_nearest = |colour: &Colour| chosen.iter().map(|&shade| distance(colour.point, shade)).min();
             let all: Vec<_> = colours.iter().map(to_nearest).collect();
@@ -51,8 +67,9 @@ impl Model {
 
     /// "A run starts with every colour in shade 0, uses shortened rounds, and ends with the first round that moves no
     /// shade ("settled") or at the round limit."
-    fn rounds(&mut self, colours: &[Colour], count: usize, limit: usize) -> Made {
-        let mut shades = self.starts(colours, count);
+    fn rounds(&mut self, table: &Table, count: usize, limit: usize) -> Made {
+        let colours = &colours_of(table);
+        let mut shades = self.starts(table, count);
         let mut made =
             Made { members: vec![0; colours.len()], totals: vec![], shades: vec![], settled: false, distances: 0 };
         while made.totals.len() < limit && !made.settled {
@@ -85,8 +102,9 @@ impl Model {
         // "members fewer than the used entries; totals fewer than the round limit (100 for 0)"
         let short_members = when((ask.members.len() as u128) < used, "members fewer than used");
         let short_totals = when(ask.totals.len() < limit, "totals fewer than the limit");
+        let bad_table = self.bad_table(&ask.table);
         let refusal = self.first_of(&[
-            (BAD_TABLE, bad_table(&ask.table)),
+            (BAD_TABLE, bad_table),
             (BAD_COUNT, when(ask.count < 1, "a count of 0")),
             (BAD_COUNT, when(ask.count > MOST_SHADES, "a count above 64")),
             (FEW_COLOURS, when(ask.count as u128 > used, "more shades than used entries")),
@@ -101,11 +119,10 @@ impl Model {
         let mut members = ask.members.clone();
         let mut totals = ask.totals.clone();
         if refusal == 0 {
-            let colours = colours_of(&ask.table);
-            let made = self.rounds(&colours, ask.count, limit);
+            let made = self.rounds(&ask.table, ask.count, limit);
             self.meet_if(ask.limit == 0 && made.totals.len() > 20, "a limit of 0 and more than 20 rounds");
             // "the final total: the last grouping against the final shades"
-            let total = total_of(&colours, &made.members, &made.shades);
+            let total = total_of(&colours_of(&ask.table), &made.members, &made.shades);
             answer = [made.totals.len() as u64, made.settled.into(), made.distances, total as u64];
             // "answered shades past the count are zeros"
             coordinates[..3 * ask.count].copy_from_slice(&coordinates_of(&made.shades));

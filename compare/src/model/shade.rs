@@ -58,7 +58,7 @@ pub fn bad_centre(coordinates: &[u32]) -> Option<&'static str> {
 impl Model {
     /// "Rounded mean of a group of pixel count W and coordinate sum S (in sixteenths): the whole part of
     /// (2S + W) / (2W), so halves go up."
-    fn rounded_mean(&mut self, sum: u128, pixels: u128) -> i64 {
+    pub fn rounded_mean(&mut self, sum: u128, pixels: u128) -> i64 {
         self.meet_if(2 * sum % (2 * pixels) == pixels, "a mean at a half");
         if self.slips(Slip::RoundsMeansDown) {
             return (sum / pixels) as i64;

@@ -1,4 +1,4 @@
-//! Slips that document 01 wants shut out, and some of the same kind: one at a time bends the model.
+//! Slips that documents 01 and 02 want shut out, and some of the same kind: one at a time bends the model.
 
 /// A slip, named after what the bent model does.
 #[derive(Clone, Copy, Debug, PartialEq)]
@@ -14,10 +14,16 @@ pub enum Slip {
     PutsTheOffsetOneTooFar,
     TakesALimitOfZeroAsTwenty,
     TakesALimitOfZeroAsNinetyNine,
+    TakesAnyRedSum,
+    SwapsGreenAndBlueSums,
+    SumsPixelsThatWereNotTaken,
+    LeavesWeightsOutOfTheSums,
+    KeepsTheSumsOfTheRecordBefore,
+    ReadsShadeZeroWithoutHalvesUp,
 }
 
 /// Every slip.
-pub const SLIPS: [Slip; 11] = [
+pub const SLIPS: [Slip; 17] = [
     Slip::SkipsAShadeAtExactlyFourD,
     Slip::RoundsMeansDown,
     Slip::RecordsTheTotalAfterTheMove,
@@ -29,6 +35,12 @@ pub const SLIPS: [Slip; 11] = [
     Slip::PutsTheOffsetOneTooFar,
     Slip::TakesALimitOfZeroAsTwenty,
     Slip::TakesALimitOfZeroAsNinetyNine,
+    Slip::TakesAnyRedSum,
+    Slip::SwapsGreenAndBlueSums,
+    Slip::SumsPixelsThatWereNotTaken,
+    Slip::LeavesWeightsOutOfTheSums,
+    Slip::KeepsTheSumsOfTheRecordBefore,
+    Slip::ReadsShadeZeroWithoutHalvesUp,
 ];
 
 /// Slips of the listing program, which the calls of the library do not show.

@@ -20,6 +20,8 @@ pub const SUBJECT: Subject = Subject {
         "FULL by room",
         "FULL with nothing taken",
         "FULL with pixels taken",
+        "FULL before a level that is not 0",
+        "a bad strip on an untrue record",
     ],
     refuses: &[1, 2, 3],
 };

@@ -1,5 +1,5 @@
-//! The boundaries that document 01 names, met on purpose: the largest table and picture, and each bound from both
-//! sides. The model computes these too; it only takes longer.
+//! The boundaries that the documents name, met on purpose: the largest table, sums and picture, and each bound from
+//! both sides. The model computes these too; it only takes longer.
 use kohlenfloh::Record;
 
 use super::Subject;
@@ -8,6 +8,7 @@ use crate::bench::Bench;
 use crate::chance::Chance;
 use crate::library;
 use crate::make::shades;
+use crate::make::table::record_of;
 use crate::model::{Model, BAD_COUNT, BAD_LIMIT, BAD_SIZE, BAD_TABLE, FULL, MANY_PIXELS, MOST_SHADES, SHORT_ROOM};
 use crate::outcome::{Difference, Outcome};
 
@@ -26,7 +27,9 @@ pub const SUBJECT: Subject = Subject {
 fn one_case(bench: &mut Bench, chance: &mut Chance) -> Result<(), Difference> {
     let table = most_entries(bench, chance)?;
     on_most_entries(bench, chance, table)?;
+    greatest_weights(bench)?;
     most_pixels(bench)?;
+    greatest_sums(bench)?;
     numbers_of_shades(bench, chance)?;
     numbers_of_rounds(bench, chance)?;
     rounds_past_the_usual_limit(bench)?;
@@ -66,14 +69,12 @@ fn most_entries(bench: &mut Bench, chance: &mut Chance) -> Result<Table, Differe
     let table = add(bench, FULL, &Add { table, strip: unknown.to_vec() })?;
     let table = add(bench, 0, &Add { table, strip: known.to_vec() })?;
     let mut table = add(bench, FULL, &Add { table, strip: [known, unknown, known].concat() })?;
-    table.record.used += 1;
-    let last = table.record.used as usize - 1;
+    let before = table.clone();
+    let last = table.used();
     (table.keys[last], table.weights[last]) = (16_777_215, 1);
-    table.record.pixels += 1;
-    let mut table = add(bench, BAD_TABLE, &Add { table, strip: Vec::new() })?;
-    table.record.used -= 1;
-    table.record.pixels -= 1;
-    Ok(table)
+    table.record = record_of(&table.keys[..=last], &table.weights[..=last]);
+    add(bench, BAD_TABLE, &Add { table, strip: Vec::new() })?;
+    Ok(before)
 }
 
 /// Rounds and a short run on the table of 1,048,576 entries.
@@ -92,16 +93,70 @@ fn on_most_entries(bench: &mut Bench, chance: &mut Chance, table: Table) -> Resu
     refused_by(SHORT_ROOM, bench.compare(&run, library::run, Model::run)?).map(drop)
 }
 
+/// A table is bad for every call that takes one.
+fn bad_for_all(bench: &mut Bench, table: &Table) -> Result<(), Difference> {
+    add(bench, BAD_TABLE, &Add { table: table.clone(), strip: vec![1, 2, 3] })?;
+    let members = vec![0; table.keys.len()];
+    for search in [Search::Plain, Search::Shortened] {
+        let (coordinates, members) = (vec![16; 6], members.clone());
+        let round = Round { search, table: table.clone(), coordinates, members };
+        refused_by(BAD_TABLE, bench.compare(&round, library::round, Model::round)?)?;
+    }
+    let run = Run { table: table.clone(), count: 2, limit: 1, members, totals: vec![7; 1] };
+    refused_by(BAD_TABLE, bench.compare(&run, library::run, Model::run)?).map(drop)
+}
+
+/// 1,048,576 weights of 2^32 - 1 each: the record tells total and sums as they are, or the most pixels; and one weight
+/// less, with which the total and the sums told are what 32 bits hold of them.
+fn greatest_weights(bench: &mut Bench) -> Result<(), Difference> {
+    let keys: Vec<u32> = (0..ENTRIES as u32).map(|place| 16 * place + 15).collect();
+    let mut weights = vec![u32::MAX; ENTRIES];
+    let mut table = Table { record: record_of(&keys, &weights), keys: keys.clone(), weights: weights.clone() };
+    bad_for_all(bench, &table)?;
+    table.record.pixels = PIXELS as u64;
+    bad_for_all(bench, &table)?;
+    weights[0] = 2 * ENTRIES as u32;
+    let Record { used, pixels, red, green, blue, .. } = record_of(&keys, &weights);
+    let [pixels, red, green, blue] = [pixels, red, green, blue].map(|one| one % (1 << 32));
+    Difference::unless_equal("pixels told by 32 bits", pixels, ENTRIES as u64 + 1)?;
+    bad_for_all(bench, &Table { record: Record::new(used, pixels, [red, green, blue]), keys, weights })
+}
+
+/// 16,777,216 pixels of level 255 in each channel, by one strip and by its last pixel: sums of 4,278,190,080, which 32
+/// bits hold; no others are taken for them.
+fn greatest_sums(bench: &mut Bench) -> Result<(), Difference> {
+    let table = Table { record: Record::default(), keys: vec![0; 2], weights: vec![0; 2] };
+    let table = add(bench, 0, &Add { table, strip: vec![255; 3 * PIXELS] })?;
+    let greatest = 255 * PIXELS as u64;
+    Difference::unless_equal("greatest sums", table.record, Record::new(1, PIXELS as u64, [greatest; 3]))?;
+    Difference::unless_equal("the greatest sum", greatest, 4_278_190_080)?;
+    let table = add(bench, FULL, &Add { table, strip: vec![255; 3] })?;
+    let run = Run { table: table.clone(), count: 1, limit: 0, members: vec![9; 1], totals: vec![7; 100] };
+    let seen = refused_by(0, bench.compare(&run, library::run, Model::run)?)?;
+    Difference::unless_equal("the shade of white", &seen.words("shades")[..3], &[4080; 3])?;
+    for sum in [greatest - 1, greatest + 1, greatest + (1 << 32), 0] {
+        for channel in 0..3 {
+            let mut sums = [greatest; 3];
+            sums[channel] = sum;
+            bad_for_all(bench, &Table { record: Record::new(1, PIXELS as u64, sums), ..table.clone() })?;
+        }
+    }
+    let (keys, weights) = (vec![16_777_215], vec![PIXELS as u32 - 1]);
+    let table = Table { record: record_of(&keys, &weights), keys, weights };
+    let table = add(bench, FULL, &Add { table, strip: vec![255; 6] })?;
+    Difference::unless_equal("greatest sums by one pixel", table.record.green, greatest)
+}
+
 /// 16,777,216 pixels, all but a few of them in one strip: one more is not taken, none more is.
 fn most_pixels(bench: &mut Bench) -> Result<(), Difference> {
-    let table = Table { record: Record::new(1, 2), keys: vec![9, 0, 0, 8], weights: vec![2, 0, 0, 8] };
+    let table = Table { record: record_of(&[9], &[2]), keys: vec![9, 0, 0, 8], weights: vec![2, 0, 0, 8] };
     let strip = [pixel(9), pixel(70_000)].concat().repeat((PIXELS - 2) / 2);
     let table = add(bench, 0, &Add { table, strip })?;
     Difference::unless_equal("pixels of a full table", table.record.pixels, PIXELS as u64)?;
     let table = add(bench, FULL, &Add { table, strip: pixel(9).to_vec() })?;
     let mut table = add(bench, 0, &Add { table, strip: Vec::new() })?;
     table.weights[0] -= 1;
-    table.record.pixels -= 1;
+    table.record = record_of(&table.keys[..2], &table.weights[..2]);
     add(bench, FULL, &Add { table, strip: [pixel(9), pixel(9)].concat() }).map(drop)
 }
 
@@ -110,7 +165,8 @@ fn colours(count: usize) -> Table {
     let keys = (0..count).map(|number| (number * 7919 % 256 + 65536 * (number % 200)) as u32);
     let mut keys: Vec<u32> = keys.collect();
     keys.sort_unstable();
-    Table { record: Record::new(count as u64, count as u64), keys, weights: vec![1; count] }
+    let weights = vec![1; count];
+    Table { record: record_of(&keys, &weights), keys, weights }
 }
 
 /// 64 shades are accepted and 65 are not, by the run, by both rounds and by the palette.

@@ -9,6 +9,7 @@ mod picture;
 mod rounds;
 mod run;
 mod strips;
+mod tables;
 
 use crate::bench::Bench;
 use crate::chance::Chance;
@@ -25,7 +26,7 @@ pub struct Subject {
 }
 
 /// Every subject.
-pub const SUBJECTS: [Subject; 9] = [
+pub const SUBJECTS: [Subject; 10] = [
     add::SUBJECT,
     rounds::SUBJECT,
     run::SUBJECT,
@@ -33,18 +34,30 @@ pub const SUBJECTS: [Subject; 9] = [
     map::SUBJECT,
     picture::SUBJECT,
     strips::SUBJECT,
+    tables::SUBJECT,
     boundaries::SUBJECT,
     netpbm::SUBJECT,
 ];
 
-/// What the parts of BAD TABLE are called where the model meets them.
-const BAD_TABLES: [&str; 6] = [
+/// What the parts of BAD TABLE are called where the model meets them, and the ways in which sums are untrue.
+const BAD_TABLES: [&str; 17] = [
     "used above the room",
     "a key above 16,777,215",
     "a key not above the one before",
     "a weight of 0",
     "a pixel total that is not the sum",
     "a pixel total above 16,777,216",
+    "a channel sum that is not that of the entries",
+    "a sum and no used entry",
+    "a red sum off by one",
+    "a green sum off by one",
+    "a blue sum off by one",
+    "two sums off by one that cancel",
+    "green and blue sums swapped",
+    "a sum of 2^64 - 1",
+    "a sum off by 2^32 or 2^48",
+    "sums off that agree in 65536 R + 256 G + B",
+    "sums off that agree in 16777216 G + 65537 B too",
 ];
 
 /// A failed case: its number (none where the cases as a whole fail), what failed, and what was asked.

@@ -23,6 +23,7 @@ pub const SUBJECT: Subject = Subject {
         "a gap of exactly 4d",
         "an empty group",
         "a mean at a half",
+        "shade 0 at a half",
         "settled",
         "not settled",
         "settled at the limit",
@@ -79,8 +80,11 @@ fn one_case(bench: &mut Bench, chance: &mut Chance) -> Result<(), Difference> {
 /// The run made again by single shortened rounds of the library, from the model's starts.
 fn by_single_rounds(bench: &mut Bench, ask: &Run, seen: &Outcome) -> Result<(), Difference> {
     let answer = seen.longs("rounds, settled, distances, final total");
-    let colours = colours_of(&ask.table);
-    let coordinates = coordinates_of(&bench.model.starts(&colours, ask.count));
+    let starts = bench.model.starts(&ask.table, ask.count);
+    // "All runs answer as before" (document 02): shade 0 is the mean of the table's colours too.
+    let mean = bench.model.mean_of(&colours_of(&ask.table));
+    Difference::unless_equal("shade 0, by the table's colours", starts[0], mean)?;
+    let coordinates = coordinates_of(&starts);
     let members = vec![0; ask.table.used()];
     let mut round = Round { search: Search::Shortened, table: ask.table.clone(), coordinates, members };
     let mut distances = 0;

@@ -11,9 +11,12 @@ use Rattle.arrays.specs.Arrays.{recordIn, recordNumbers}
 pub record-kept : (rec : Record) → recordIn (recordNumbers rec) ≡ rec
 record-kept rec = refl
 
--- an array of two numbers is that of the record in it
-pub array-kept : (s : List ℕ) → length s ≡ 2 → recordNumbers (recordIn s) ≡ s
+-- an array of five numbers is that of the record in it
+pub array-kept : (s : List ℕ) → length s ≡ 5 → recordNumbers (recordIn s) ≡ s
 array-kept [] e = absurd (omega arith)
-array-kept (x ∷ []) e = absurd (omega arith)
-array-kept (x ∷ y ∷ []) e = refl
-array-kept (x ∷ y ∷ z ∷ s) e = absurd (omega arith)
+array-kept (u ∷ []) e = absurd (omega arith)
+array-kept (u ∷ p ∷ []) e = absurd (omega arith)
+array-kept (u ∷ p ∷ r ∷ []) e = absurd (omega arith)
+array-kept (u ∷ p ∷ r ∷ g ∷ []) e = absurd (omega arith)
+array-kept (u ∷ p ∷ r ∷ g ∷ b ∷ []) e = refl
+array-kept (u ∷ p ∷ r ∷ g ∷ b ∷ x ∷ s) e = absurd (omega arith)

@@ -12,13 +12,19 @@ use Rattle.figures.specs.{zeroFigure, meanNumber}
 use Rattle.mapping.specs.{Mapped}
 use Rattle.p6.specs.{Picture}
 
--- the record in an array: used entries, pixels
+-- the record in an array: used entries, pixels, and the sums of R, G and B
 abbrev pub recordIn : List ℕ → Record
-recordIn s = record { used = getD s 0 0; pixels = getD s 1 0 }
+recordIn s = record {
+  used = getD s 0 0;
+  pixels = getD s 1 0;
+  red = getD s 2 0;
+  green = getD s 3 0;
+  blue = getD s 4 0;
+}
 
 -- a record as an array
 abbrev pub recordNumbers : Record → List ℕ
-recordNumbers rec = rec .used ∷ rec .pixels ∷ []
+recordNumbers rec = rec .used ∷ rec .pixels ∷ rec .red ∷ rec .green ∷ rec .blue ∷ []
 
 -- the answer of a round: total, shades moved, distances
 abbrev pub roundNumbers : Rounded → List ℕ

@@ -1,5 +1,5 @@
 -- Glossary.
---   recordIn          the record in an array of two numbers
+--   recordIn          the record in an array of five numbers
 --   recordNumbers     a record as such an array
 --   roundNumbers      the answer of a round in an array: total, shades moved, distances
 --   runNumbers        that of a run: rounds, settled, distances, final total

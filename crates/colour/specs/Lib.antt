@@ -8,6 +8,7 @@
 --   mostCoordinate      4080, sixteen times 255
 --   mostDistance        49939200, three times the square of 4080
 --   mostPixels          16777216
+--   mostSum             4278190080, 255 times the most pixels
 --   Within m p          no coordinate of p is above m
 --   sixteenth level     16 * level
 --   colourOf key        the point at which the key's colour stands
@@ -21,7 +22,7 @@ pub mod Points
 pub mod Strips
 unfoldable pub use Key.{mostLevel, mostKey, keyOf, redOf, greenOf, blueOf}
 pub use Key.{Levels}
-unfoldable pub use Points.{mostCoordinate, mostDistance, mostPixels, sixteenth, colourOf, distance}
+unfoldable pub use Points.{mostCoordinate, mostDistance, mostPixels, mostSum, sixteenth, colourOf, distance}
 pub use Points.{Within}
 pub use declared.Point.{Point}
 unfoldable pub use Strips.{badStrip, Bytes, joinedStrips, EachWhole}

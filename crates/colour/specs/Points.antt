@@ -16,6 +16,10 @@ mostDistance = 49939200
 abbrev pub mostPixels : ℕ
 mostPixels = 16777216
 
+-- the greatest sum of a channel: level 255 for each of the most pixels
+abbrev pub mostSum : ℕ
+mostSum = 4278190080
+
 -- no coordinate of the point is above m
 pub record Within (m : ℕ) (p : Point) : Type 0 where
   pub r-low : p .r ≤ m

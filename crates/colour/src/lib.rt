@@ -39,6 +39,9 @@ pub const MOST_COORDINATE: u32 = 4080;
 // The most pixels of a table, and so of a group.
 pub const MOST_PIXELS: u64 = 16777216;
 
+// The greatest sum of a channel's levels: 255 for each of the most pixels.
+pub const MOST_SUM: u64 = 4278190080;
+
 // A point of the grid: three coordinates in sixteenths of a level. A shade is one, and a colour
 // stands at one.
 pub struct Point {

@@ -1,10 +1,9 @@
 -- Sums that stand two in one number: taken apart, they are the pixel count and the three coordinate sums.
 use Prim.Native.Nat.{ℕ, zero, suc, _+_, _*_, _/_, _%_, _≤_, _<_}
 use mathlib.Core.Path.{_≡_, refl, _∙_}
-use native.Mathlib.Nat.{mul-le-mul-left}
 use native.Mathlib.Omega.{arith}
 use Rattle.number.specs.{sum, roundedMean}
-use Rattle.number.proofs.Sums.{sum-add, sum-eq, sum-le, sum-mul}
+use Rattle.number.proofs.Sums.{sum-add, sum-eq, sum-mul, sum-weighed}
 use Rattle.colour.specs.{mostLevel, mostCoordinate, mostPixels, redOf, greenOf, blueOf, colourOf}
 use Rattle.level_sums.specs.{redGreen, bluePixels}
 use Rattle.shades.specs.{axis}
@@ -26,13 +25,7 @@ module _ (n : ℕ) (w key : ℕ → ℕ) where
 
   -- it is at most 255 for each pixel
   level-low : (f : ℕ → ℕ) → ((k : ℕ) → f k ≤ mostLevel) → level f ≤ mostLevel * sum n w
-  level-low f low =
-      omega (
-        arith,
-        sum-le n (λ i. w i * f (key i)) (λ i. mostLevel * w i)
-            (λ i l. omega (arith, mul-le-mul-left (w i) (low (key i)))),
-        sum-mul n mostLevel (λ i. mostLevel * w i) w (λ i l. refl),
-      )
+  level-low f low = sum-weighed n mostLevel w (λ i. f (key i)) (λ i. low (key i))
 
   -- in sixteenths it is a coordinate sum
   level-sixteenths : (f : ℕ → ℕ) → sum n (λ i. w i * (16 * f (key i))) ≡ 16 * level f

@@ -98,8 +98,8 @@ pub add-refused : (s ks ws strip : List ℕ) (n : Refusal) → handsBack (number
     → (rec ≡ recordNumbers (recordIn s)) × (ks′ ≡ ks) × (ws′ ≡ ws) × (t ≡ 0 ∷ [])
 add-refused = refusing.add-refused
 
--- The record's array, which has two numbers, is then as it came.
-pub record-as-it-came : (s ks ws strip : List ℕ) (n : Refusal) → handsBack (numberOf n) ≡ true → length s ≡ 2
+-- The record's array, which has five numbers, is then as it came.
+pub record-as-it-came : (s ks ws strip : List ℕ) (n : Refusal) → handsBack (numberOf n) ≡ true → length s ≡ 5
     → {rec ks′ ws′ t : List ℕ} → AddCrosses (addStrip (recordIn s) ks ws strip) (numberOf n) rec ks′ ws′ t → rec ≡ s
 record-as-it-came = refusing.record-as-it-came
 

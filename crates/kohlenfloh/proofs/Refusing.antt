@@ -42,8 +42,8 @@ add-refused s ks ws strip n back c =
       c .taken-is ∙ ap (λ o. o .answer .taken ∷ []) e,
     )
 
--- in an array of two numbers the record is as it came
-pub record-as-it-came : (s ks ws strip : List ℕ) (n : Refusal) → handsBack (numberOf n) ≡ true → length s ≡ 2
+-- in an array of five numbers the record is as it came
+pub record-as-it-came : (s ks ws strip : List ℕ) (n : Refusal) → handsBack (numberOf n) ≡ true → length s ≡ 5
     → {rec ks′ ws′ t : List ℕ} → AddCrosses (addStrip (recordIn s) ks ws strip) (numberOf n) rec ks′ ws′ t → rec ≡ s
 record-as-it-came s ks ws strip n back two c = add-refused s ks ws strip n back c .0 ∙ array-kept s two
 

@@ -9,7 +9,7 @@ ghost use Rattle.kohlenfloh.specs.Crossing.{AddCrosses};
 // 0 taken; 3 leaves the record and the table of the pixels taken.
 #[no_mangle]
 pub extern "C" fn kf_add_strip(
-    rec: &mut [u64; 2],
+    rec: &mut [u64; 5],
     keys: &mut [u32],
     weights: &mut [u32],
     strip: &[u8],

@@ -10,7 +10,7 @@ ghost use Rattle.kohlenfloh.specs.Crossing.{RoundCrosses, RunCrosses};
 // answer and both slices as they came.
 #[no_mangle]
 pub extern "C" fn kf_plain_round(
-    rec: &[u64; 2],
+    rec: &[u64; 5],
     keys: &[u32],
     weights: &[u32],
     coordinates: &mut [u32],
@@ -32,7 +32,7 @@ pub extern "C" fn kf_plain_round(
 // zeros in the answer and both slices as they came.
 #[no_mangle]
 pub extern "C" fn kf_short_round(
-    rec: &[u64; 2],
+    rec: &[u64; 5],
     keys: &[u32],
     weights: &[u32],
     coordinates: &mut [u32],
@@ -54,7 +54,7 @@ pub extern "C" fn kf_short_round(
 // zeros in shades and answer, and members and totals as they came.
 #[no_mangle]
 pub extern "C" fn kf_run(
-    rec: &[u64; 2],
+    rec: &[u64; 5],
     keys: &[u32],
     weights: &[u32],
     count: usize,

@@ -55,7 +55,3 @@ module _ (used : ℕ) (ks ws : List ℕ) (t : Tabled used ks ws) where
     -- an entry has at most two levels for each of its pixels
     pub weighed-low : (i : ℕ) → weighed f ks ws i ≤ mostPair * getD ws i 0
     weighed-low i = omega (arith, mul-le-mul-left (getD ws i 0) (low (getD ks i 0)))
-
-    -- what entry i adds to the sum over all entries fits
-    pub whole-adds-fit : (i : ℕ) → i < used → sum i (weighed f ks ws) + weighed f ks ws i ≤ 18446744073709551615
-    whole-adds-fit i h = part-fits (weighed f ks ws) weighed-low i h

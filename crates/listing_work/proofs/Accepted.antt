@@ -57,6 +57,9 @@ empty-good ks ws = record {
   weights = λ p h. absurd (omega arith);
   pixels = refl;
   most = omega arith;
+  reds = refl;
+  greens = refl;
+  blues = refl;
 }
 
 module _ (p : List ℕ) (ok : firstOf (smallRows p) ≡ done) where

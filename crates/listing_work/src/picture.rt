@@ -73,7 +73,13 @@ pub fn work_picture(picture: &[u8], count: usize) -> Work
     let raster = p6::raster_of(picture);
     let mut keys = [0u32; 8192];
     let mut weights = [0u32; 8192];
-    let empty = Record { used: 0, pixels: 0 };
+    let empty = Record {
+        used: 0,
+        pixels: 0,
+        red: 0,
+        green: 0,
+        blue: 0,
+    };
     let added = table::add_strip(empty, &mut keys, &mut weights, raster);
     let rec = added.rec;
     let mut members = [0u32; 8192];

@@ -12,7 +12,9 @@ use Rattle.method.specs.{coloursOf, pixelsIn, meanOf, onMean, toMean, begin, Jo
 use Rattle.method.proofs.Begins.{begin-joined, mean-low}
 use Rattle.method.proofs.Costs.{to-mean-good}
 use Rattle.method.proofs.Sizes.{fair-of-table}
+use Rattle.starts.specs.{meanBySums}
 use Rattle.rounds.specs.{Runnable}
+use Rattle.rounds.proofs.Records.{mean-of-record}
 use Rattle.lloyd_tests.specs.{limitOf}
 use Rattle.lloyd_tests.proofs.Promises.{few-colours-exactly}
 use Rattle.lloyd_refusal.specs.{runRows}
@@ -56,6 +58,11 @@ module _ {rec : Record} {ks ws : List ℕ} {k limit : ℕ} {ms ts : List ℕ} {r
   first-is-mean =
       beginnings.start-is-given (bad-table-exactly rec ks ws .0 (tests .table)) (onMean (coloursOf (rec .used) ks ws))
       k ms (able .few) 0 (able .some) (omega arith)
+
+  -- as the record's sums give it
+  pub first-by-sums : shadeAt (begin (coloursOf (rec .used) ks ws) k ms .coordinates) 0
+      ≡ meanBySums (rec .pixels) (rec .red) (rec .green) (rec .blue)
+  first-by-sums = first-is-mean ∙ sym (mean-of-record (bad-table-exactly rec ks ws .0 (tests .table)))
 
   -- each next one is the farthest colour from those before it
   pub start-is-farthest : (q : ℕ) → q + 1 < k

@@ -39,6 +39,8 @@ pub mod Runs
 pub use Runs.{run-accepted}
 -- it begins with the rounded mean of the table, and then each time with the farthest colour
 pub use Runs.{first-is-mean, start-is-farthest}
+-- that mean is read from the record's channel sums
+pub use Runs.{first-by-sums}
 -- it begins with shades in different places
 pub use Runs.{starts-differ}
 -- it makes rounds up to the limit or the first that moves no shade
@@ -69,8 +71,8 @@ pub mod Calls
 pub use Calls.{run-only}
 -- a run with limit 0 is the run with limit 100, and a settled one is the same with any limit that has its rounds
 pub use Calls.{run-of-usual, settled-at-any-limit}
--- a run depends on the used entries alone
-pub use Calls.{run-of-used}
+-- a run depends on the used entries alone, and of the record on how many they are and on whether it is true
+pub use Calls.{run-of-used, run-by-truth}
 -- its rounds are calls of short_round, one after the other, each accepted, with its totals and distances
 pub use Calls.{calls-are-rounds, call-accepted, call-total, call-moved, calls-distances, calls-leave}
 -- a single round on what a settled run leaves changes nothing

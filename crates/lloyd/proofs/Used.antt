@@ -1,16 +1,17 @@
--- A run depends on the used entries alone: what the slices of a table have past them is not read.
+-- A run depends on the used entries alone: what the slices of a table have past them is not read. Of the record it
+-- depends on how many are used and on whether it is true.
 use Prim.Native.Nat.{ℕ, _≤_, _<_}
-use mathlib.Core.Bool.{Bool}
-use mathlib.Core.List.{List}
+use mathlib.Core.Bool.{Bool, _||_}
+use mathlib.Core.List.{List, [], _∷_}
 use mathlib.Core.Logic.{inl, inr}
 use mathlib.Core.Path.{_≡_, sym, ap, ap₂, fun-ext, _∙_}
 use lib.Dec.{ltb}
-use lib.ListN.{getD}
+use lib.ListN.{getD, length}
 use Rattle.number.specs.{sum, fill, firstThat}
-use Rattle.refusal.specs.{done, firstOf}
+use Rattle.refusal.specs.{row, done, firstOf, BAD-TABLE, BAD-COUNT, FEW-COLOURS, BAD-LIMIT, SHORT-ROOM}
 use Rattle.refusal.proofs.Promises.{done-or-refusal}
 use Rattle.colour.specs.{colourOf}
-use Rattle.table_test.specs.{Record, roomOf}
+use Rattle.table_test.specs.{Record, roomOf, badTable}
 use Rattle.table_test.proofs.Goods.{bad-table-alike}
 use Rattle.shades.specs.{colourAt}
 use Rattle.method.specs.{
@@ -23,12 +24,13 @@ use Rattle.method.specs.{
   shortDistances,
   finalOf,
   roundsMade,
+  onMean,
   begin,
 }
 use Rattle.method.proofs.Used.{total-alike, distances-alike, final-alike, after-alike, quiet-alike, begin-alike}
-use Rattle.lloyd_tests.specs.{limitOf}
+use Rattle.lloyd_tests.specs.{limitOf, badCount, badLimit, shortTotals}
 use Rattle.lloyd_refusal.specs.{runRows}
-use Rattle.lloyd.specs.Outcomes.{RunOutcome, madeRun, runOf}
+use Rattle.lloyd.specs.Outcomes.{RunOutcome, madeRun, runBy, runOf}
 use Rattle.lloyd.proofs.Wholes.{run-refuses, runnable-of-none}
 
 -- what a run reads from a state on its way: the state, the total, the distances, and the members against the shades
@@ -114,3 +116,19 @@ run-of-used rec ks ws ks′ ws′ k limit ms ts room room′ keys weights =
   where
     rows : firstOf (runRows rec ks ws k limit ms ts) ≡ firstOf (runRows rec ks′ ws′ k limit ms ts)
     rows = rw (bad-table-alike rec ks ws ks′ ws′ room room′ keys weights)
+
+-- runs by two records that use as many entries and are both true or both not are the same
+pub run-by-truth : (rec rec′ : Record) (ks ws : List ℕ) (k limit : ℕ) (ms ts : List ℕ) → rec .used ≡ rec′ .used
+    → badTable rec ks ws ≡ badTable rec′ ks ws → runOf rec ks ws k limit ms ts ≡ runOf rec′ ks ws k limit ms ts
+unfolding runOf
+run-by-truth rec rec′ ks ws k limit ms ts used truth = ap₂ (λ (bad : Bool) (n : ℕ). judged bad n) truth used
+  where
+    -- the run on so many used entries, with a table that is bad or not
+    judged : Bool → ℕ → RunOutcome
+    judged bad n =
+        runBy (row bad BAD-TABLE
+        ∷ row (badCount k) BAD-COUNT
+        ∷ row (ltb n k) FEW-COLOURS
+        ∷ row (badLimit limit) BAD-LIMIT
+        ∷ row (ltb (length ms) n || shortTotals limit ts) SHORT-ROOM
+        ∷ []) toMean (onMean (coloursOf n ks ws)) (coloursOf n ks ws) k limit ms ts

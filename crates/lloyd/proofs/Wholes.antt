@@ -9,7 +9,8 @@ use borrow.Author.Tests.{ltb-false}
 use Rattle.number.proofs.Cases.{neither}
 use Rattle.refusal.specs.{done, firstOf, NoneHolds, Refuses}
 use Rattle.refusal.proofs.Promises.{done-exactly}
-use Rattle.table_test.specs.{Record, badTable}
+use Rattle.table_test.specs.{Record, badTable, GoodTable}
+use Rattle.table_test.proofs.Promises.{bad-table-exactly}
 use Rattle.method.specs.{Colours, State, coloursOf, toMean, onMean, finalOf, begin}
 use Rattle.method.specs.{mostRounds}
 use Rattle.rounds_many.specs.{SeriesMeets}
@@ -103,6 +104,11 @@ module _ (rec : Record) (ks ws : List ℕ) (k limit : ℕ) (ms ts : List ℕ) wh
         members = room .0;
         totals = room .1;
       }
+
+  -- and where no row holds the record is the table's
+  pub table-of-none : firstOf (runRows rec ks ws k limit ms ts) ≡ done → GoodTable rec ks ws
+  table-of-none e =
+      bad-table-exactly rec ks ws .0 (run-good (done-exactly (runRows rec ks ws k limit ms ts) .0 e) .table)
 
   -- so where no row holds the run can be made
   pub runnable-of-none : firstOf (runRows rec ks ws k limit ms ts) ≡ done

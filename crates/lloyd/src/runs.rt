@@ -49,13 +49,12 @@ pub fn run(
     if number != DONE {
         return refused(number);
     }
-    let used = rec.used;
     let rounds = limit_of(limit);
     let mut shades = [0u32; 192];
     let a = rounds::make_run(
+        rec,
         keys,
         weights,
-        used,
         &mut shades,
         count,
         rounds,

@@ -5,7 +5,7 @@ use mathlib.Core.Path.{_≡_, refl, ap}
 use mathlib.Core.Logic.{⊎-elim}
 use mathlib.Core.Bool.{cond}
 use Prim.Native.Nat.{ℕ, zero, suc, _+_, _*_, _≤_, _<_}
-use native.Mathlib.Nat.{le-suc-iff, add-zero}
+use native.Mathlib.Nat.{le-suc-iff, add-zero, mul-le-mul-left}
 use native.Mathlib.Numerals.{add-one}
 use native.Mathlib.Omega.{arith}
 use native.Mathlib.Decide.{decLt}
@@ -70,6 +70,12 @@ pub sum-mul : (n c : ℕ) (f g : ℕ → ℕ) → ((i : ℕ) → i < n → f i �
 unfolding sum
 sum-mul zero c f g h = omega arith
 sum-mul (suc n) c f g h = omega (arith, sum-mul n c f g (λ i l. h i (omega arith)), h n (omega arith))
+
+-- weights times values of at most m sum to at most m for each unit of weight
+pub sum-weighed : (n m : ℕ) (w f : ℕ → ℕ) → ((i : ℕ) → f i ≤ m) → sum n (λ i. w i * f i) ≤ m * sum n w
+unfolding sum
+sum-weighed zero m w f h = omega arith
+sum-weighed (suc n) m w f h = omega (arith, sum-weighed n m w f h, mul-le-mul-left (w n) (h n))
 
 -- ---- nothing to sum
 

@@ -44,7 +44,13 @@ fn show_picture(input: &[u8]) {
 fn show_table(input: &[u8]) {
     let mut keys = [0u32; 2];
     let mut weights = [0u32; 2];
-    let empty = Record { used: 0, pixels: 0 };
+    let empty = Record {
+        used: 0,
+        pixels: 0,
+        red: 0,
+        green: 0,
+        blue: 0,
+    };
     let a = table::add_strip(empty, &mut keys, &mut weights, p6::raster_of(input));
     let rec = a.rec;
     field(a.refusal as u64);

@@ -2,6 +2,7 @@
 ghost use mathlib.Core.Path.{_≡_};
 ghost use Prim.Native.Nat.{_≤_};
 ghost use lib.ListN.{length, replicate};
+ghost use Rattle.table_test.specs.{GoodTable};
 ghost use Rattle.shades.specs.{mostCoordinates, OnGrid};
 ghost use Rattle.method.specs.{
   stateOf,
@@ -18,6 +19,7 @@ use super::Whole;
 use super::total::final_total;
 use colour::Point;
 use rounds_many::Series;
+use table_test::Record;
 
 // Makes a run from the given shades in `base` and coordinates that are required to be 192 zeros.
 // Requires a table with a colour, a given shade, all of them on the grid, 1 to 64 shades, a limit
@@ -57,35 +59,37 @@ pub fn run_from(
     }
 }
 
-// Makes a run from the table's mean. Requires the same of all but the given shades.
+// Makes a run from the table's mean, which is read from the record's sums. Requires the same of all
+// but the given shades, and that the record is the table's.
 pub fn make_run(
+    rec: Record,
     keys: &[u32],
     weights: &[u32],
-    used: usize,
     shades: &mut [u32],
     count: usize,
     limit: usize,
     members: &mut [u32],
     totals: &mut [u64],
 ) -> Whole
-    requires { ⌜ Runnable used (now keys) (now weights) count limit (now members) (now totals)
+    requires { ⌜ Runnable (rec .used) (now keys) (now weights) count limit (now members)
+        (now totals) × GoodTable rec (now keys) (now weights)
         × (now shades ≡ replicate mostCoordinates 0) ⌝ }
     ensures series { λ r. ⌜ SeriesMeets toMean
-        (coloursOf used (now (keys .entry)) (now (weights .entry))) count limit
-        (begin (coloursOf used (now (keys .entry)) (now (weights .entry))) count
+        (coloursOf (rec .used) (now (keys .entry)) (now (weights .entry))) count limit
+        (begin (coloursOf (rec .used) (now (keys .entry)) (now (weights .entry))) count
         (now (members .entry)))
         (stateOf (now (shades .exit)) (now (members .exit)))
         (now (totals .entry)) (now (totals .exit)) (r .rounds) (r .settled) (r .distances) ⌝ }
     ensures total { λ r. ⌜ r .total
-        ≡ finalOf (coloursOf used (now (keys .entry)) (now (weights .entry)))
+        ≡ finalOf (coloursOf (rec .used) (now (keys .entry)) (now (weights .entry)))
         (stateOf (now (shades .exit)) (now (members .exit))) ⌝ }
 {
-    let m = starts::whole_mean(keys, weights, used);
+    let m = starts::mean_of(rec.pixels, rec.red, rec.green, rec.blue);
     let base = [m.r, m.g, m.b];
     run_from(
         keys,
         weights,
-        used,
+        rec.used,
         &base,
         shades,
         count,

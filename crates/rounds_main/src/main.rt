@@ -113,7 +113,13 @@ fn show_round(a: Rounded, shades: &[u32; 6], members: &[u32; 3]) {
 fn counts() {
     let keys = [0u32; 2];
     let weights = [0u32; 2];
-    let empty = Record { used: 0, pixels: 0 };
+    let empty = Record {
+        used: 0,
+        pixels: 0,
+        red: 0,
+        green: 0,
+        blue: 0,
+    };
     show_run(empty, &keys, &weights, 1, 0);
     show_run(empty, &keys, &weights, 64, 0);
     show_run(empty, &keys, &weights, 65, 0);
@@ -124,7 +130,13 @@ fn counts() {
 fn limits() {
     let keys = [0u32, 655360];
     let weights = [3u32, 1];
-    let rec = Record { used: 2, pixels: 4 };
+    let rec = Record {
+        used: 2,
+        pixels: 4,
+        red: 10,
+        green: 0,
+        blue: 0,
+    };
     show_run(rec, &keys, &weights, 1, 0);
     show_run(rec, &keys, &weights, 2, 1);
     show_run(rec, &keys, &weights, 2, 200);
@@ -136,7 +148,13 @@ fn limits() {
 fn rooms() {
     let keys = [0u32, 655360];
     let weights = [3u32, 1];
-    let rec = Record { used: 2, pixels: 4 };
+    let rec = Record {
+        used: 2,
+        pixels: 4,
+        red: 10,
+        green: 0,
+        blue: 0,
+    };
     let mut few = [5u64; 20];
     show_lent(rec, &keys, &weights, 2, 0, &mut few);
     show_totals(few[0], few[1], few[2]);
@@ -157,10 +175,19 @@ fn means() {
     let rec = Record {
         used: 2,
         pixels: 32,
+        red: 335,
+        green: 0,
+        blue: 0,
     };
     show_run(rec, &keys, &weights, 1, 0);
     let few = [1u32, 2];
-    let three = Record { used: 2, pixels: 3 };
+    let three = Record {
+        used: 2,
+        pixels: 3,
+        red: 32,
+        green: 0,
+        blue: 0,
+    };
     show_run(three, &keys, &few, 1, 0);
 }
 
@@ -168,7 +195,13 @@ fn means() {
 fn tie() {
     let keys = [327680u32];
     let weights = [1u32];
-    let rec = Record { used: 1, pixels: 1 };
+    let rec = Record {
+        used: 1,
+        pixels: 1,
+        red: 5,
+        green: 0,
+        blue: 0,
+    };
     let mut shades = [0u32, 0, 0, 160, 0, 0];
     let mut members = [1u32, 8, 8];
     let a = lloyd::short_round(rec, &keys, &weights, &mut shades, &mut members);
@@ -180,7 +213,13 @@ fn tie() {
 fn twins() {
     let keys = [0u32, 655360];
     let weights = [3u32, 1];
-    let rec = Record { used: 2, pixels: 4 };
+    let rec = Record {
+        used: 2,
+        pixels: 4,
+        red: 10,
+        green: 0,
+        blue: 0,
+    };
     let mut shades = [0u32; 6];
     let mut members = [8u32; 3];
     let a = lloyd::plain_round(rec, &keys, &weights, &mut shades, &mut members);
@@ -193,7 +232,13 @@ fn twins() {
 fn alone() {
     let keys = [0u32, 655360];
     let weights = [3u32, 1];
-    let rec = Record { used: 2, pixels: 4 };
+    let rec = Record {
+        used: 2,
+        pixels: 4,
+        red: 10,
+        green: 0,
+        blue: 0,
+    };
     let mut shades = [80u32, 0, 0, 4080, 4080, 4080];
     let mut members = [8u32; 3];
     let a = lloyd::plain_round(rec, &keys, &weights, &mut shades, &mut members);
@@ -204,7 +249,13 @@ fn alone() {
 fn refused() {
     let keys = [0u32, 655360];
     let weights = [3u32, 1];
-    let rec = Record { used: 2, pixels: 4 };
+    let rec = Record {
+        used: 2,
+        pixels: 4,
+        red: 10,
+        green: 0,
+        blue: 0,
+    };
     let mut off = [0u32, 0, 0, 160, 0, 4081];
     let mut members = [0u32, 2, 8];
     let a = lloyd::plain_round(rec, &keys, &weights, &mut off, &mut members);

@@ -1,12 +1,12 @@
 -- Each test of the refusals at its boundary: of the values tried, those at which it holds.
-use Prim.Native.Nat.{ℕ, _+_}
+use Prim.Native.Nat.{ℕ, _+_, _-_, _*_}
 use mathlib.Core.Bool.{Bool}
 use mathlib.Core.List.{List, [], _∷_, _++_, map}
 use lib.ListN.{replicate}
 use Rattle.refusal.specs.{firstOf}
-use Rattle.colour.specs.{badStrip}
+use Rattle.colour.specs.{badStrip, mostPixels, mostSum}
 use Rattle.table_entries.specs.{entry, stops}
-use Rattle.table_test.specs.{Record, badTable, roomOf}
+use Rattle.table_test.specs.{Record, recordOf, badTable, roomOf}
 use Rattle.shades.specs.{badCoordinates, badCentre}
 use Rattle.lloyd_tests.specs.{badCount, fewColours, badLimit, shortMembers, shortTotals, badMember}
 use Rattle.palette.specs.{badPalette, shortPalette}
@@ -22,13 +22,28 @@ use Rattle.scope.specs.Lines.{says, lists, those}
 abbrev pub zeros : ℕ → List ℕ
 zeros n = replicate n 0
 
--- a table of two entries, the first of key 1 and weight 1: badTable by its second key and weight and its pixel total
+-- a table of two entries, the first of key 1 and weight 1: badTable by its second key and weight and its pixel total,
+-- with the channel sums of these entries
 abbrev pub badPair : ℕ → ℕ → ℕ → Bool
-badPair key weight pixels = badTable (record { used = 2; pixels = pixels }) (1 ∷ key ∷ []) (1 ∷ weight ∷ [])
+badPair key weight pixels =
+    let sums = recordOf (entry 1 1 ∷ entry key weight ∷ []) in
+    badTable (record { used = 2; pixels = pixels; red = sums .red; green = sums .green; blue = sums .blue })
+    (1 ∷ key ∷ []) (1 ∷ weight ∷ [])
 
--- the record of so many used entries, and as many pixels
+-- three pixels of (1,2,3) and one of (0,0,1), whose sums are 3, 6 and 10: badTable by the three sums of the record
+abbrev pub badSums : ℕ → ℕ → ℕ → Bool
+badSums red green blue =
+    badTable (record { used = 2; pixels = 4; red = red; green = green; blue = blue }) (1 ∷ 66051 ∷ []) (1 ∷ 3 ∷ [])
+
+-- a full table of white: badTable by the red sum of the record
+abbrev pub badWhite : ℕ → Bool
+badWhite red =
+    badTable (record { used = 1; pixels = mostPixels; red = red; green = mostSum; blue = mostSum }) (16777215 ∷ [])
+    (mostPixels ∷ [])
+
+-- the record of so many used entries, and as many pixels, all of key 1
 abbrev pub usedOnly : ℕ → Record
-usedOnly n = record { used = n; pixels = n }
+usedOnly n = record { used = n; pixels = n; red = 0; green = 0; blue = n }
 
 -- a header "P6", blank, the text of a width, and " 1 255 "
 abbrev pub headed : List ℕ → List ℕ
@@ -45,13 +60,23 @@ bounds =
     -- 1 BAD STRIP, by the bytes
     lists (those (λ n. badStrip (zeros n)) (0 ∷ 1 ∷ 2 ∷ 3 ∷ 4 ∷ 6 ∷ [])) (1 ∷ 2 ∷ 4 ∷ [])
     -- the room: the shorter slice. 2 BAD TABLE: by the used entries in a room of 1; by a second key, a second weight
-    -- and a pixel total
+    -- and a pixel total; by each channel sum, and by two of them that together come to the same; of a full table; of
+    -- an empty one
     ∷ lists (roomOf (zeros 2) (zeros 3) ∷ roomOf (zeros 3) (zeros 2) ∷ []) (2 ∷ 2 ∷ [])
     ∷ lists (those (λ n. badTable (usedOnly n) (1 ∷ []) (1 ∷ 1 ∷ [])) (0 ∷ 1 ∷ 2 ∷ [])) (2 ∷ [])
     ∷ lists (those (λ n. badTable (usedOnly n) (1 ∷ 2 ∷ []) (1 ∷ [])) (0 ∷ 1 ∷ 2 ∷ [])) (2 ∷ [])
     ∷ lists (those (λ key. badPair key 1 2) (0 ∷ 1 ∷ 2 ∷ 16777215 ∷ 16777216 ∷ [])) (0 ∷ 1 ∷ 16777216 ∷ [])
     ∷ lists (those (λ weight. badPair 2 weight (1 + weight)) (0 ∷ 1 ∷ 16777215 ∷ 16777216 ∷ [])) (0 ∷ 16777216 ∷ [])
     ∷ lists (those (λ pixels. badPair 2 1 pixels) (1 ∷ 2 ∷ 3 ∷ [])) (1 ∷ 3 ∷ [])
+    ∷ lists (those (λ red. badSums red 6 10) (2 ∷ 3 ∷ 4 ∷ 4294967299 ∷ [])) (2 ∷ 4 ∷ 4294967299 ∷ [])
+    ∷ lists (those (λ green. badSums 3 green 10) (5 ∷ 6 ∷ 7 ∷ [])) (5 ∷ 7 ∷ [])
+    ∷ lists (those (λ blue. badSums 3 6 blue) (9 ∷ 10 ∷ 11 ∷ 18446744073709551615 ∷ []))
+    (9 ∷ 11 ∷ 18446744073709551615 ∷ [])
+    ∷ lists (those (λ n. badSums (3 + n) 6 (10 - n)) (0 ∷ 1 ∷ 2 ∷ [])) (1 ∷ 2 ∷ [])
+    ∷ lists (those (λ n. badSums n (774 - 256 * n) 10) (2 ∷ 3 ∷ [])) (2 ∷ [])
+    ∷ lists (those badWhite (4278190079 ∷ 4278190080 ∷ 4278190081 ∷ [])) (4278190079 ∷ 4278190081 ∷ [])
+    ∷ lists (those (λ n. badTable (record { used = 0; pixels = 0; red = 0; green = n; blue = 0 }) [] []) (0 ∷ 1 ∷ []))
+    (1 ∷ [])
     -- 3 FULL: by the pixels there are; by the room for a colour that is there, and for one that is not
     ∷ lists (those (λ pixels. stops 1 (entry 0 pixels ∷ []) 0) (16777215 ∷ 16777216 ∷ [])) (16777216 ∷ [])
     ∷ lists (those (λ room. stops room (entry 0 1 ∷ []) 0) (1 ∷ 2 ∷ [])) []

@@ -21,7 +21,7 @@ weightsA = 3 ∷ 1 ∷ []
 
 -- and its record
 abbrev pub recordA : Record
-recordA = record { used = 2; pixels = 4 }
+recordA = record { used = 2; pixels = 4; red = 10; green = 0; blue = 0 }
 
 -- sheet C's palette, that of sheet B's shade
 abbrev pub paletteC : List ℕ
@@ -37,7 +37,7 @@ weightsF = 1 ∷ 1 ∷ []
 
 -- and their record
 abbrev pub recordF : Record
-recordF = record { used = 2; pixels = 2 }
+recordF = record { used = 2; pixels = 2; red = 10; green = 0; blue = 0 }
 
 -- sheet G's table, the colour (5,0,0) once: its key
 abbrev pub keysG : List ℕ
@@ -49,7 +49,7 @@ weightsG = 1 ∷ []
 
 -- its record
 abbrev pub recordG : Record
-recordG = record { used = 1; pixels = 1 }
+recordG = record { used = 1; pixels = 1; red = 5; green = 0; blue = 0 }
 
 -- sheet H's table, 17 pixels (10,0,0) and 15 of (11,0,0): its keys
 abbrev pub keysH : List ℕ

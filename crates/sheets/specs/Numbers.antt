@@ -10,10 +10,16 @@ use Rattle.palette.specs.{PaletteOutcome}
 use Rattle.figures.specs.{Mean, meanNumber, meanValues}
 use Rattle.mapping.specs.{MapOutcome}
 
--- of an add: refusal, taken, used, pixels; the keys; the weights
+-- of an add: refusal and taken; the record: used, pixels, and the sums of R, G and B; the keys; the weights
 abbrev pub addSheet : Outcome → List (List ℕ)
 addSheet o =
-    (o .answer .refusal ∷ o .answer .taken ∷ o .answer .rec .used ∷ o .answer .rec .pixels ∷ [])
+    (o .answer .refusal ∷ o .answer .taken ∷ [])
+    ∷ (o .answer .rec .used
+    ∷ o .answer .rec .pixels
+    ∷ o .answer .rec .red
+    ∷ o .answer .rec .green
+    ∷ o .answer .rec .blue
+    ∷ [])
     ∷ o .keys
     ∷ o .weights
     ∷ []

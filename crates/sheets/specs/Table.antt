@@ -36,11 +36,11 @@ use Rattle.sheets.specs.Numbers.{
 use Rattle.sheets.specs.Examples.{Example}
 
 -- A. That picture's table: keys 0, 655360; weights 3, 1.
--- Nothing is refused, 4 pixels are taken, and a place more of each slice keeps its value.
+-- Nothing is refused, 4 pixels are taken, the red levels come to 10, and a place more of each slice keeps its value.
 abbrev pub sheetA : Example
 sheetA = record {
   computed = addSheet (addStrip emptyRecord (replicate 3 7) (replicate 3 9) drawing);
-  written = (done ∷ 4 ∷ 2 ∷ 4 ∷ []) ∷ (keysA ++ 7 ∷ []) ∷ (weightsA ++ 9 ∷ []) ∷ [];
+  written = (done ∷ 4 ∷ []) ∷ (2 ∷ 4 ∷ 10 ∷ 0 ∷ 0 ∷ []) ∷ (keysA ++ 7 ∷ []) ∷ (weightsA ++ 9 ∷ []) ∷ [];
 }
 
 -- B. One shade: (40,0,0), round total 19200, settled in 1 round, least cost 19200, times 4 pixels.

@@ -1,25 +1,20 @@
-// The rounded mean of a whole table.
+// The rounded mean of a whole table, from its sums.
 ghost use mathlib.Core.Path.{_≡_};
-ghost use Prim.Native.Nat.{_<_};
-ghost use Rattle.colour.specs.{Within, mostCoordinate};
-ghost use Rattle.table_entries.specs.{Tabled};
-ghost use Rattle.method.specs.{coloursOf, pixelsIn, meanOf};
+ghost use Prim.Native.Nat.{_*_, _≤_, _<_};
+ghost use Rattle.colour.specs.{Within, mostCoordinate, mostLevel, mostPixels};
+ghost use Rattle.starts.specs.Means.{meanBySums};
 use colour::Point;
-use level_sums::high;
-use level_sums::low;
 
-// The rounded mean of a table, weights counted. Requires a table with a pixel.
-pub fn whole_mean(keys: &[u32], weights: &[u32], used: usize) -> Point
-    requires { ⌜ Tabled used (now keys) (now weights)
-        × (0 < pixelsIn (coloursOf used (now keys) (now weights))) ⌝ }
-    ensures { λ r. ⌜ (r ≡ meanOf (coloursOf used (now (keys .entry)) (now (weights .entry))))
-        × Within mostCoordinate r ⌝ }
+// The rounded mean of so many pixels with these channel sums in whole levels. Requires a pixel, no
+// more of them than a table has, and level 255 for each at the most.
+pub fn mean_of(pixels: u64, red: u64, green: u64, blue: u64) -> Point
+    requires { ⌜ (0 < pixels) × (pixels ≤ mostPixels) × (red ≤ mostLevel * pixels)
+        × (green ≤ mostLevel * pixels) × (blue ≤ mostLevel * pixels) ⌝ }
+    ensures { λ r. ⌜ (r ≡ meanBySums pixels red green blue) × Within mostCoordinate r ⌝ }
 {
-    let a = level_sums::whole_sums(keys, weights, used);
-    let pixels = a.second % 4294967296;
     Point {
-        r: colour::rounded_mean(pixels, high(a.first)),
-        g: colour::rounded_mean(pixels, low(a.first)),
-        b: colour::rounded_mean(pixels, high(a.second)),
+        r: colour::rounded_mean(pixels, 16 * red),
+        g: colour::rounded_mean(pixels, 16 * green),
+        b: colour::rounded_mean(pixels, 16 * blue),
     }
 }

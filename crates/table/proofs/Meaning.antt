@@ -184,6 +184,12 @@ module _ (rec : Record) (ks ws s : List ℕ) where
         rw (outcome-taken a (test-of-good rec ks ws g)) (table-of-good _ _ _ (good-taken bytes g))
   ]
 
+  -- BAD STRIP leaves the record as true or untrue as it came
+  pub bad-strip-keeps-truth : badStrip s ≡ true
+      → badTable (addStrip rec ks ws s .answer .rec) (addStrip rec ks ws s .keys) (addStrip rec ks ws s .weights)
+      ≡ badTable rec ks ws
+  bad-strip-keeps-truth a = rw (outcome-bad-strip rec ks ws s a)
+
   -- ---- FULL
 
   -- the pixels taken are the longest prefix that goes in, pixel by pixel

@@ -1,15 +1,17 @@
 -- What is shown of the colour table, each theorem in full; its body names the proof.
 -- `addStrip rec ks ws s` is the outcome of a call (specs/Outcomes.antt): its contract says that the answer and both
 -- slices of `add_strip` are those of this outcome, on every input.
-use mathlib.Core.Path.{_≡_, sym, _∙_}
-use mathlib.Core.Bool.{Bool, true, false}
+use mathlib.Core.Path.{_≡_, sym, ap, _∙_}
+use mathlib.Core.Bool.{Bool, true, false, _||_}
 use mathlib.Core.Logic.{_↔_}
 use mathlib.Core.List.{List, [], _++_}
-use Prim.Native.Nat.{ℕ, min, _+_, _/_, _%_, _<_}
+use Prim.Native.Nat.{ℕ, min, _+_, _*_, _/_, _%_, _<_}
 use lib.ListN.{length, getD, take, drop}
+use Rattle.number.specs.{sum}
 use Rattle.refusal.specs.{Refusal, numberOf, done, Given, NoneHolds}
 use Rattle.table_entries.specs.{
   entries,
+  levelsOf,
   weightOf,
   mostEntries,
   stripKeys,
@@ -19,8 +21,8 @@ use Rattle.table_entries.specs.{
   withTaken,
   Prefix,
 }
-use Rattle.colour.specs.{badStrip, Bytes, joinedStrips, EachWhole}
-use Rattle.table_test.specs.{Record, roomOf, recordOf, badTable, GoodTable}
+use Rattle.colour.specs.{badStrip, Bytes, joinedStrips, EachWhole, redOf, greenOf, blueOf}
+use Rattle.table_test.specs.{Record, roomOf, recordOf, badTable, badCounts, otherSums, GoodTable}
 use Rattle.table.specs.Refusals.{full, addRows}
 use Rattle.table.specs.Outcomes.{asItCame, handsBack, addStrip, tableAfter, AddMeets}
 use Rattle.table.specs.Pieces.{addedBy, addStrips, EachAdded}
@@ -70,6 +72,12 @@ bad-strip-exactly = strips.bad-strip-exactly
 pub bad-table-exactly : (rec : Record) (ks ws : List ℕ) → (badTable rec ks ws ≡ false) ↔ GoodTable rec ks ws
 bad-table-exactly = tests.bad-table-exactly
 
+-- BAD TABLE in two parts: used entries above the room, entries that are not sound, or a pixel total that is not theirs
+-- or is too large; or a channel sum that is not theirs.
+pub bad-table-parts : (rec : Record) (ks ws : List ℕ)
+    → badTable rec ks ws ≡ (badCounts rec ks ws || otherSums rec ks ws)
+bad-table-parts = tests.bad-table-parts
+
 -- The test of FULL holds exactly when there is a next pixel and it does not go in: it meets a total of 16,777,216, or
 -- is a new colour with no room.
 pub full-exactly : (rec : Record) (ks ws s : List ℕ)
@@ -101,8 +109,8 @@ pub accepted-pixels : (rec : Record) (ks ws s : List ℕ) → addStrip rec ks ws
     → addStrip rec ks ws s .answer .rec .pixels ≡ rec .pixels + length s / 3
 accepted-pixels = meaning.accepted-pixels
 
--- A good table is good after any call: keys rise strictly and are keys, weights are at least 1, the pixels are the
--- sum of the weights.
+-- A good table is good after any call, accepted, FULL or refused: keys rise strictly and are keys, weights are at least
+-- 1, the pixels are the sum of the weights, and the channel sums those of the levels, weights counted.
 pub stays-good : (rec : Record) (ks ws s : List ℕ) → Bytes s → GoodTable rec ks ws
     → GoodTable (addStrip rec ks ws s .answer .rec) (addStrip rec ks ws s .keys) (addStrip rec ks ws s .weights)
 stays-good = meaning.stays-good
@@ -172,6 +180,32 @@ pub taken-counts : (rec : Record) (ks ws s : List ℕ) → badStrip s ≡ false 
     × (o .answer .taken ≡ 0 → o ≡ asItCame (o .answer .refusal) rec ks ws))
 taken-counts rec ks ws s a b =
     (taken.taken-weights rec ks ws s a b, taken.taken-total rec ks ws s a b, taken.taken-none rec ks ws s a b)
+
+-- Accepted or FULL, each channel sum of the record is that before plus the bytes of that channel among the pixels
+-- taken: bytes 0, 3, 6 and so on for red, 1, 4, 7 for green, 2, 5, 8 for blue.
+pub taken-sums : (rec : Record) (ks ws s : List ℕ) → badStrip s ≡ false → badTable rec ks ws ≡ false → Bytes s
+    → (let o = addStrip rec ks ws s in
+    (o .answer .rec .red ≡ rec .red + sum (o .answer .taken) (λ i. getD s (3 * i + 0) 0))
+    × (o .answer .rec .green ≡ rec .green + sum (o .answer .taken) (λ i. getD s (3 * i + 1) 0))
+    × (o .answer .rec .blue ≡ rec .blue + sum (o .answer .taken) (λ i. getD s (3 * i + 2) 0)))
+taken-sums = taken.taken-sums
+
+-- And they are those of the entries then: of each channel, the levels of the used entries, weights counted.
+pub sums-after : (rec : Record) (ks ws s : List ℕ) → badStrip s ≡ false → badTable rec ks ws ≡ false
+    → (let o = addStrip rec ks ws s in
+    (o .answer .rec .red ≡ levelsOf redOf (tableAfter o)) × (o .answer .rec .green ≡ levelsOf greenOf (tableAfter o))
+    × (o .answer .rec .blue ≡ levelsOf blueOf (tableAfter o)))
+sums-after rec ks ws s a b =
+    let e = meaning.taken-after rec ks ws s a b .1 in (
+      ap (λ (r : Record). r .red) e,
+      ap (λ (r : Record). r .green) e,
+      ap (λ (r : Record). r .blue) e,
+    )
+
+-- BAD STRIP hands the record back, so one that was true is true, and one that was not is not.
+pub bad-strip-keeps-truth : (rec : Record) (ks ws s : List ℕ) → badStrip s ≡ true
+    → (let o = addStrip rec ks ws s in badTable (o .answer .rec) (o .keys) (o .weights) ≡ badTable rec ks ws)
+bad-strip-keeps-truth = meaning.bad-strip-keeps-truth
 
 -- ---- a table is its weights
 

@@ -1,10 +1,10 @@
 -- Glossary; the record, the room and the test of a table are table_test's, and are passed on.
---   Record        used, pixels: how many entries are used, and the pixel total
+--   Record        used, pixels, red, green, blue: how many entries are used, the pixel total, the three channel sums
 --   Added         refusal, taken, rec: the answer of an add
 --   roomOf        the shorter of the two lent slices, capped at 1,048,576
 --   recordOf      the record of a table
 --   emptyRecord   the record of an empty table
---   badTable      the test of 2 BAD TABLE
+--   badTable      the test of 2 BAD TABLE; badCounts the same with no look at the channel sums, otherSums that look
 --   GoodTable     a good table, fact by fact
 --   full          the test of 3 FULL
 --   addRows       these tests in the order of adding, with their refusals
@@ -24,7 +24,7 @@ pub mod Refusals
 pub mod Outcomes
 pub mod Pieces
 pub use Rattle.table_test.specs.{Record, GoodTable}
-unfoldable pub use Rattle.table_test.specs.{roomOf, recordOf, emptyRecord, badTable}
+unfoldable pub use Rattle.table_test.specs.{roomOf, recordOf, emptyRecord, badTable, badCounts, otherSums}
 pub use declared.Added.{Added}
 unfoldable pub use Refusals.{full, addRows, addRefusal}
 unfoldable pub use Outcomes.{refused, asItCame, withPixels, handsBack, takenInto, leftByAdd, addStrip, tableAfter}

@@ -28,7 +28,8 @@ fn refused(number: u8, rec: Record) -> Added
 //   2 BAD TABLE   the record and the used entries are no table (see bad_table);
 //   3 FULL        the next pixel meets a total of 16,777,216, or is a new colour with no room.
 // 1 and 2 hand the record back and leave both slices as they came. 3 answers the pixels taken, and
-// record and slices are those of these pixels. Places past the used entries keep their values.
+// record and slices are those of these pixels. Places past the used entries keep their values. The
+// record's channel sums go up by the levels of the pixels taken, no table is gone over for them.
 pub fn add_strip(rec: Record, keys: &mut [u32], weights: &mut [u32], strip: &[u8]) -> Added
     ensures { λ r. ⌜ AddMeets rec (now (keys .entry)) (now (weights .entry)) (now (strip .entry)) r
         (now (keys .exit)) (now (weights .exit)) ⌝ }
@@ -48,6 +49,9 @@ pub fn add_strip(rec: Record, keys: &mut [u32], weights: &mut [u32], strip: &[u8
     let after = Record {
         used: took.used,
         pixels: before + taken as u64,
+        red: rec.red + took.sums.red,
+        green: rec.green + took.sums.green,
+        blue: rec.blue + took.sums.blue,
     };
     if taken < count {
         return Added {

@@ -2,7 +2,7 @@
 -- table_count's.
 --   Addable            a strip has pixels to add, and the total has place for them
 --   piece s from n     n pixels of a strip
---   Tried              what was tried, and what the slices have
+--   Tried              what was tried, its levels added up, and what the slices have
 pub mod Trying
 unfoldable pub use Trying.{piece}
 pub use Trying.{Addable, Tried}

@@ -6,6 +6,7 @@ use mathlib.Core.List.{List}
 use lib.ListN.{length, take, drop}
 use Rattle.colour.specs.{mostPixels}
 use Rattle.table_entries.specs.{entries, pixelsOf, stripKeys, putAll}
+use Rattle.table_channels.specs.{ChannelSums, channelSums}
 use Rattle.table_pixel.specs.{Standing, laidKeys, laidWeights}
 
 -- the strip has `most` pixels from `from` on, at least one, and the table's total has place for them
@@ -19,10 +20,13 @@ pub record Addable (used room : ℕ) (ks ws s : List ℕ) (from most : ℕ) : Ty
 abbrev pub piece : List ℕ → ℕ → ℕ → List ℕ
 piece s from n = take n (drop from (stripKeys s))
 
--- n pixels were tried, `next` is the number of entries with them, and the slices have them if they go in
-pub record Tried (used room : ℕ) (ks ws s : List ℕ) (from most next n : ℕ) (ks′ ws′ : List ℕ) : Type 0 where
+-- n pixels were tried, `next` is the number of entries with them, `sums` are their levels, and the slices have them if
+-- they go in
+pub record Tried (used room : ℕ) (ks ws s : List ℕ) (from most next n : ℕ) (sums : ChannelSums) (ks′ ws′ : List ℕ)
+    : Type 0 where
   pub some : 0 < n
   pub within : n ≤ most
   pub used-is : next ≡ length (putAll (entries used ks ws) (piece s from n))
+  pub sums-are : sums ≡ channelSums (piece s from n)
   pub keys-are : ks′ ≡ laidKeys room (putAll (entries used ks ws) (piece s from n)) ks
   pub weights-are : ws′ ≡ laidWeights room (putAll (entries used ks ws) (piece s from n)) ws

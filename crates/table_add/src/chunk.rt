@@ -3,14 +3,18 @@ ghost use Prim.Native.Nat.{_≤_, _<_};
 ghost use lib.ListN.{length};
 ghost use Rattle.table_streaks.specs.{mostStreaks};
 ghost use Rattle.table_add.specs.Trying.{Addable, Tried};
+use table_channels::ChannelSums;
+use table_channels::pixel_sums;
+use table_channels::streak_sums;
 use table_count::count::count_with;
 use table_merge::merge::merge;
 use table_pixel::pixel::add_pixel;
 
-// Pixels tried, and the number of entries with them.
+// Pixels tried, the number of entries with them, and their levels added up.
 pub struct Chunk {
     pub used: usize,
     pub pixels: usize,
+    pub sums: ChannelSums,
 }
 
 // The pixel at `from`, as a chunk of one.
@@ -24,13 +28,14 @@ pub fn add_one(
 ) -> Chunk
     requires { ⌜ Addable used room (now keys) (now weights) (now strip) from 1 ⌝ }
     ensures { λ r. ⌜ Tried used room (now (keys .entry)) (now (weights .entry)) (now (strip .entry))
-        from 1 (r .used) (r .pixels) (now (keys .exit)) (now (weights .exit)) ⌝ }
+        from 1 (r .used) (r .pixels) (r .sums) (now (keys .exit)) (now (weights .exit)) ⌝ }
 {
     let key = table_streaks::gather::key_at(strip, 3 * from);
     let next = add_pixel(keys, weights, used, room, key);
     Chunk {
         used: next,
         pixels: 1,
+        sums: pixel_sums(key),
     }
 }
 
@@ -51,18 +56,27 @@ fn add_chunk(
     requires { ⌜ (0 < length (now list)) × (length (now list) ≤ mostStreaks)
         × (length (now list) ≤ length (now other)) ⌝ }
     ensures { λ r. ⌜ Tried used room (now (keys .entry)) (now (weights .entry)) (now (strip .entry))
-        from most (r .used) (r .pixels) (now (keys .exit)) (now (weights .exit)) ⌝ }
+        from most (r .used) (r .pixels) (r .sums) (now (keys .exit)) (now (weights .exit)) ⌝ }
 {
     let got = table_streaks::gather::gather(strip, from, most, list);
     let len = got.len;
     let pixels = got.pixels;
     table_sort::sort::sort_streaks(list, other, len);
+    let sums = streak_sums(list, len);
     let next = count_with(keys, used, list, len);
     if room < next {
-        return Chunk { used: next, pixels };
+        return Chunk {
+            used: next,
+            pixels,
+            sums,
+        };
     }
     merge(keys, weights, used, next, list, len);
-    Chunk { used: next, pixels }
+    Chunk {
+        used: next,
+        pixels,
+        sums,
+    }
 }
 
 // The same with lists as long as the pixels want: none for one pixel where they are few.
@@ -77,7 +91,7 @@ pub fn add_some(
 ) -> Chunk
     requires { ⌜ Addable used room (now keys) (now weights) (now strip) from most ⌝ }
     ensures { λ r. ⌜ Tried used room (now (keys .entry)) (now (weights .entry)) (now (strip .entry))
-        from most (r .used) (r .pixels) (now (keys .exit)) (now (weights .exit)) ⌝ }
+        from most (r .used) (r .pixels) (r .sums) (now (keys .exit)) (now (weights .exit)) ⌝ }
 {
     if most < 32 {
         return add_one(keys, weights, used, room, strip, from);

@@ -1,18 +1,21 @@
--- Laws of pixels added to a table: its length, its pixel total, the weight of each colour, and that it stays sound.
+-- Laws of pixels added to a table: its length, its pixel total, the weight of each colour, the sum of a channel, and that
+-- it stays sound.
 -- Those of `give` hold for one pixel (`put`) as they stand, at w = 1.
-use mathlib.Core.Path.{_≡_, refl}
+use mathlib.Core.Path.{_≡_, refl, ap}
 use mathlib.Core.Bool.{true, cond}
 use mathlib.Core.Logic.{inl, inr}
 use mathlib.Core.List.{List, [], _∷_, _++_}
-use Prim.Native.Nat.{ℕ, zero, suc, _+_, _≤_, _<_}
+use Prim.Native.Nat.{ℕ, zero, suc, _+_, _*_, _≤_, _<_}
 use native.Mathlib.Omega.{arith}
 use native.Mathlib.Nat.{zero-add}
 use lib.ListN.{length, take}
 use lib.Dec.{eqb}
 use borrow.Author.Tests.{ne-eqb}
+use Rattle.number.specs.{sumOf}
 use Rattle.number.proofs.Cases.{cmp, lt, eq, gt, bool}
+use Rattle.number.proofs.ListSums.{sumOf-ones, sumOf-eq}
 use Rattle.colour.specs.{mostKey}
-use Rattle.table_entries.specs.Content.{Entry, entry, pixelsOf, weightOf, sound}
+use Rattle.table_entries.specs.Content.{Entry, entry, pixelsOf, levelsOf, weightOf, sound}
 use Rattle.table_entries.specs.Strip.{countOf, Keys, none, more}
 use Rattle.table_entries.specs.Adding.{give, put, putAll}
 use Rattle.table_entries.proofs.Sounds.{Sound, sound-cons, cons-sound}
@@ -29,26 +32,42 @@ give-length k w (e ∷ es) = elim (cmp (e .key) k) [
   | gt l t u ↦ simp (t, u) (omega arith)
 ]
 
--- the pixel total goes up by w
-pub give-pixels : (k w : ℕ) (es : List Entry) → pixelsOf (give k w es) ≡ pixelsOf es + w
-give-pixels k w [] = omega arith
-give-pixels k w (e ∷ es) = elim (cmp (e .key) k) [
-  | lt l t ↦ simp t (omega (arith, give-pixels k w es))
-  | eq q t u ↦ simp (t, u) (omega arith)
+-- g of an entry goes up with its weight
+abbrev Additive : (Entry → ℕ) → Type 0
+Additive g = (k w v : ℕ) → g (entry k (w + v)) ≡ g (entry k w) + g (entry k v)
+
+-- g over the entries goes up by g of the pixels
+pub give-sum : (g : Entry → ℕ) → Additive g → (k w : ℕ) (es : List Entry)
+    → sumOf g (give k w es) ≡ sumOf g es + g (entry k w)
+give-sum g add k w [] = omega arith
+give-sum g add k w (e ∷ es) = elim (cmp (e .key) k) [
+  | lt l t ↦ simp t (omega (arith, give-sum g add k w es))
+  | eq q t u ↦ simp (t, u) (omega (arith, add k (e .weight) w, ap (λ (x : ℕ). g (entry x (e .weight))) q))
   | gt l t u ↦ simp (t, u) (omega arith)
 ]
 
+-- the weight of an entry goes up with it
+weight-adds : Additive (λ (e : Entry). e .weight)
+weight-adds k w v = refl
+
+-- what it has of colour c too
+colour-adds : (c : ℕ) → Additive (λ (e : Entry). cond (eqb (e .key) c) (e .weight) 0)
+colour-adds c k w v = elim (bool (eqb k c)) [
+  | inl t ↦ simp t
+  | inr t ↦ simp t
+]
+
+-- and its weight times f of its key
+levels-add : (f : ℕ → ℕ) → Additive (λ (e : Entry). e .weight * f (e .key))
+levels-add f k w v = omega arith
+
+-- the pixel total goes up by w
+pub give-pixels : (k w : ℕ) (es : List Entry) → pixelsOf (give k w es) ≡ pixelsOf es + w
+give-pixels = give-sum (λ (e : Entry). e .weight) weight-adds
+
 -- the weight of colour k goes up by w, every other weight stays
 pub give-weight : (c k w : ℕ) (es : List Entry) → weightOf c (give k w es) ≡ weightOf c es + cond (eqb k c) w 0
-give-weight c k w [] = omega arith
-give-weight c k w (e ∷ es) = elim (cmp (e .key) k) [
-  | lt l t ↦ simp t (omega (arith, give-weight c k w es))
-  | eq q t u ↦ simp (t, u) (rw q (elim (bool (eqb k c)) [
-    | inl v ↦ simp v (omega arith)
-    | inr v ↦ simp v (omega arith)
-  ]))
-  | gt l t u ↦ simp (t, u) (omega arith)
-]
+give-weight c = give-sum (λ (e : Entry). cond (eqb (e .key) c) (e .weight) 0) (colour-adds c)
 
 -- a sound table stays sound
 pub give-sound : (k w low : ℕ) (es : List Entry) → low ≤ k → k ≤ mostKey → 1 ≤ w → sound low es ≡ true
@@ -109,15 +128,29 @@ pub putAll-length : (es : List Entry) (ps : List ℕ) → length es ≤ length (
 putAll-length es [] = omega arith
 putAll-length es (k ∷ ps) = omega (arith, give-length k 1 es, putAll-length (put k es) ps)
 
+-- g over the entries goes up by g of each pixel
+putAll-sum : (g : Entry → ℕ) → Additive g → (es : List Entry) (ps : List ℕ)
+    → sumOf g (putAll es ps) ≡ sumOf g es + sumOf (λ (k : ℕ). g (entry k 1)) ps
+putAll-sum g add es [] = omega arith
+putAll-sum g add es (k ∷ ps) = omega (arith, putAll-sum g add (put k es) ps, give-sum g add k 1 es)
+
 -- the pixel total goes up by the number of pixels
 pub putAll-pixels : (es : List Entry) (ps : List ℕ) → pixelsOf (putAll es ps) ≡ pixelsOf es + length ps
-putAll-pixels es [] = omega arith
-putAll-pixels es (k ∷ ps) = omega (arith, putAll-pixels (put k es) ps, give-pixels k 1 es)
+putAll-pixels es ps = omega (arith, putAll-sum (λ (e : Entry). e .weight) weight-adds es ps, sumOf-ones ps)
 
 -- the weight of each colour goes up by the number of its pixels
 pub putAll-weight : (c : ℕ) (es : List Entry) (ps : List ℕ) → weightOf c (putAll es ps) ≡ weightOf c es + countOf c ps
-putAll-weight c es [] = omega arith
-putAll-weight c es (k ∷ ps) = omega (arith, putAll-weight c (put k es) ps, give-weight c k 1 es)
+putAll-weight c = putAll-sum (λ (e : Entry). cond (eqb (e .key) c) (e .weight) 0) (colour-adds c)
+
+-- f of the keys, weights counted, goes up by f of each pixel: so a channel's sum goes up by the pixels' levels
+pub putAll-levels : (f : ℕ → ℕ) (es : List Entry) (ps : List ℕ)
+    → levelsOf f (putAll es ps) ≡ levelsOf f es + sumOf f ps
+putAll-levels f es ps =
+    omega (
+      arith,
+      putAll-sum (λ (e : Entry). e .weight * f (e .key)) (levels-add f) es ps,
+      sumOf-eq (λ (k : ℕ). 1 * f k) f ps (λ k. omega arith),
+    )
 
 -- a sound table stays sound
 pub putAll-sound : (es : List Entry) {ps : List ℕ} → Keys ps → sound 0 es ≡ true → sound 0 (putAll es ps) ≡ true

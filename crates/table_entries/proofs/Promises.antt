@@ -4,8 +4,18 @@ use mathlib.Core.Bool.{true}
 use mathlib.Core.List.{List, _++_}
 use Prim.Native.Nat.{ℕ, _+_, _≤_}
 use lib.ListN.{length}
+use Rattle.number.specs.{sumOf}
 use Rattle.colour.specs.{mostPixels}
-use Rattle.table_entries.specs.Content.{Entry, entries, keysInto, weightsInto, pixelsOf, weightOf, sound}
+use Rattle.table_entries.specs.Content.{
+  Entry,
+  entries,
+  keysInto,
+  weightsInto,
+  pixelsOf,
+  levelsOf,
+  weightOf,
+  sound,
+}
 use Rattle.table_entries.specs.Strip.{countOf, Keys}
 use Rattle.table_entries.specs.Adding.{putAll, takenOf, withTaken, Prefix}
 use Rattle.table_entries.proofs.Gives as gives
@@ -21,6 +31,11 @@ weights-of-pixels = gives.putAll-weight
 -- The pixel total goes up by the number of pixels added.
 pub total-of-pixels : (es : List Entry) (ps : List ℕ) → pixelsOf (putAll es ps) ≡ pixelsOf es + length ps
 total-of-pixels = gives.putAll-pixels
+
+-- The sum of a channel goes up by the levels of the pixels added, f being the channel's level.
+pub levels-of-pixels : (f : ℕ → ℕ) (es : List Entry) (ps : List ℕ)
+    → levelsOf f (putAll es ps) ≡ levelsOf f es + sumOf f ps
+levels-of-pixels = gives.putAll-levels
 
 -- A table whose keys rise strictly, with weights of at least 1, stays one.
 pub sound-with-pixels : (es : List Entry) {ps : List ℕ} → Keys ps → sound 0 es ≡ true → sound 0 (putAll es ps) ≡ true

@@ -2,16 +2,16 @@
 use mathlib.Core.Path.{_≡_, refl}
 use mathlib.Core.Bool.{true}
 use mathlib.Core.List.{List, [], _∷_}
-use Prim.Native.Nat.{ℕ, zero, suc, _+_, _≤_, _<_}
+use Prim.Native.Nat.{ℕ, zero, suc, _+_, _*_, _≤_, _<_}
 use native.Mathlib.Omega.{arith}
 use native.Mathlib.Nat.{le-of-suc-le-suc, not-suc-le-zero}
 use native.Mathlib.Numerals.{add-one}
 use lib.ListN.{length, getD}
 use lib.Seq.{getD-take}
-use Rattle.number.specs.{sum}
+use Rattle.number.specs.{sum, sumOf}
 use Rattle.number.proofs.Sums.{sum-front}
 use Rattle.colour.specs.{mostKey}
-use Rattle.table_entries.specs.Content.{Entry, entry, weightsOf, entries, pixelsOf, sound}
+use Rattle.table_entries.specs.Content.{Entry, entry, weightsOf, entries, pixelsOf, levelsOf, sound}
 use Rattle.table_entries.proofs.Sounds.{sound-cons, cons-sound}
 use Rattle.table_entries.proofs.Slices.{entries-length, entries-weights}
 
@@ -62,12 +62,26 @@ weights-some n ks ws a b h i l =
     rw (entries-weights n ks ws a b, getD-take n ws i 0 l)
     at (sound-weights 0 (entries n ks ws) h i (omega (arith, entries-length n ks ws a b)))
 
+-- g over the entries of the first n places is added up place by place
+entries-sum : (g : Entry → ℕ) (n : ℕ) (ks ws : List ℕ) → n ≤ length ks → n ≤ length ws
+    → sumOf g (entries n ks ws) ≡ sum n (λ i. g (entry (getD ks i 0) (getD ws i 0)))
+unfolding sum
+entries-sum g zero ks ws a b = refl
+entries-sum g (suc n) [] ws a b = absurd (not-suc-le-zero a)
+entries-sum g (suc n) (k ∷ ks) [] a b = absurd (not-suc-le-zero b)
+entries-sum g (suc n) (k ∷ ks) (w ∷ ws) a b =
+    omega (
+      arith,
+      sum-front n (λ i. g (entry (getD (k ∷ ks) i 0) (getD (w ∷ ws) i 0))),
+      entries-sum g n ks ws (le-of-suc-le-suc a) (le-of-suc-le-suc b),
+    )
+
 -- the pixels of the first n places are the sum of their weights
 pub pixels-sum : (n : ℕ) (ks ws : List ℕ) → n ≤ length ks → n ≤ length ws
     → pixelsOf (entries n ks ws) ≡ sum n (λ i. getD ws i 0)
-unfolding sum
-pixels-sum zero ks ws a b = refl
-pixels-sum (suc n) [] ws a b = absurd (not-suc-le-zero a)
-pixels-sum (suc n) (k ∷ ks) [] a b = absurd (not-suc-le-zero b)
-pixels-sum (suc n) (k ∷ ks) (w ∷ ws) a b =
-    omega (arith, sum-front n (λ i. getD (w ∷ ws) i 0), pixels-sum n ks ws (le-of-suc-le-suc a) (le-of-suc-le-suc b))
+pixels-sum = entries-sum (λ (e : Entry). e .weight)
+
+-- and f of their keys, weights counted, is the sum of weight times f
+pub levels-sum : (f : ℕ → ℕ) (n : ℕ) (ks ws : List ℕ) → n ≤ length ks → n ≤ length ws
+    → levelsOf f (entries n ks ws) ≡ sum n (λ i. getD ws i 0 * f (getD ks i 0))
+levels-sum f = entries-sum (λ (e : Entry). e .weight * f (e .key))

@@ -11,7 +11,7 @@ use lib.ListN.{length, getD, take, length-take}
 use lib.Seq.{length-take-le, take-all, take-take, take-append-add}
 use lib.Dec.{leb, eqb}
 use borrow.Author.Tests.{le-leb, lt-leb, leb-false}
-use Rattle.number.proofs.Cases.{bool, never}
+use Rattle.number.proofs.Cases.{bool, never, neither}
 use Rattle.table_entries.specs.Content.{Entry, pixelsOf, weightOf, sound}
 use Rattle.colour.specs.{mostPixels}
 use Rattle.table_entries.specs.Strip.{Keys, none, more}
@@ -81,6 +81,18 @@ taken-at-most room es [] = omega arith
 taken-at-most room es (k ∷ ps) = elim (bool (stops room es k)) [
   | inl a ↦ simp a (omega arith)
   | inr a ↦ simp a (omega (arith, taken-at-most room (put k es) ps))
+]
+
+-- and no more than the pixel total allows
+pub taken-few : (room : ℕ) (es : List Entry) (ps : List ℕ) → pixelsOf es ≤ mostPixels
+    → pixelsOf es + takenOf room es ps ≤ mostPixels
+taken-few room es [] h = omega arith
+taken-few room es (k ∷ ps) h = elim (bool (stops room es k)) [
+  | inl a ↦ simp a (omega arith)
+  | inr a ↦
+      let l = leb-false mostPixels (pixelsOf es) (neither (leb mostPixels (pixelsOf es)) _ a .0) in
+      let p = give-pixels k 1 es in
+      simp a (omega (arith, taken-few room (put k es) ps (omega arith)))
 ]
 
 -- the pixel total goes up by their number

@@ -1,6 +1,6 @@
 -- The table as a list of entries, and how it lies in two slices: the keys of its entries at the front of one, their
 -- weights at the front of the other. What stands past them is no part of the table.
-use Prim.Native.Nat.{ℕ, zero, suc, _+_}
+use Prim.Native.Nat.{ℕ, zero, suc, _+_, _*_}
 use mathlib.Core.Bool.{Bool, true, false, cond}
 use mathlib.Core.List.{List, [], _∷_, _++_, map}
 use lib.ListN.{length, drop}
@@ -43,6 +43,10 @@ weightsInto es ws = weightsOf es ++ drop (length es) ws
 -- the pixel total: the sum of the weights
 abbrev pub pixelsOf : List Entry → ℕ
 pixelsOf = sumOf (λ (e : Entry). e .weight)
+
+-- f of the keys added up, weights counted: with f the level of a channel, the channel's sum in whole levels
+abbrev pub levelsOf : (ℕ → ℕ) → List Entry → ℕ
+levelsOf f = sumOf (λ (e : Entry). e .weight * f (e .key))
 
 -- the weight of colour c: the weights of the entries with its key, 0 where there is none
 abbrev pub weightOf : ℕ → List Entry → ℕ

@@ -4,6 +4,7 @@
 --   keysOf, weightsOf  the two columns of a table
 --   keysInto, weightsInto   a table's columns laid into the fronts of slices, the rest kept
 --   pixelsOf           a table's pixel total
+--   levelsOf f         f of the keys added up, weights counted: a channel's sum where f is its level
 --   weightOf c         the weight of colour c
 --   sound low          keys rise strictly from `low` on and are keys; weights are at least 1
 --   stripKeys          the keys of a strip's pixels
@@ -23,7 +24,18 @@ pub mod Strip
 pub mod Adding
 pub mod Lying
 pub use Content.{Entry}
-unfoldable pub use Content.{entry, entries, keysOf, weightsOf, keysInto, weightsInto, pixelsOf, weightOf, sound}
+unfoldable pub use Content.{
+  entry,
+  entries,
+  keysOf,
+  weightsOf,
+  keysInto,
+  weightsInto,
+  pixelsOf,
+  levelsOf,
+  weightOf,
+  sound,
+}
 unfoldable pub use Strip.{stripKeys, keyAt, countOf}
 pub use Strip.{Keys}
 unfoldable pub use Adding.{mostEntries, give, put, putAll, stops, takenOf, withTaken}

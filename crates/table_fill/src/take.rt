@@ -8,11 +8,14 @@ ghost use Rattle.table_pixel.specs.{Standing};
 ghost use Rattle.table_fill.specs.Taking.{Able, TookMeets};
 use table_add::chunk::add_one;
 use table_add::chunk::add_some;
+use table_channels::ChannelSums;
+use table_channels::plus;
 
-// The used entries and the pixels taken.
+// The used entries, the pixels taken, and their levels added up.
 pub struct Took {
     pub used: usize,
     pub taken: usize,
+    pub sums: ChannelSums,
 }
 
 fn smaller(a: usize, b: usize) -> usize
@@ -42,10 +45,15 @@ fn take_few(
     requires { ⌜ Able used room (now keys) (now weights) (now strip) end ⌝ }
     ensures { λ r. ⌜ TookMeets room (entries used (now (keys .entry)) (now (weights .entry)))
         (take end (stripKeys (now (strip .entry)))) (now (keys .entry)) (now (weights .entry))
-        (r .used) (r .taken) (now (keys .exit)) (now (weights .exit)) ⌝ }
+        (r .used) (r .taken) (r .sums) (now (keys .exit)) (now (weights .exit)) ⌝ }
 {
     let mut now_used = used;
     let mut taken = 0;
+    let mut sums = ChannelSums {
+        red: 0,
+        green: 0,
+        blue: 0,
+    };
     while taken < end {
         let got = add_one(keys, weights, now_used, room, strip, taken);
         let next = got.used;
@@ -53,14 +61,17 @@ fn take_few(
             return Took {
                 used: now_used,
                 taken,
+                sums,
             };
         }
         now_used = next;
         taken += 1;
+        sums = plus(sums, got.sums);
     }
     Took {
         used: now_used,
         taken,
+        sums,
     }
 }
 
@@ -77,10 +88,15 @@ fn take_many(
     requires { ⌜ Able used room (now keys) (now weights) (now strip) end ⌝ }
     ensures { λ r. ⌜ TookMeets room (entries used (now (keys .entry)) (now (weights .entry)))
         (take end (stripKeys (now (strip .entry)))) (now (keys .entry)) (now (weights .entry))
-        (r .used) (r .taken) (now (keys .exit)) (now (weights .exit)) ⌝ }
+        (r .used) (r .taken) (r .sums) (now (keys .exit)) (now (weights .exit)) ⌝ }
 {
     let mut now_used = used;
     let mut taken = 0;
+    let mut sums = ChannelSums {
+        red: 0,
+        green: 0,
+        blue: 0,
+    };
     let mut limit = end;
     while taken < end {
         let most = smaller(limit, end - taken);
@@ -90,11 +106,13 @@ fn take_many(
         if next <= room {
             now_used = next;
             taken += pixels;
+            sums = plus(sums, got.sums);
         } else {
             if pixels < 2 {
                 return Took {
                     used: now_used,
                     taken,
+                    sums,
                 };
             }
             limit = pixels / 2;
@@ -103,6 +121,7 @@ fn take_many(
     Took {
         used: now_used,
         taken,
+        sums,
     }
 }
 
@@ -124,7 +143,7 @@ pub fn take_strip(
     requires { ⌜ length (now strip) ≡ 3 * count ⌝ }
     ensures { λ r. ⌜ TookMeets room (entries used (now (keys .entry)) (now (weights .entry)))
         (stripKeys (now (strip .entry))) (now (keys .entry)) (now (weights .entry))
-        (r .used) (r .taken) (now (keys .exit)) (now (weights .exit)) ⌝ }
+        (r .used) (r .taken) (r .sums) (now (keys .exit)) (now (weights .exit)) ⌝ }
 {
     let space = (colour::MOST_PIXELS - before) as usize;
     let end = smaller(count, space);

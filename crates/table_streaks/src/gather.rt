@@ -4,8 +4,8 @@ ghost use Prim.Native.Nat.{ℕ, _+_, _*_, _≤_, _<_};
 ghost use lib.ListN.{length, take, drop};
 ghost use Rattle.number.specs.{sumOf};
 ghost use Rattle.colour.specs.{mostKey};
-ghost use Rattle.table_entries.specs.{stripKeys, keyAt, countOf};
-ghost use Rattle.table_streaks.specs.Streak.{streakCount, joinsStreak};
+ghost use Rattle.table_entries.specs.{stripKeys, keyAt};
+ghost use Rattle.table_streaks.specs.Streak.{streakSum, joinsStreak};
 use super::streak::streak_key;
 
 // Streaks in a list, and the pixels in them.
@@ -38,8 +38,8 @@ pub fn gather(strip: &[u8], from: usize, most: usize, list: &mut [u32]) -> Gathe
     requires { ⌜ (0 < most) × (3 * (from + most) ≤ length (now strip)) × (0 < length (now list)) ⌝ }
     ensures { λ r. ⌜ (0 < r .pixels) × (r .pixels ≤ most)
         × (r .len ≤ length (now (list .entry))) ⌝ }
-    ensures { λ r. ⌜ ((c : ℕ) → sumOf (streakCount c) (take (r .len) (now (list .exit)))
-        ≡ countOf c (take (r .pixels) (drop from (stripKeys (now (strip .entry)))))) ⌝ }
+    ensures { λ r. ⌜ ((f : ℕ → ℕ) → sumOf (streakSum f) (take (r .len) (now (list .exit)))
+        ≡ sumOf f (take (r .pixels) (drop from (stripKeys (now (strip .entry)))))) ⌝ }
 {
     let mut streak = 256 * key_at(strip, 3 * from);
     let mut len = 0;

@@ -2,12 +2,13 @@
 -- The contract of `bad_table` says that its answer is `badTable` of the record and both slices, that of `room_of` that
 -- its answer is the shorter of two lengths, capped at 1,048,576; on every input.
 use mathlib.Core.Path.{_≡_, sym, _∙_}
-use mathlib.Core.Bool.{Bool, false}
+use mathlib.Core.Bool.{Bool, false, _||_}
 use mathlib.Core.Logic.{_↔_}
 use mathlib.Core.List.{List}
-use Prim.Native.Nat.{ℕ, min}
+use Prim.Native.Nat.{ℕ, min, _*_, _≤_}
+use Rattle.colour.specs.{mostLevel}
 use Rattle.table_entries.specs.{entries, weightOf, mostEntries}
-use Rattle.table_test.specs.Tables.{badTable}
+use Rattle.table_test.specs.Tables.{badTable, badCounts, otherSums}
 use Rattle.table_test.specs.Goods.{GoodTable}
 use Rattle.table_test.specs.declared.Record.{Record}
 use Rattle.table_test.proofs.Goods as goods
@@ -29,6 +30,23 @@ room-only keys weights a b = a ∙ sym b
 -- The test of BAD TABLE fails exactly for a good table.
 pub bad-table-exactly : (rec : Record) (ks ws : List ℕ) → (badTable rec ks ws ≡ false) ↔ GoodTable rec ks ws
 bad-table-exactly = goods.bad-table-exactly
+
+-- BAD TABLE in two parts: used entries above the room, entries that are not sound, or a pixel total that is not theirs
+-- or is too large; or a channel sum that is not theirs.
+pub bad-table-parts : (rec : Record) (ks ws : List ℕ)
+    → badTable rec ks ws ≡ (badCounts rec ks ws || otherSums rec ks ws)
+bad-table-parts = goods.bad-table-parts
+
+-- Where the channel sums are true, BAD TABLE is judged by the entries, the used ones and the pixels alone.
+pub bad-of-true-sums : (rec : Record) (ks ws : List ℕ) → otherSums rec ks ws ≡ false
+    → badTable rec ks ws ≡ badCounts rec ks ws
+bad-of-true-sums = goods.bad-of-true-sums
+
+-- The sums of a good table are at most 255 for each pixel, so at most 4,278,190,080.
+pub sums-at-most : (rec : Record) (ks ws : List ℕ) → GoodTable rec ks ws
+    → (rec .red ≤ mostLevel * rec .pixels) × (rec .green ≤ mostLevel * rec .pixels)
+    × (rec .blue ≤ mostLevel * rec .pixels)
+sums-at-most rec ks ws = goods.sums-at-most
 
 -- ---- a table is its weights
 

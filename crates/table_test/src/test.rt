@@ -1,4 +1,5 @@
-// The test behind 2 BAD TABLE. Its loops have no way out but their end, and no branch.
+// The test behind 2 BAD TABLE. Its loops have no way out but their end, and no branch. Weights and
+// their total are judged before the channel sums, so that no sum grows too large.
 ghost use mathlib.Core.Path.{_≡_};
 ghost use Prim.Native.Nat.{_≤_, _<_, min};
 ghost use lib.ListN.{length};
@@ -9,6 +10,8 @@ ghost use Rattle.table_test.specs.Testing.{fallsAt, emptyAt, weightAt};
 use super::MOST_ENTRIES;
 use super::Record;
 use bits::bit;
+use table_sums::other_sums;
+use table_sums::two_sums;
 
 // What a pass over the weights finds: how many are 0, and their sum.
 struct Weighed {
@@ -77,8 +80,14 @@ pub fn bad_table(rec: Record, keys: &[u32], weights: &[u32]) -> bool
     if room < used {
         return true;
     }
+    let red = rec.red;
+    let green = rec.green;
+    let blue = rec.blue;
     if used == 0 {
-        return pixels != 0;
+        if pixels != 0 {
+            return true;
+        }
+        return other_sums(red, green, blue, 0, 0);
     }
     let last = used - 1;
     if faults(keys, last) != 0 {
@@ -96,5 +105,9 @@ pub fn bad_table(rec: Record, keys: &[u32], weights: &[u32]) -> bool
     if sum != pixels {
         return true;
     }
-    colour::MOST_PIXELS < pixels
+    if colour::MOST_PIXELS < pixels {
+        return true;
+    }
+    let sums = two_sums(keys, weights, used);
+    other_sums(red, green, blue, sums.first, sums.second)
 }

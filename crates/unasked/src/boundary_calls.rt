@@ -2,7 +2,7 @@
 
 // Adding a strip.
 pub fn kf_add_strip(
-    rec: &mut [u64; 2],
+    rec: &mut [u64; 5],
     keys: &mut [u32],
     weights: &mut [u32],
     strip: &[u8],
@@ -13,7 +13,7 @@ pub fn kf_add_strip(
 
 // A plain round.
 pub fn kf_plain_round(
-    rec: &[u64; 2],
+    rec: &[u64; 5],
     keys: &[u32],
     weights: &[u32],
     coordinates: &mut [u32],
@@ -25,7 +25,7 @@ pub fn kf_plain_round(
 
 // A shortened round.
 pub fn kf_short_round(
-    rec: &[u64; 2],
+    rec: &[u64; 5],
     keys: &[u32],
     weights: &[u32],
     coordinates: &mut [u32],
@@ -37,7 +37,7 @@ pub fn kf_short_round(
 
 // A run.
 pub fn kf_run(
-    rec: &[u64; 2],
+    rec: &[u64; 5],
     keys: &[u32],
     weights: &[u32],
     count: usize,

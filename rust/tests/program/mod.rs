@@ -94,6 +94,11 @@ pub fn said(output: &Output) -> &str {
     std::str::from_utf8(&output.stderr).unwrap()
 }
 
+/// The lines of an order sheet that have a shade each.
+pub fn shade_lines(sheet: &str) -> impl Iterator<Item = &str> {
+    sheet.lines().skip_while(|line| !line.starts_with("shade ")).skip(1).take_while(|line| !line.is_empty())
+}
+
 /// The program tells in these words that its command line is wrong, and does nothing else.
 pub fn assert_wrong(arguments: &[&str], words: &str) {
     let output = run(arguments, b"");

@@ -7,7 +7,7 @@ use mathlib.Core.Path.{_≡_, refl, sym, _∙_}
 use lib.ListN.{getD, length}
 use Rattle.number.specs.{sum}
 use Rattle.refusal.specs.{done}
-use Rattle.table_test.specs.{Record, roomOf}
+use Rattle.table_test.specs.{Record, roomOf, badTable}
 use Rattle.method.specs.{mostRounds, coloursOf, frontOf, toMean, after, movedOf, begin}
 use Rattle.lloyd_tests.specs.{usualLimit, limitOf}
 use Rattle.lloyd_rounds.specs.{plainRound, shortRound}
@@ -53,6 +53,12 @@ pub run-of-used : (rec : Record) (ks ws ks′ ws′ : List ℕ) (k limit : ℕ) 
     → ((i : ℕ) → i < rec .used → getD ks i 0 ≡ getD ks′ i 0) → ((i : ℕ) → i < rec .used → getD ws i 0 ≡ getD ws′ i 0)
     → runOf rec ks ws k limit ms ts ≡ runOf rec ks′ ws′ k limit ms ts
 run-of-used = used.run-of-used
+
+-- Of the record it depends on how many entries are used, and on whether the record is true: by two records that use as
+-- many and are both BAD TABLE or both not, a run is refused by the same number, or answers the same and leaves the same.
+pub run-by-truth : (rec rec′ : Record) (ks ws : List ℕ) (k limit : ℕ) (ms ts : List ℕ) → rec .used ≡ rec′ .used
+    → badTable rec ks ws ≡ badTable rec′ ks ws → runOf rec ks ws k limit ms ts ≡ runOf rec′ ks ws k limit ms ts
+run-by-truth = used.run-by-truth
 
 module _ {rec : Record} {ks ws : List ℕ} {k limit : ℕ} {ms ts : List ℕ} {r : Ran} {members totals : List ℕ}
     (h : AcceptedRun rec ks ws k limit ms ts r members totals) where

@@ -42,6 +42,7 @@ use Rattle.method.proofs.Bounds.{from-zero}
 use Rattle.method.proofs.Costs.{to-mean-means}
 use Rattle.method.proofs.Promises.{fraction-at-least, fraction-exactly}
 use Rattle.method.proofs.Promises.{signed-fraction-at-least, signed-fraction-exactly}
+use Rattle.starts.specs.{meanBySums}
 use Rattle.lloyd_tests.specs.{limitOf}
 use Rattle.lloyd.specs.Beginning.{FarthestColour}
 use Rattle.lloyd.specs.Outcomes.{AcceptedRun, runOf, madeRun, left}
@@ -68,6 +69,11 @@ module _ {rec : Record} {ks ws : List ℕ} {k limit : ℕ} {ms ts : List ℕ} {r
   pub first-is-mean : shadeAt (begin (coloursOf (rec .used) ks ws) k ms .coordinates) 0
       ≡ meanOf (coloursOf (rec .used) ks ws)
   first-is-mean = accepted.first-is-mean h
+
+  -- And that is read from the record: 16 times each channel's sum over the pixels, rounded.
+  pub first-by-sums : shadeAt (begin (coloursOf (rec .used) ks ws) k ms .coordinates) 0
+      ≡ meanBySums (rec .pixels) (rec .red) (rec .green) (rec .blue)
+  first-by-sums = accepted.first-by-sums h
 
   -- Each next shade begins on the table colour whose distance to its nearest shade before it, of those that the run
   -- begins with, is greatest; every colour with a lower key is strictly nearer.

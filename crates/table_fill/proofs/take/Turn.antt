@@ -34,11 +34,14 @@ use Rattle.table_entries.proofs.Slices.{
   drop-later,
 }
 use Rattle.table_entries.proofs.Takes.{stops-at-room, fits-taken, taken-append, withTaken-append}
+use Rattle.table_channels.specs.{ChannelSums, channelSums, noSums, together}
+use Rattle.table_channels.proofs.Sums.{sums-more}
 use Rattle.table_pixel.specs.{Standing, laidKeys, laidWeights}
 use Rattle.table_fill.specs.Taking.{TookMeets}
 
 -- `taken` of the pixels are in the table, and taking the rest from here gives what taking all gives
-pub record Taking (ks₀ ws₀ : List ℕ) (used room : ℕ) (ps ks ws : List ℕ) (now taken : ℕ) : Type 0 where
+pub record Taking (ks₀ ws₀ : List ℕ) (used room : ℕ) (ps ks ws : List ℕ) (now taken : ℕ) (sums : ChannelSums)
+    : Type 0 where
   pub table : Standing now room ks ws
   pub keys-length : length ks ≡ length ks₀
   pub weights-length : length ws ≡ length ws₀
@@ -46,12 +49,13 @@ pub record Taking (ks₀ ws₀ : List ℕ) (used room : ℕ) (ps ks ws : List �
   pub pixels : pixelsOf (entries now ks ws) ≡ pixelsOf (entries used ks₀ ws₀) + taken
   pub taken-is : taken + takenOf room (entries now ks ws) (drop taken ps) ≡ takenOf room (entries used ks₀ ws₀) ps
   pub table-is : withTaken room (entries now ks ws) (drop taken ps) ≡ withTaken room (entries used ks₀ ws₀) ps
+  pub sums-are : sums ≡ channelSums (take taken ps)
   pub keys-kept : drop now ks ≡ drop now ks₀
   pub weights-kept : drop now ws ≡ drop now ws₀
 
 -- before the first turn
 pub taking-start : (ks ws : List ℕ) (used room : ℕ) (ps : List ℕ) → Standing used room ks ws
-    → Taking ks ws used room ps ks ws used 0
+    → Taking ks ws used room ps ks ws used 0 noSums
 taking-start ks ws used room ps t = record {
   table = t;
   keys-length = refl;
@@ -60,12 +64,13 @@ taking-start ks ws used room ps t = record {
   pixels = omega arith;
   taken-is = omega arith;
   table-is = refl;
+  sums-are = refl;
   keys-kept = refl;
   weights-kept = refl;
 }
 
-module _ {ks₀ ws₀ : List ℕ} {used room : ℕ} {ps ks ws : List ℕ} {now taken : ℕ}
-    (t : Taking ks₀ ws₀ used room ps ks ws now taken) where
+module _ {ks₀ ws₀ : List ℕ} {used room : ℕ} {ps ks ws : List ℕ} {now taken : ℕ} {sums : ChannelSums}
+    (t : Taking ks₀ ws₀ used room ps ks ws now taken sums) where
   -- the table at hand is within the keys
   in-keys : now ≤ length ks
   in-keys = omega (arith, t .table .in-room, t .table .keys-room)
@@ -80,17 +85,18 @@ module _ {ks₀ ws₀ : List ℕ} {used room : ℕ} {ps ks ws : List ℕ} {now t
 
   -- where no more pixels go in, the answer is what is there
   taking-stop : takenOf room (entries now ks ws) (drop taken ps) ≡ 0
-      → TookMeets room (entries used ks₀ ws₀) ps ks₀ ws₀ now taken ks ws
+      → TookMeets room (entries used ks₀ ws₀) ps ks₀ ws₀ now taken sums ks ws
   taking-stop z =
       let e : entries now ks ws ≡ withTaken room (entries used ks₀ ws₀) ps = rw z at (t .table-is) in record {
         taken-is = omega (arith, t .taken-is, z);
         used-is = rw (← e) (sym length-E);
+        sums-are = t .sums-are;
         keys-are = rw (← e) (sym (keys-laid now ks ws in-keys in-weights ks₀ (t .keys-kept)));
         weights-are = rw (← e) (sym (weights-laid now ks ws in-keys in-weights ws₀ (t .weights-kept)));
       }
 
   -- all pixels are taken
-  pub taking-done : length ps ≤ taken → TookMeets room (entries used ks₀ ws₀) ps ks₀ ws₀ now taken ks ws
+  pub taking-done : length ps ≤ taken → TookMeets room (entries used ks₀ ws₀) ps ks₀ ws₀ now taken sums ks ws
   taking-done l = taking-stop (rw (drop-of-length-le ps {i = taken} l))
 
   -- ---- the next pixel alone
@@ -102,7 +108,7 @@ module _ {ks₀ ws₀ : List ℕ} {used room : ℕ} {ps ks ws : List ℕ} {now t
 
     -- where the table with it has more entries than the room, the answer is what is there
     taking-at : room < length (put (getD ps taken 0) (entries now ks ws))
-        → TookMeets room (entries used ks₀ ws₀) ps ks₀ ws₀ now taken ks ws
+        → TookMeets room (entries used ks₀ ws₀) ps ks₀ ws₀ now taken sums ks ws
     taking-at h =
         let s : stops room (entries now ks ws) (getD ps taken 0) ≡ true
         = stops-at-room room (entries now ks ws) (getD ps taken 0) (t .table .sounds)
@@ -133,7 +139,13 @@ module _ {ks₀ ws₀ : List ℕ} {used room : ℕ} {ps ks ws : List ℕ} {now t
     pixels-F : pixelsOf F ≡ pixelsOf (entries used ks₀ ws₀) + (taken + p)
     pixels-F = omega (arith, putAll-pixels (entries now ks ws) (take p (drop taken ps)), length-C, t .pixels)
 
-    module _ {ks′ ws′ : List ℕ} {now′ : ℕ} (un : now′ ≡ length F) (uk : ks′ ≡ laidKeys room F ks)
+    -- their levels, if they are these, beside the sums so far
+    more-sums : {more : ChannelSums} → more ≡ channelSums (take p (drop taken ps))
+        → together sums more ≡ channelSums (take (taken + p) ps)
+    more-sums e = rw (t .sums-are, e) (sym (sums-more taken p ps))
+
+    module _ {ks′ ws′ : List ℕ} {now′ : ℕ} {more : ChannelSums} (un : now′ ≡ length F)
+        (us : more ≡ channelSums (take p (drop taken ps))) (uk : ks′ ≡ laidKeys room F ks)
         (uw : ws′ ≡ laidWeights room F ws) where
       -- they go in
       module _ (h : now′ ≤ room) (m : pixelsOf (entries used ks₀ ws₀) + (taken + p) ≤ mostPixels)
@@ -174,7 +186,7 @@ module _ {ks₀ ws₀ : List ℕ} {used room : ℕ} {ps ks ws : List ℕ} {now t
         grows = omega (arith, putAll-length (entries now ks ws) (take p (drop taken ps)), length-E, un)
 
         -- the loop goes on with them in the table
-        pub taking-in : Taking ks₀ ws₀ used room ps ks′ ws′ now′ (taken + p)
+        pub taking-in : Taking ks₀ ws₀ used room ps ks′ ws′ now′ (taken + p) (together sums more)
         taking-in = record {
           table = record {
             in-room = h;
@@ -195,6 +207,7 @@ module _ {ks₀ ws₀ : List ℕ} {used room : ℕ} {ps ks ws : List ℕ} {now t
           table-is = rw read
               (sym (withTaken-append room (entries now ks ws) C (drop (taken + p) ps) all-taken)
               ∙ (rw parts at (t .table-is)));
+          sums-are = more-sums us;
           keys-kept = rw (un, keys-in) (laid-kept (λ (e : Entry). e .key) F ks)
               ∙ drop-later now now′ ks ks₀ grows (t .keys-kept);
           weights-kept = rw (un, weights-in) (laid-kept (λ (e : Entry). e .weight) F ws)
@@ -215,11 +228,11 @@ module _ {ks₀ ws₀ : List ℕ} {used room : ℕ} {ps ks ws : List ℕ} {now t
         weights-as-they-were = uw ∙ simp shuts
 
         -- so the turn changed nothing
-        pub taking-out : Taking ks₀ ws₀ used room ps ks′ ws′ now taken
+        pub taking-out : Taking ks₀ ws₀ used room ps ks′ ws′ now taken sums
         taking-out = rw (keys-as-they-were, weights-as-they-were) t
 
         -- and where one pixel was tried, that is the end
-        pub taking-full : p ≡ 1 → TookMeets room (entries used ks₀ ws₀) ps ks₀ ws₀ now taken ks′ ws′
+        pub taking-full : p ≡ 1 → TookMeets room (entries used ks₀ ws₀) ps ks₀ ws₀ now taken sums ks′ ws′
         taking-full z =
             let n : room < length F = rw (← un) h in
             let l′ : taken < length ps = omega arith in

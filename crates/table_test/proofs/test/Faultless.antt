@@ -41,7 +41,7 @@ module _ (n : ℕ) (ks ws : List ℕ) (a : n ≤ length ks) (b : n ≤ length ws
   faultless-rises f i l = leb-false _ _ (howMany-none (n - 1) (fallsAt ks) (f .rising) i (omega arith))
 
   -- and no key is above the last one
-  faultless-upto : Faultless n ks ws → (i : ℕ) → i < n → getD ks i 0 ≤ mostKey
+  pub faultless-upto : Faultless n ks ws → (i : ℕ) → i < n → getD ks i 0 ≤ mostKey
   faultless-upto f i l =
       let z : i + (n - 1 - i) ≡ n - 1 = omega arith in
       let t = rising-le n ks (faultless-rises f) i (n - 1 - i) (omega arith) in

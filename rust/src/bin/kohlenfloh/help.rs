@@ -95,17 +95,20 @@ not writable is not replaced.
 CSV has the line shade,red,green,blue,hex,pixels,share,used and then a line for
 each shade: its number, its levels, these as # and six hexadecimal digits, the
 pixels that have it, their share in percent, and whether there are any, yes or
-no. JSON is one object with picture, width, height, pixels, colours, shades,
-in_use (the shades that have pixels), wanted_in_use (as asked for, or null),
-limit (the one in force), rounds, settled, distances (worked out in all rounds),
-final_total, error, mean_square_error; order, a list with the columns of the CSV
-for each shade, used being true or false; and made, which holds version,
-toolchain, proof and sources.
+no. JSON is one object with picture, width, height, pixels, colours, average
+(an object with red, green, blue and hex), shades, in_use (the shades that have
+pixels), wanted_in_use (as asked for, or null), limit (the one in force),
+rounds, settled, distances (worked out in all rounds), final_total, error,
+mean_square_error; order, a list with the columns of the CSV for each shade,
+used being true or false; and made, which holds version, toolchain, proof and
+sources.
 
-On the order sheet, \"settled\" means that the last round moved no shade. The
-error is the sum of squared level differences between the picture and its
-shades, and the mean square error is the error divided by the pixels. Shares
-and means are rounded to two digits by whole-number arithmetic, halves up.
+On the order sheet, the average colour is that of the picture: in each channel
+the level nearest to the mean of all pixels, halves up. \"settled\" means that
+the last round moved no shade. The error is the sum of squared level differences
+between the picture and its shades, and the mean square error is the error
+divided by the pixels. Shares and the mean square error are rounded to two
+digits by whole-number arithmetic, halves up.
 
 Exit status
    0  done

@@ -21,6 +21,8 @@ pub struct Order {
     pub height: usize,
     /// Colours of the picture.
     pub colours: usize,
+    /// Its average colour, in whole levels R, G, B.
+    pub average: [u8; 3],
     /// Rounds made.
     pub rounds: usize,
     /// Whether the last round moved no shade.
@@ -44,8 +46,7 @@ pub struct Line {
 impl Line {
     /// The shade as # and six hexadecimal digits.
     pub fn hex(&self) -> String {
-        let [red, green, blue] = self.levels;
-        format!("#{red:02x}{green:02x}{blue:02x}")
+        hex(self.levels)
     }
 
     /// Whether a pixel has this shade.
@@ -66,6 +67,7 @@ impl Order {
             width: work.picture.width(),
             height: work.picture.height(),
             colours: work.colours,
+            average: work.average,
             rounds: work.run.rounds,
             settled: work.run.settled,
             error: work.error,
@@ -133,12 +135,14 @@ impl Order {
 
     /// What the text says of the picture and of the run.
     fn figures(&self) -> String {
+        let [red, green, blue] = self.average;
         format!(
             "picture            {}\n\
              width              {}\n\
              height             {}\n\
              pixels             {}\n\
              colours            {}\n\
+             average colour     {red}  {green}  {blue}  {}\n\
              shades             {}{}\n\
              rounds             {}\n\
              settled            {}\n\
@@ -149,6 +153,7 @@ impl Order {
             self.height,
             self.pixels(),
             self.colours,
+            hex(self.average),
             self.use_in_words(),
             self.reason(),
             self.rounds,
@@ -171,6 +176,11 @@ impl Order {
     }
 }
 
+/// A colour as # and six hexadecimal digits.
+pub fn hex([red, green, blue]: [u8; 3]) -> String {
+    format!("#{red:02x}{green:02x}{blue:02x}")
+}
+
 /// What made the sheet, so that it can be traced to the proved library behind it.
 fn origin() -> String {
     let lines = MADE.map(|(name, value)| format!("{name:<19}{value}\n"));
@@ -183,10 +193,10 @@ mod tests {
 
     #[test]
     fn the_most_rounds_are_told_as_such() {
-        let lines = vec![Line { levels: [0; 3], pixels: 1 }];
+        let (average, lines) = ([0; 3], vec![Line { levels: [0; 3], pixels: 1 }]);
         let (name, rounds, settled, wanted_in_use) = (String::new(), 200, false, None);
         let mut order =
-            Order { name, width: 1, height: 1, colours: 1, rounds, settled, error: 0, wanted_in_use, lines };
+            Order { name, width: 1, height: 1, colours: 1, average, rounds, settled, error: 0, wanted_in_use, lines };
         assert!(order.sheet().contains("\nsettled            no, and 200 rounds are the most there can be\n"));
         order.rounds = 199;
         assert!(order.sheet().contains("\nsettled            no: more rounds may lower the error, ask for them by"));

@@ -3,7 +3,7 @@
 use kohlenfloh::{made, RunOptions};
 
 use crate::digits::{grouped, quotient};
-use crate::order::Order;
+use crate::order::{hex, Order};
 use crate::svg_shades::Shades;
 use crate::thumbnail;
 use crate::work::Work;
@@ -19,21 +19,29 @@ pub const LEFT: usize = 32;
 /// Where everything ends on the right.
 pub const RIGHT: usize = WIDTH - LEFT;
 /// Where the shades begin.
-pub const TOP: usize = 318;
+pub const TOP: usize = 336;
 /// The height of what stands under the shades.
 const FOOT: usize = 106;
 /// The most height that the shades can have.
 pub const ROOM: usize = PAGE - TOP - FOOT;
 /// Where the figures begin.
 const FIGURES: usize = 114;
+/// The height of a figure's row.
+const FIGURE_HEIGHT: usize = 28;
 /// Where the numbers of the figures begin from the left.
 const FIGURE_LEFT: usize = 176;
+/// How wide the swatch of the average colour is.
+const SWATCH_WIDTH: usize = 48;
+/// Where the hexadecimal digits of the average colour begin from the left.
+const AVERAGE_HEX: usize = FIGURE_LEFT + 60;
+/// Where its levels begin.
+const AVERAGE_LEVELS: usize = AVERAGE_HEX + 84;
 /// The most width of the small picture, which ends on the right.
 const PICTURE_WIDTH: usize = 320;
 /// Where the small picture begins.
 const PICTURE_TOP: usize = 94;
 /// The most height of the small picture.
-const PICTURE_HEIGHT: usize = 204;
+const PICTURE_HEIGHT: usize = 216;
 /// The least side of the small picture, so that it is seen.
 const PICTURE_LEAST: usize = 4;
 /// The most room of a name in a row, by characters of the usual width.
@@ -66,19 +74,21 @@ pub fn drawing(work: &Work<'_>, order: &Order) -> String {
 
 /// Title and figures.
 fn head(order: &Order) -> String {
+    let text = |figure: String| format!(r#"<text x="{FIGURE_LEFT}">{figure}</text>"#);
     let figures = [
-        ("Size", format!("{} by {}", order.width, order.height)),
-        ("Pixels", grouped(order.pixels())),
-        ("Colours", grouped(order.colours as u64)),
-        ("Shades", order.use_in_words()),
-        ("Rounds", rounds(order)),
-        ("Error", grouped(order.error)),
-        ("Mean square error", order.mean()),
+        ("Size", text(format!("{} by {}", order.width, order.height))),
+        ("Pixels", text(grouped(order.pixels()))),
+        ("Colours", text(grouped(order.colours as u64))),
+        ("Average colour", average(order.average)),
+        ("Shades", text(order.use_in_words())),
+        ("Rounds", text(rounds(order))),
+        ("Error", text(grouped(order.error))),
+        ("Mean square error", text(order.mean())),
     ];
     let figures = figures.iter().enumerate().map(|(row, (name, figure))| {
-        let y = FIGURES + 28 * row;
+        let y = FIGURES + FIGURE_HEIGHT * row;
         format!(
-            r##"<text x="{LEFT}" y="{y}" fill="#666666">{name}</text><text x="{FIGURE_LEFT}" y="{y}">{figure}</text>
+            r##"<g transform="translate(0 {y})"><text x="{LEFT}" fill="#666666">{name}</text>{figure}</g>
 "##
         )
     });
@@ -88,6 +98,17 @@ fn head(order: &Order) -> String {
 {figures}"##,
         name = escaped(&shortened(&order.name)),
         figures = figures.collect::<String>(),
+    )
+}
+
+/// The average colour as a shade's colour is shown: swatch, hexadecimal digits, levels.
+fn average(levels: [u8; 3]) -> String {
+    let ([red, green, blue], code) = (levels, hex(levels));
+    format!(
+        r##"
+<rect x="{FIGURE_LEFT}" y="-14" width="{SWATCH_WIDTH}" height="18" fill="{code}" stroke="#999999"/>
+<text x="{AVERAGE_HEX}" font-family="monospace">{code}</text>
+<text x="{AVERAGE_LEVELS}">{red}, {green}, {blue}</text>"##
     )
 }
 

@@ -4,10 +4,13 @@ use kohlenfloh::Run;
 
 use crate::digits::quotient;
 use crate::help::MADE;
-use crate::order::Order;
+use crate::order::{hex, Order};
 
 /// What is told of each shade.
 const COLUMNS: [&str; 8] = ["shade", "red", "green", "blue", "hex", "pixels", "share", "used"];
+
+/// What is told of a colour, in the order of these columns.
+const COLOUR: [&str; 4] = [COLUMNS[1], COLUMNS[2], COLUMNS[3], COLUMNS[4]];
 
 /// The order as CSV: the columns' names, then a line for each shade.
 pub fn csv(order: &Order) -> String {
@@ -27,6 +30,7 @@ pub fn json(order: &Order, run: &Run, limit: usize) -> String {
         ("height", order.height.to_string()),
         ("pixels", order.pixels().to_string()),
         ("colours", order.colours.to_string()),
+        ("average", object(&COLOUR, &colour(order.average, "\""))),
         ("shades", order.lines.len().to_string()),
         ("in_use", order.in_use().to_string()),
         ("wanted_in_use", order.wanted_in_use.map_or("null".into(), |wanted| wanted.to_string())),
@@ -46,16 +50,25 @@ pub fn json(order: &Order, run: &Run, limit: usize) -> String {
 
 /// A shade as a JSON object in one line.
 fn shade(order: &Order, number: usize) -> String {
-    let values = row(order, number, "\"", ["true", "false"]);
-    let fields: Vec<String> = COLUMNS.iter().zip(&values).map(|(name, value)| field(name, value)).collect();
+    object(&COLUMNS, &row(order, number, "\"", ["true", "false"]))
+}
+
+/// A JSON object in one line.
+fn object(names: &[&str], values: &[String]) -> String {
+    let fields: Vec<String> = names.iter().zip(values).map(|(name, value)| field(name, value)).collect();
     format!("{{{}}}", fields.join(", "))
+}
+
+/// A colour's values: its levels, and these as # and six hexadecimal digits, with the quotes that a text wants.
+fn colour(levels: [u8; 3], quote: &str) -> [String; COLOUR.len()] {
+    let [red, green, blue] = levels.map(|level| level.to_string());
+    [red, green, blue, format!("{quote}{}{quote}", hex(levels))]
 }
 
 /// A shade's values in the order of the columns, with the quotes that a text wants and the words for used and unused.
 fn row(order: &Order, number: usize, quote: &str, [used, unused]: [&str; 2]) -> [String; COLUMNS.len()] {
     let line = &order.lines[number];
-    let [red, green, blue] = line.levels.map(|level| level.to_string());
-    let hex = format!("{quote}{}{quote}", line.hex());
+    let [red, green, blue, hex] = colour(line.levels, quote);
     let share = quotient(100 * line.pixels, order.pixels());
     let word = if line.used() { used } else { unused };
     [number.to_string(), red, green, blue, hex, line.pixels.to_string(), share, word.into()]

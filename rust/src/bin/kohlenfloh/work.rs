@@ -18,6 +18,8 @@ pub struct Work<'a> {
     pub picture: Picture<'a>,
     /// How many colours it has.
     pub colours: usize,
+    /// Its average colour.
+    pub average: [u8; 3],
     /// The run that found its shades.
     pub run: Run,
     /// The shades in whole levels.
@@ -50,6 +52,7 @@ fn make<'a>(table: &mut Table, input: &'a [u8], options: &Options) -> Result<Wor
         progress.part("adding pixels", number, strips.len());
         table.add(strip)?;
     }
+    let average = table.average().expect("a picture has a pixel");
     let run = run_of(table, options, &progress)?;
     let palette = run.shades.palette()?;
     let mut index = vec![0; picture.pixels()];
@@ -58,7 +61,7 @@ fn make<'a>(table: &mut Table, input: &'a [u8], options: &Options) -> Result<Wor
         progress.part("mapping pixels", number, strips.len());
         error += palette.map_into(strip, &mut index, number * strip_pixels)?.error;
     }
-    Ok(Work { picture, colours: table.used(), run, palette, index, error })
+    Ok(Work { picture, colours: table.used(), average, run, palette, index, error })
 }
 
 /// The run that is wanted: one of so many shades, or the first of those whose picture uses so many.

@@ -1,4 +1,4 @@
--- `record_left` meets its contract: the two numbers are the fields of the add's record.
+-- `record_left` meets its contract: the five numbers are the fields of the add's record.
 use mathlib.Core.Path.{refl}
 use Rattle.arrays.proofs.record.record_left.Statement.{statement}
 use Rattle.arrays.proofs.record.record_left.Tie as tie

@@ -5,7 +5,7 @@ use borrow.Author.Needs.{needs}
 use Rattle.refusal.specs.{done, firstOf}
 use Rattle.lloyd_tests.specs.{limitOf}
 use Rattle.lloyd_refusal.specs.{runRows}
-use Rattle.lloyd.proofs.Wholes.{runnable-of-none, run-meets-refused, run-meets-made}
+use Rattle.lloyd.proofs.Wholes.{runnable-of-none, table-of-none, run-meets-refused, run-meets-made}
 use Rattle.lloyd.proofs.runs.run.Statement.{statement}
 use Rattle.lloyd.proofs.runs.run.Tie as tie
 
@@ -59,6 +59,8 @@ make-run-requires c κs =
       rw (limit-is l)
           (runnable-of-none (s .rec) (now (s .keys)) (now (s .weights)) (s .count) (s .limit) (now (s .members))
           (now (s .totals)) (none l)),
+      table-of-none (s .rec) (now (s .keys)) (now (s .weights)) (s .count) (s .limit) (now (s .members))
+          (now (s .totals)) (none l),
       refl,
     )
 

@@ -7,11 +7,20 @@ use native.Mathlib.Omega.{arith}
 use lib.ListN.{length}
 use denote.Ref.{now}
 use borrow.Author.Needs.{needs}
+use Rattle.colour.specs.{mostSum}
 use Rattle.table_entries.specs.{entries, stripKeys}
+use Rattle.table_channels.specs.{SumsLow}
 use Rattle.table_test.specs.{Record, roomOf, badTable}
 use Rattle.table_fill.specs.{TookMeets}
-use Rattle.table_test.proofs.Goods.{Good, good-of-test}
-use Rattle.table.proofs.Adds.{meets-bad-strip, meets-bad-table, meets-full, meets-done, taken-small}
+use Rattle.table_test.proofs.Goods.{Good, good-of-test, table-of-good, sums-at-most}
+use Rattle.table.proofs.Adds.{
+  meets-bad-strip,
+  meets-bad-table,
+  meets-full,
+  meets-done,
+  taken-small,
+  taken-sums-low,
+}
 use Rattle.table.proofs.add.add_strip.Statement.{statement}
 use Rattle.table.proofs.add.add_strip.Tie as tie
 
@@ -59,11 +68,15 @@ tested c = roomed c .before .before
 abbrev taken : tie.After-slice-known4 → tie.After-take-strip
 taken c = c .before .before .before .before
 
+-- the same from where the record's parts are known
+abbrev known : tie.After-struct-known6 → tie.After-slice-known4
+known c = c .before .before .before .before .before .before
+
 took : (c : tie.After-take-strip)
     → TookMeets (roomOf (ks (tested c)) (ws (tested c)))
     (entries (rec′ (tested c) .used) (ks (tested c)) (ws (tested c)))
     (stripKeys (s (tested c))) (ks (tested c)) (ws (tested c)) (c .take-strip .result .used)
-    (c .take-strip .result .taken) (c .take-strip .last .0) (c .take-strip .last .1 .0)
+    (c .take-strip .result .taken) (c .take-strip .result .sums) (c .take-strip .last .0) (c .take-strip .last .1 .0)
 took c = rw (room-is (roomed c)) at (c .take-strip .ensures)
 
 small : (c : tie.After-take-strip) → c .take-strip .result .taken ≤ length (s (tested c)) / 3
@@ -122,6 +135,34 @@ add-t25 c =
     let a = taken c in
     omega (arith, small a, table (roomed a .before) .most, st (tested a))
 
+-- the sums of the pixels taken and those of the table before are such as a table may have
+sums-low : (c : tie.After-take-strip) → SumsLow (c .take-strip .result .sums)
+sums-low c =
+    taken-sums-low (rec′ (tested c)) (ks (tested c)) (ws (tested c)) (s (tested c)) (whole (tested c))
+    (is-good (roomed c .before)) (took c)
+
+before-low : (c : tie.After-take-strip) → (let r = rec′ (tested c) in
+    (r .red ≤ mostSum) × (r .green ≤ mostSum) × (r .blue ≤ mostSum))
+before-low c =
+    let g = table (roomed c .before) in
+    let l = sums-at-most (table-of-good _ _ _ g) in
+    (omega (arith, l .0, g .most), omega (arith, l .1, g .most), omega (arith, l .2, g .most))
+
+add-t26 : tie.Need-add-t26
+add-t26 c =
+    let a = taken (c .before .before) in
+    omega (arith, sums-low a .red-low, before-low a .0)
+
+add-t27 : tie.Need-add-t27
+add-t27 c =
+    let a = taken (c .before .before .before .before) in
+    omega (arith, sums-low a .green-low, before-low a .1)
+
+add-t28 : tie.Need-add-t28
+add-t28 c =
+    let a = taken (c .before .before .before .before .before .before) in
+    omega (arith, sums-low a .blue-low, before-low a .2)
+
 same-length-3 : tie.Need-same-length-3
 same-length-3 c = search needs
 
@@ -130,7 +171,7 @@ same-length-4 c = search needs
 
 returns-3 : tie.Need-returns-3
 returns-3 c =
-    let a = taken (c .before) in
+    let a = taken (known (c .before)) in
     let g = tested a in
     meets-full (rec′ g) (ks g) (ws g) (s g) (whole g) (is-good (roomed a .before)) (took a) (c .if3 .taken)
 
@@ -142,7 +183,7 @@ same-length-6 c = search needs
 
 returns-4 : tie.Need-returns-4
 returns-4 c =
-    let a = taken (c .before) in
+    let a = taken (known (c .before)) in
     let g = tested a in
     meets-done (rec′ g) (ks g) (ws g) (s g) (whole g) (is-good (roomed a .before)) (took a) (c .if3 .left)
 
@@ -160,6 +201,9 @@ add-strip-spec =
     room-of-requires
     take-strip-requires
     add-t25
+    add-t26
+    add-t27
+    add-t28
     same-length-3
     same-length-4
     returns-3

@@ -29,6 +29,9 @@ add-pixel-requires : tie.Need-add-pixel-requires
 add-pixel-requires c κs =
     let s = st (c .before .before) in (s .pre .table, omega (arith, s .pre .total))
 
+pixel-sums-requires : tie.Need-pixel-sums-requires
+pixel-sums-requires c κs = search needs
+
 same-length : tie.Need-same-length
 same-length c = search needs
 
@@ -37,12 +40,13 @@ same-length-2 c = search needs
 
 returns : tie.Need-returns
 returns c =
-    let a = c .before .before .before .before in
+    let a = c .before .before .before .before .before in
     let t = a .before .before .before in
     let k = t .key-at .ensures .0 in record {
       some = omega arith;
       within = omega arith;
       used-is = rw (one t) (rw k at (a .add-pixel .ensures .0));
+      sums-are = rw (one t) (rw k at (c .pixel-sums .ensures));
       keys-are = rw (one t) (rw k at (a .add-pixel .ensures .1 .0));
       weights-are = rw (one t) (rw k at (a .add-pixel .ensures .1 .1));
     }
@@ -50,4 +54,11 @@ returns c =
 pub add-one-spec : {M : Type 1} → statement M
 add-one-spec =
     tie.close
-    (tie.spec mul-key-at key-at-requires add-pixel-requires same-length same-length-2 returns)
+    (tie.spec
+    mul-key-at
+    key-at-requires
+    add-pixel-requires
+    pixel-sums-requires
+    same-length
+    same-length-2
+    returns)

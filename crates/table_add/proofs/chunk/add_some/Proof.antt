@@ -37,6 +37,7 @@ returns c =
       some = e .some;
       within = omega (arith, e .within, st (a .before .before .before .before) .pre .some);
       used-is = e .used-is;
+      sums-are = e .sums-are;
       keys-are = e .keys-are;
       weights-are = e .weights-are;
     }

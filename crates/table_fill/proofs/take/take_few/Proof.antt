@@ -6,16 +6,23 @@ use lib.ListN.{take}
 use denote.Ref.{now}
 use Rattle.table_entries.specs.{stripKeys}
 use Rattle.table_fill.proofs.take.Turn.{Taking}
-use Rattle.table_fill.proofs.take.Steps.{steps-start, steps-addable, steps-in-one, steps-full, steps-done}
+use Rattle.table_fill.proofs.take.Steps.{
+  steps-start,
+  steps-addable,
+  steps-low,
+  steps-in-one,
+  steps-full,
+  steps-done,
+}
 use Rattle.table_fill.proofs.take.take_few.Statement.{statement}
 use Rattle.table_fill.proofs.take.take_few.Tie as tie
 
 abbrev Inv-loop : tie.InvT-loop
-Inv-loop keys₀ weights₀ used room strip end now-used₀ taken₀ keys weights now-used taken =
-    (taken ≤ end) × Taking keys₀ weights₀ used room (take end (stripKeys strip)) keys weights now-used taken
+Inv-loop keys₀ weights₀ used room strip end now-used₀ taken₀ sums₀ keys weights now-used taken sums =
+    (taken ≤ end) × Taking keys₀ weights₀ used room (take end (stripKeys strip)) keys weights now-used taken sums
 
 abbrev μ-loop : tie.MeasureT-loop
-μ-loop keys₀ weights₀ used room strip end now-used₀ taken₀ keys weights now-used taken = end - taken
+μ-loop keys₀ weights₀ used room strip end now-used₀ taken₀ sums₀ keys weights now-used taken sums = end - taken
 
 -- with a pixel tried: the loop's head, what is known once the slices are, the entry
 abbrev Tested : Type 0
@@ -66,16 +73,22 @@ returns c =
 add-taken : tie.Need-add-taken Inv-loop μ-loop
 add-taken c = let a = tried (c .before) in omega (arith, inside a, one a, st a)
 
+plus-requires : tie.Need-plus-requires Inv-loop μ-loop
+plus-requires c κs =
+    let a = tried (c .before) in
+    steps-low (st a .pre) (lp a .loop .inv .1) (a .add-one .ensures) (inside a)
+
 loop-less : tie.Need-loop-less Inv-loop μ-loop
 loop-less c =
-    let a = tried (c .before) in omega (arith, a .before .before .before .loop-test .taken)
+    let a = tried (c .before .before) in omega (arith, a .before .before .before .loop-test .taken)
 
 loop-again : tie.Need-loop-again Inv-loop μ-loop
 loop-again c =
-    let a = tried (c .before) in (
+    let a = tried (c .before .before) in (
       omega (arith, inside a, one a),
-      steps-in-one (st a .pre) (lp a .loop .inv .1) (a .add-one .ensures) (inside a) (one a)
-          (λ i. omega (arith, lp a .before .shared-slice-known .given i)) (c .if1 .left),
+      rw (c .plus .ensures)
+          (steps-in-one (st a .pre) (lp a .loop .inv .1) (a .add-one .ensures) (inside a) (one a)
+          (λ i. omega (arith, lp a .before .shared-slice-known .given i)) (c .before .if1 .left)),
     )
 
 same-length-3 : tie.Need-same-length-3 Inv-loop μ-loop
@@ -100,6 +113,7 @@ take-few-spec =
     same-length-2
     returns
     add-taken
+    plus-requires
     loop-less
     loop-again
     same-length-3

@@ -7,17 +7,25 @@ use lib.ListN.{take}
 use denote.Ref.{now}
 use Rattle.table_entries.specs.{stripKeys}
 use Rattle.table_fill.proofs.take.Turn.{Taking}
-use Rattle.table_fill.proofs.take.Steps.{steps-start, steps-addable, steps-in, steps-out, steps-full, steps-done}
+use Rattle.table_fill.proofs.take.Steps.{
+  steps-start,
+  steps-addable,
+  steps-low,
+  steps-in,
+  steps-out,
+  steps-full,
+  steps-done,
+}
 use Rattle.table_fill.proofs.take.take_many.Statement.{statement}
 use Rattle.table_fill.proofs.take.take_many.Tie as tie
 
 abbrev Inv-loop : tie.InvT-loop
-Inv-loop keys₀ weights₀ used room strip end now-used₀ taken₀ limit₀ keys weights now-used taken limit =
+Inv-loop keys₀ weights₀ used room strip end now-used₀ taken₀ sums₀ limit₀ keys weights now-used taken sums limit =
     (taken ≤ end) × (taken < end → 0 < limit)
-    × Taking keys₀ weights₀ used room (take end (stripKeys strip)) keys weights now-used taken
+    × Taking keys₀ weights₀ used room (take end (stripKeys strip)) keys weights now-used taken sums
 
 abbrev μ-loop : tie.MeasureT-loop
-μ-loop keys₀ weights₀ used room strip end now-used₀ taken₀ limit₀ keys weights now-used taken limit =
+μ-loop keys₀ weights₀ used room strip end now-used₀ taken₀ sums₀ limit₀ keys weights now-used taken sums limit =
     (end - taken) + limit
 
 -- with a chunk tried: the loop's head, what is known once the slices are, the entry, the pixels tried
@@ -73,18 +81,24 @@ add-some-requires c κs =
 add-taken : tie.Need-add-taken Inv-loop μ-loop
 add-taken c = let a = tried (c .before) in omega (arith, inside a, st a)
 
+plus-requires : tie.Need-plus-requires Inv-loop μ-loop
+plus-requires c κs =
+    let a = tried (c .before) in
+    steps-low (st a .pre) (lp a .loop .inv .2) (a .add-some .ensures) (inside a)
+
 loop-less : tie.Need-loop-less Inv-loop μ-loop
 loop-less c =
-    let a = tried (c .before) in omega (arith, inside a, a .add-some .ensures .some)
+    let a = tried (c .before .before) in omega (arith, inside a, a .add-some .ensures .some)
 
 loop-again : tie.Need-loop-again Inv-loop μ-loop
 loop-again c =
-    let a = tried (c .before) in
+    let a = tried (c .before .before) in
     let i = lp a .loop .inv in (
       inside a,
       (λ h. i .1 (turn a)),
-      steps-in (st a .pre) (i .2) (a .add-some .ensures) (inside a)
-          (λ j. omega (arith, lp a .before .shared-slice-known .given j)) (c .if1 .taken),
+      rw (c .plus .ensures)
+          (steps-in (st a .pre) (i .2) (a .add-some .ensures) (inside a)
+          (λ j. omega (arith, lp a .before .shared-slice-known .given j)) (c .before .if1 .taken)),
     )
 
 same-length : tie.Need-same-length Inv-loop μ-loop
@@ -136,6 +150,7 @@ take-many-spec =
     smaller-requires
     add-some-requires
     add-taken
+    plus-requires
     loop-less
     loop-again
     same-length

@@ -1,0 +1,2 @@
+-- Laws of the sums: of no pixel, of pixels in two lots, how large they get, and that streaks have those of their pixels.
+pub mod Sums

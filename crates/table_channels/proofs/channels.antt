@@ -1,0 +1,2 @@
+-- The loop over streaks: what holds at each turn.
+pub mod Adding

@@ -1,0 +1,2 @@
+-- No other three sums have both numbers.
+pub mod Telling
