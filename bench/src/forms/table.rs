@@ -43,7 +43,7 @@ pub fn is_table(record: Record, keys: &[u32], weights: &[u32]) -> bool {
 }
 
 /// The same in one pass, with two sums of weight times a number of the key. Where R, G and B are the sums of levels,
-/// the two are 65536 R + 256 G + B and 16777216 G + 65537 B; no other three numbers of at most 255 * 2^24 have both.
+/// the two are 65536 R + 256 G + B and R + 16777216 B; no other three numbers of at most 255 * 2^24 have both.
 pub fn is_table_packed(record: Record, keys: &[u32], weights: &[u32]) -> bool {
     let Record { used, pixels, red, green, blue, .. } = record;
     if !counts_fit(record, keys, weights) || red.max(green).max(blue) > 255 << 24 {
@@ -60,14 +60,14 @@ pub fn is_table_packed(record: Record, keys: &[u32], weights: &[u32]) -> bool {
         first = first.wrapping_add(one);
         second = second.wrapping_add(other);
     }
-    let sums = (65536 * red + 256 * green + blue, 16777216 * green + 65537 * blue);
+    let sums = (65536 * red + 256 * green + blue, red + 16777216 * blue);
     faults == 0 && total == pixels && (first, second) == sums
 }
 
 /// What an entry gives to the two sums.
 #[inline(always)]
 fn packed(key: u32, weight: u32) -> [u64; 2] {
-    [key, key << 16 | key & 255].map(|number| weight as u64 * number as u64)
+    [key, key << 24 | key >> 16].map(|number| weight as u64 * number as u64)
 }
 
 /// The sums of the levels R, G and B of some pixels: by columns of rows of 48 bytes, of which 256 fit 16 bits.

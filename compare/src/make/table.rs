@@ -97,8 +97,8 @@ pub fn untrue(record: Record, way: usize) -> Option<Record> {
         14 => [red - 1, green + 256, blue],
         15 => [red, green - 1, blue + 256],
         16 => [red + 1, green, blue - 65536],
-        // off with that and 16777216 G + 65537 B as they are
-        _ => [red + 1, green - 16_777_472, blue + (1 << 32)],
+        // off with R + 16777216 B as it is
+        _ => [red + (1 << 24), green, blue - 1],
     };
     let [Ok(red), Ok(green), Ok(blue)] = sums.map(u64::try_from) else { return None };
     Some(Record::new(record.used, record.pixels, [red, green, blue])).filter(|untrue| *untrue != record)

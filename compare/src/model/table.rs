@@ -181,7 +181,7 @@ fn ways_untrue(told: [u128; 3], due: [u128; 3]) -> [(bool, &'static str); 9] {
     };
     let by = |step: i128| (0..3).any(|channel| alone(channel, step));
     let packed = |factors: [i128; 3]| (0..3).map(|channel| factors[channel] * off[channel]).sum::<i128>();
-    let (one_number, other_number) = (packed([65536, 256, 1]), packed([0, 16_777_216, 65537]));
+    let (one_number, other_number) = (packed([65536, 256, 1]), packed([1, 0, 16_777_216]));
     [
         (alone(0, 1), "a red sum off by one"),
         (alone(1, 1), "a green sum off by one"),
@@ -191,7 +191,7 @@ fn ways_untrue(told: [u128; 3], due: [u128; 3]) -> [(bool, &'static str); 9] {
         (told.contains(&u64::MAX.into()), "a sum of 2^64 - 1"),
         (by(1 << 32) || by(1 << 48), "a sum off by 2^32 or 2^48"),
         (one_number == 0, "sums off that agree in 65536 R + 256 G + B"),
-        (one_number == 0 && other_number == 0, "sums off that agree in 16777216 G + 65537 B too"),
+        (other_number == 0, "sums off that agree in R + 16777216 B"),
     ]
 }
 

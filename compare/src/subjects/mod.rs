@@ -57,7 +57,7 @@ const BAD_TABLES: [&str; 17] = [
     "a sum of 2^64 - 1",
     "a sum off by 2^32 or 2^48",
     "sums off that agree in 65536 R + 256 G + B",
-    "sums off that agree in 16777216 G + 65537 B too",
+    "sums off that agree in R + 16777216 B",
 ];
 
 /// A failed case: its number (none where the cases as a whole fail), what failed, and what was asked.

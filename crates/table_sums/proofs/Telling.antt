@@ -1,5 +1,5 @@
--- Two numbers tell three sums: 65536 times the first less the second is 4294967296 R - B, which tells red and blue, as
--- blue is below 4294967296; then the first tells green.
+-- Two numbers tell three sums: 65536 times the second less the first is 1099511627775 B - 256 G, which tells blue and
+-- green, as 256 G is below 1099511627775; then the second tells red.
 use Prim.Native.Nat.{ℕ, _+_, _*_, _≤_}
 use mathlib.Core.List.{List}
 use mathlib.Core.Path.{_≡_, refl}
@@ -26,11 +26,10 @@ two-of-none = record {
 pub two-only : {R G B r g b first second : ℕ} → Two R G B first second → Two r g b first second
     → (R ≡ r) × (G ≡ g) × (B ≡ b)
 two-only {R} {G} {B} {r} {g} {b} s t =
-    let e : 4294967296 * R + b ≡ 4294967296 * r + B
+    let e : 1099511627775 * B + 256 * g ≡ 1099511627775 * b + 256 * G
     = omega (arith, s .first-is, s .second-is, t .first-is, t .second-is) in
-    let red : R ≡ r = omega (arith, s .blue-low, t .blue-low) in
-    let blue : B ≡ b = omega arith in
-    (red, omega (arith, s .first-is, t .first-is), blue)
+    let blue : B ≡ b = omega (arith, s .green-low, t .green-low) in
+    (omega (arith, s .second-is, t .second-is), omega arith, blue)
 
 -- a channel's sum over entries of a table is at most that of a full table of level 255
 pub channel-low : (n : ℕ) (ks ws : List ℕ) → Tabled n ks ws → (f : ℕ → ℕ) → ((k : ℕ) → f k ≤ mostLevel) → (i : ℕ)

@@ -1,7 +1,7 @@
 -- Glossary.
 --   redSum, greenSum, blueSum   the sums of the three channels over the first n entries of two slices
---   mixOf g b         16777216 g + 65537 b
---   Two R G B f s     f is 65536 R + 256 G + B, s is mixOf G B, and no sum is above that of a full table of level 255
+--   mixOf r b         r + 16777216 b
+--   Two R G B f s     f is 65536 R + 256 G + B, s is mixOf R B, and no sum is above that of a full table of level 255
 --   threeSame         three sums are three others, one by one
 pub mod Telling
 unfoldable pub use Telling.{mixOf, redSum, greenSum, blueSum, threeSame}

@@ -20,14 +20,14 @@ greenSum n ks ws = sum n (weighed greenOf ks ws)
 abbrev pub blueSum : ℕ → List ℕ → List ℕ → ℕ
 blueSum n ks ws = sum n (weighed blueOf ks ws)
 
--- green and blue in the second number
+-- red and blue in the second number
 abbrev pub mixOf : ℕ → ℕ → ℕ
-mixOf green blue = 16777216 * green + 65537 * blue
+mixOf red blue = red + 16777216 * blue
 
 -- the two numbers of three sums, as the first is a key's of its levels; no sum is above that of a full table of level 255
 pub record Two (red green blue first second : ℕ) : Type 0 where
   pub first-is : first ≡ keyOf red green blue
-  pub second-is : second ≡ mixOf green blue
+  pub second-is : second ≡ mixOf red blue
   pub red-low : red ≤ mostSum
   pub green-low : green ≤ mostSum
   pub blue-low : blue ≤ mostSum

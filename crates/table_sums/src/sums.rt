@@ -3,7 +3,7 @@ ghost use mathlib.Core.Path.{_≡_};
 ghost use mathlib.Core.Bool.{not};
 ghost use Prim.Native.Nat.{ℕ, _*_, _≤_, _<_};
 ghost use lib.ListN.{getD};
-ghost use Rattle.colour.specs.{mostKey, mostPixels, greenOf, blueOf};
+ghost use Rattle.colour.specs.{mostKey, mostPixels, redOf, blueOf};
 ghost use Rattle.table_entries.specs.{Tabled};
 ghost use Rattle.table_sums.specs.Telling.{mixOf, redSum, greenSum, blueSum, Two, threeSame};
 use super::TwoSums;
@@ -17,11 +17,13 @@ fn times(weight: u32, x: u32) -> u64
     weight as u64 * x as u64
 }
 
-// What the second number has of a key: 16777216 times the green level and 65537 times the blue one.
+// What the second number has of a key: the red level, and 16777216 times the blue one. Requires a
+// key.
 fn mix_of(key: u32) -> u32
-    ensures { λ r. ⌜ r ≡ mixOf (greenOf key) (blueOf key) ⌝ }
+    requires { ⌜ key ≤ mostKey ⌝ }
+    ensures { λ r. ⌜ r ≡ mixOf (redOf key) (blueOf key) ⌝ }
 {
-    key % 65536 * 65536 + key % 256
+    key % 256 * 16777216 + key / 65536
 }
 
 // Both numbers over the entries of a table. Requires that it is one, and that its keys are keys.
@@ -60,5 +62,5 @@ pub fn other_sums(red: u64, green: u64, blue: u64, first: u64, second: u64) -> b
     if 65536 * red + 256 * green + blue != first {
         return true;
     }
-    16777216 * green + 65537 * blue != second
+    red + 16777216 * blue != second
 }

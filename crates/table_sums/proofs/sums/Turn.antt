@@ -18,8 +18,8 @@ key-times : (w key : ℕ) → key ≤ mostKey → w * key ≡ keyOf (w * redOf k
 key-times w key l = ap (λ (k : ℕ). w * k) (sym (key-of-levels key l)) ∙ omega arith
 
 -- a weight times a mix is the mix of the products
-mix-times : (w g b : ℕ) → w * mixOf g b ≡ mixOf (w * g) (w * b)
-mix-times w g b = omega arith
+mix-times : (w r b : ℕ) → w * mixOf r b ≡ mixOf (w * r) (w * b)
+mix-times w r b = omega arith
 
 -- both numbers are those of the sums over the entries before place i
 pub record Summing (ks ws : List ℕ) (used first second i : ℕ) : Type 0 where
@@ -29,7 +29,7 @@ pub record Summing (ks ws : List ℕ) (used first second i : ℕ) : Type 0 where
 -- none of a table's sums is too large, up to any place
 sums-are-two : (ks ws : List ℕ) (used i first second : ℕ) → Tabled used ks ws → i ≤ used
     → first ≡ keyOf (redSum i ks ws) (greenSum i ks ws) (blueSum i ks ws)
-    → second ≡ mixOf (greenSum i ks ws) (blueSum i ks ws)
+    → second ≡ mixOf (redSum i ks ws) (blueSum i ks ws)
     → Two (redSum i ks ws) (greenSum i ks ws) (blueSum i ks ws) first second
 sums-are-two ks ws used i first second t l e f = record {
   first-is = e;
@@ -48,7 +48,7 @@ module _ {ks ws : List ℕ} {used first second i : ℕ} (t : Tabled used ks ws) 
     (l : i < used) (key : getD ks i 0 ≤ mostKey) where
   -- the entry of place i is added
   pub summing-step : (x y : ℕ) → x ≡ getD ws i 0 * getD ks i 0
-      → y ≡ getD ws i 0 * mixOf (greenOf (getD ks i 0)) (blueOf (getD ks i 0))
+      → y ≡ getD ws i 0 * mixOf (redOf (getD ks i 0)) (blueOf (getD ks i 0))
       → Summing ks ws used (first + x) (second + y) (i + 1)
   summing-step x y e f =
       let red = sum-more i (weighed redOf ks ws) in
@@ -58,18 +58,18 @@ module _ {ks ws : List ℕ} {used first second i : ℕ} (t : Tabled used ks ws) 
         within = omega arith;
         two = sums-are-two ks ws used (i + 1) (first + x) (second + y) t (omega arith)
             (rw (e, key-times (getD ws i 0) (getD ks i 0) key, red, green, blue) (omega (arith, s .two .first-is)))
-            (rw (f, mix-times (getD ws i 0) (greenOf (getD ks i 0)) (blueOf (getD ks i 0)), green, blue)
+            (rw (f, mix-times (getD ws i 0) (redOf (getD ks i 0)) (blueOf (getD ks i 0)), red, blue)
             (omega (arith, s .two .second-is)));
       }
 
   -- and neither number is too large then
   pub summing-fits : (x y : ℕ) → x ≡ getD ws i 0 * getD ks i 0
-      → y ≡ getD ws i 0 * mixOf (greenOf (getD ks i 0)) (blueOf (getD ks i 0))
+      → y ≡ getD ws i 0 * mixOf (redOf (getD ks i 0)) (blueOf (getD ks i 0))
       → (first + x ≤ 18446744073709551615) × (second + y ≤ 18446744073709551615)
   summing-fits x y e f =
       let t = summing-step x y e f .two in (
         omega (arith, t .first-is, t .red-low, t .green-low, t .blue-low),
-        omega (arith, t .second-is, t .green-low, t .blue-low),
+        omega (arith, t .second-is, t .red-low, t .blue-low),
       )
 
 -- every entry is added

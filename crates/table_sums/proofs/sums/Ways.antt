@@ -42,10 +42,10 @@ module _ (red green blue R G B : ℕ) where
 
     -- three that give the first number are the sums exactly where they give the second
     pub others-by-second : red ≤ mostSum → green ≤ mostSum → blue ≤ mostSum → keyOf red green blue ≡ first
-        → not (eqb (mixOf green blue) second) ≡ not (threeSame R G B red green blue)
-    others-by-second lr lg lb e = elim (bool (eqb (mixOf green blue) second)) [
+        → not (eqb (mixOf red blue) second) ≡ not (threeSame R G B red green blue)
+    others-by-second lr lg lb e = elim (bool (eqb (mixOf red blue) second)) [
       | inl s ↦
-          let q : mixOf green blue ≡ second = eqb-true (mixOf green blue) second s in
+          let q : mixOf red blue ≡ second = eqb-true (mixOf red blue) second s in
           let same = two-only t (record {
             first-is = sym e;
             second-is = sym q;
@@ -55,5 +55,5 @@ module _ (red green blue R G B : ℕ) where
           }) in
           rw (s, eq-eqb R red (same .0), eq-eqb G green (same .1), eq-eqb B blue (same .2))
       | inr s ↦
-          rw s (others (λ h. eqb-false (mixOf green blue) second s (omega (arith, t .second-is, h .1, h .2))))
+          rw s (others (λ h. eqb-false (mixOf red blue) second s (omega (arith, t .second-is, h .0, h .2))))
     ]

@@ -46,9 +46,6 @@ returns-4 c R G B t =
 mul-result : tie.Need-mul-result
 mul-result c = search needs
 
-mul-result-2 : tie.Need-mul-result-2
-mul-result-2 c = search needs
-
 add-result : tie.Need-add-result
 add-result c = search needs
 
@@ -74,6 +71,5 @@ other-sums-spec =
     add-if4-2
     returns-4
     mul-result
-    mul-result-2
     add-result
     returns-5)

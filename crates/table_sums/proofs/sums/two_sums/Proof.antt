@@ -5,7 +5,7 @@ use native.Mathlib.Omega.{arith}
 use lib.ListN.{getD}
 use denote.Ref.{now}
 use borrow.Author.Needs.{needs}
-use Rattle.colour.specs.{mostKey, mostPixels, greenOf, blueOf}
+use Rattle.colour.specs.{mostKey, mostPixels, redOf, blueOf}
 use Rattle.level_sums.proofs.Bounds.{weight-at-most}
 use Rattle.table_sums.specs.Telling.{mixOf}
 use Rattle.table_sums.proofs.sums.Turn.{Summing, summing-start, summing-step, summing-fits, summing-done}
@@ -44,7 +44,7 @@ second-is : (c : tie.After-times2 Inv-loop μ-loop)
     → (let t = turn (first c) .before in
     let a = st t .args in
     let key = getD (now (a .keys)) (t .loop .i) 0 in
-    c .times2 .result ≡ getD (now (a .weights)) (t .loop .i) 0 * mixOf (greenOf key) (blueOf key))
+    c .times2 .result ≡ getD (now (a .weights)) (t .loop .i) 0 * mixOf (redOf key) (blueOf key))
 second-is c = rw (c .before .mix-of .ensures) at (c .times2 .ensures)
 
 loop-holds : tie.Need-loop-holds Inv-loop μ-loop
@@ -86,7 +86,7 @@ shared-slice-read-mix-of : tie.Need-shared-slice-read-mix-of Inv-loop μ-loop
 shared-slice-read-mix-of c = omega arith
 
 mix-of-requires : tie.Need-mix-of-requires Inv-loop μ-loop
-mix-of-requires c κs = search needs
+mix-of-requires c κs = key-low (c .before .before .before .before .before)
 
 times-requires-2 : tie.Need-times-requires-2 Inv-loop μ-loop
 times-requires-2 c κs = weight-low (c .before .before .before .before .before .before)
