@@ -21,5 +21,6 @@ module _ {rec : Record} {ks ws : List ℕ} (g : GoodTable rec ks ws) where
       (rw (g .pixels) some, g .most, low .0, low .1, low .2)
 
   -- the mean by the record's sums is that of the table's colours
-  pub mean-of-record : meanBySums (rec .pixels) (rec .red) (rec .green) (rec .blue) ≡ meanOf (coloursOf (rec .used) ks ws)
+  pub mean-of-record : meanBySums (rec .pixels) (rec .red) (rec .green) (rec .blue)
+      ≡ meanOf (coloursOf (rec .used) ks ws)
   mean-of-record = mean-by-sums (rec .used) ks ws (g .pixels) (g .reds) (g .greens) (g .blues)

@@ -1,7 +1,7 @@
 -- The mean by a table's sums is its rounded mean.
-use Prim.Native.Nat.{ℕ, _+_, _*_, _≤_}
+use Prim.Native.Nat.{ℕ, _*_}
 use mathlib.Core.List.{List}
-use mathlib.Core.Path.{_≡_, sym}
+use mathlib.Core.Path.{_≡_}
 use native.Mathlib.Omega.{arith}
 use lib.ListN.{getD}
 use Rattle.number.specs.{sum}

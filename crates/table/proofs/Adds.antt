@@ -111,15 +111,16 @@ module _ (rec : Record) (ks ws s : List ℕ) where
       after-is : after ≡ recordOf (withTaken (roomOf ks ws) (entries (rec .used) ks ws) (stripKeys s))
       after-is =
           let es = entries (rec .used) ks ws in
+          let ps = stripKeys s in
           let is = good-of-test rec ks ws b .is in
-          let more : (f : ℕ → ℕ) → levelsOf f es + sumOf f (take taken (stripKeys s))
-          ≡ levelsOf f (withTaken (roomOf ks ws) es (stripKeys s))
-          = λ f. rw (t .taken-is) (sym (putAll-levels f es (take (takenOf (roomOf ks ws) es (stripKeys s)) (stripKeys s)))) in
+          let sums = t .sums-are in
+          let more : (f : ℕ → ℕ) → levelsOf f es + sumOf f (take taken ps) ≡ levelsOf f (withTaken (roomOf ks ws) es ps)
+          = λ f. rw (t .taken-is) (sym (putAll-levels f es (take (takenOf (roomOf ks ws) es ps) ps))) in
           five-same (t .used-is)
-          (omega (arith, ap (λ (r : Record). r .pixels) is, t .taken-is, taken-pixels (roomOf ks ws) es (stripKeys s)))
-          (omega (arith, ap (λ (r : Record). r .red) is, ap (λ (x : ChannelSums). x .red) (t .sums-are), more redOf))
-          (omega (arith, ap (λ (r : Record). r .green) is, ap (λ (x : ChannelSums). x .green) (t .sums-are), more greenOf))
-          (omega (arith, ap (λ (r : Record). r .blue) is, ap (λ (x : ChannelSums). x .blue) (t .sums-are), more blueOf))
+          (omega (arith, ap (λ (r : Record). r .pixels) is, t .taken-is, taken-pixels (roomOf ks ws) es ps))
+          (omega (arith, ap (λ (r : Record). r .red) is, ap (λ (x : ChannelSums). x .red) sums, more redOf))
+          (omega (arith, ap (λ (r : Record). r .green) is, ap (λ (x : ChannelSums). x .green) sums, more greenOf))
+          (omega (arith, ap (λ (r : Record). r .blue) is, ap (λ (x : ChannelSums). x .blue) sums, more blueOf))
 
       -- the answer with this number is the outcome's
       answered : (n : ℕ)

@@ -114,8 +114,8 @@ module _ (rec : Record) (ks ws s : List ℕ) (whole : badStrip s ≡ false) (tes
             ∙ ap₂ (λ (a b : ℕ). a + b) (ap (λ (r : Record). r .blue) g) (taken-bytes blueOf 2 (λ i. byte i .2)),
       )
     where
-      byte : (i : ℕ) → (redOf (keyAt s (3 * i)) ≡ getD s (3 * i + 0) 0) × (greenOf (keyAt s (3 * i)) ≡ getD s (3 * i + 1) 0)
-          × (blueOf (keyAt s (3 * i)) ≡ getD s (3 * i + 2) 0)
+      byte : (i : ℕ) → (redOf (keyAt s (3 * i)) ≡ getD s (3 * i + 0) 0)
+          × (greenOf (keyAt s (3 * i)) ≡ getD s (3 * i + 1) 0) × (blueOf (keyAt s (3 * i)) ≡ getD s (3 * i + 2) 0)
       byte i =
           let z : 3 * i + 0 ≡ 3 * i = omega arith in
           rw z (levels-of-key (getD s (3 * i) 0) (getD s (3 * i + 1) 0) (getD s (3 * i + 2) 0) (record {

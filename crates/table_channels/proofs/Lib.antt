@@ -1,2 +1,3 @@
--- Laws of the sums: of no pixel, of pixels in two lots, how large they get, and that streaks have those of their pixels.
+-- Laws of the sums: of one pixel, of pixels in two lots, how large they get, and that streaks have those of their
+-- pixels.
 pub mod Sums

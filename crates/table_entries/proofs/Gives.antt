@@ -1,5 +1,5 @@
--- Laws of pixels added to a table: its length, its pixel total, the weight of each colour, the sum of a channel, and that
--- it stays sound.
+-- Laws of pixels added to a table: its length, its pixel total, the weight of each colour, the sum of a channel, and
+-- that it stays sound.
 -- Those of `give` hold for one pixel (`put`) as they stand, at w = 1.
 use mathlib.Core.Path.{_≡_, refl, ap}
 use mathlib.Core.Bool.{true, cond}

@@ -24,7 +24,8 @@ blueSum n ks ws = sum n (weighed blueOf ks ws)
 abbrev pub mixOf : ℕ → ℕ → ℕ
 mixOf red blue = red + 16777216 * blue
 
--- the two numbers of three sums, as the first is a key's of its levels; no sum is above that of a full table of level 255
+-- the two numbers of three sums, of which the first is made as a key is of its levels; no sum is above that of a full
+-- table of level 255
 pub record Two (red green blue first second : ℕ) : Type 0 where
   pub first-is : first ≡ keyOf red green blue
   pub second-is : second ≡ mixOf red blue

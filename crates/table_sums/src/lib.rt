@@ -1,7 +1,7 @@
 // The channel sums of a table, judged: are these the sums of the entries in two slices.
-// A pass over the entries works out two numbers in place of three sums, as a multiplication is what
-// it costs: 65536 R + 256 G + B, which is the keys times their weights, and R + 16777216 B. No other
-// three sums that a table may have give both.
+// A pass over the entries works out two numbers in place of three sums, as multiplications are what
+// it costs: 65536 R + 256 G + B, which is the keys times their weights, and R + 16777216 B. No
+// other three sums that a table may have give both.
 //
 // Functions, for the crate above (each says what it requires)
 //   two_sums     both numbers over the entries of a table

@@ -131,7 +131,8 @@ bad-table-exactly rec ks ws = (
 
 -- a channel's sum is at most 255 for each pixel, so that of a full table fits in 32 bits
 pub sums-at-most : {rec : Record} {ks ws : List ℕ} → GoodTable rec ks ws
-    → (rec .red ≤ mostLevel * rec .pixels) × (rec .green ≤ mostLevel * rec .pixels) × (rec .blue ≤ mostLevel * rec .pixels)
+    → (rec .red ≤ mostLevel * rec .pixels) × (rec .green ≤ mostLevel * rec .pixels)
+    × (rec .blue ≤ mostLevel * rec .pixels)
 sums-at-most {rec} {ks} {ws} g =
     let low : (f : ℕ → ℕ) → ((k : ℕ) → f k ≤ mostLevel) → sum (rec .used) (weighed f ks ws) ≤ mostLevel * rec .pixels
     = λ f l. rw (g .pixels)

@@ -3,8 +3,8 @@
 // Calls; none requires anything of its caller, and none refuses
 //   bad_table   the test behind 2 BAD TABLE
 //   room_of     the room of two lent slices
-// Both are passed on by the crate table, with the struct `Record`. The channel sums are judged by the
-// crate table_sums.
+// Both are passed on by the crate table, with the struct `Record`. The channel sums are judged by
+// the crate table_sums.
 //
 // Read next: specs/Lib.antt (what the words mean), proofs/Promises.antt (what is shown).
 mod test;

@@ -55,7 +55,7 @@ pub run-of-used : (rec : Record) (ks ws ks′ ws′ : List ℕ) (k limit : ℕ) 
 run-of-used = used.run-of-used
 
 -- Of the record it depends on how many entries are used, and on whether the record is true: by two records that use as
--- many and are both BAD TABLE or both not, a run is refused by the same number, or answers the same and leaves the same.
+-- many and are both BAD TABLE or both not, a run is refused by the same number, or answers and leaves the same.
 pub run-by-truth : (rec rec′ : Record) (ks ws : List ℕ) (k limit : ℕ) (ms ts : List ℕ) → rec .used ≡ rec′ .used
     → badTable rec ks ws ≡ badTable rec′ ks ws → runOf rec ks ws k limit ms ts ≡ runOf rec′ ks ws k limit ms ts
 run-by-truth = used.run-by-truth

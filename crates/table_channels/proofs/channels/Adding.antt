@@ -11,7 +11,6 @@ use Rattle.number.proofs.ListSums.{sumOf-more, sumOf-bound}
 use Rattle.colour.specs.{redOf, greenOf, blueOf, mostLevel}
 use Rattle.table_streaks.specs.{streakKey, streakPixels, streakSum}
 use Rattle.table_channels.specs.Sums.{streakSums}
-use Rattle.table_channels.specs.declared.ChannelSums.{ChannelSums}
 
 -- the most that a streak adds to a sum: 256 pixels of level 255
 abbrev pub mostStreak : ℕ

@@ -13,7 +13,7 @@ use Rattle.colour.specs.{mostPixels}
 use Rattle.table_entries.specs.{Entry, entries, pixelsOf, stripKeys, withTaken}
 use Rattle.table_entries.proofs.Strips.{strip-at-least}
 use Rattle.table_entries.proofs.Takes.{taken-at-most, taken-capped, withTaken-capped}
-use Rattle.table_channels.specs.{ChannelSums, channelSums, noSums, together, SumsLow}
+use Rattle.table_channels.specs.{ChannelSums, noSums, together, SumsLow}
 use Rattle.table_channels.proofs.Sums.{sums-low}
 use Rattle.table_add.specs.{Addable, Tried, piece}
 use Rattle.table_add.proofs.chunk.Listing.{piece-keys}

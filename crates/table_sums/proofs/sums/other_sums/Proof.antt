@@ -1,5 +1,4 @@
 -- `other_sums` meets its contract: each way out is a law of `Ways`.
-use mathlib.Core.Path.{_∙_}
 use borrow.Author.Needs.{needs}
 use Rattle.table_sums.proofs.sums.Ways.{
   others-of-red,

@@ -4,7 +4,6 @@ use mathlib.Core.Path.{_≡_, refl}
 use native.Mathlib.Omega.{arith}
 use lib.ListN.{getD}
 use denote.Ref.{now}
-use borrow.Author.Needs.{needs}
 use Rattle.colour.specs.{mostKey, mostPixels, redOf, blueOf}
 use Rattle.level_sums.proofs.Bounds.{weight-at-most}
 use Rattle.table_sums.specs.Telling.{mixOf}

@@ -129,7 +129,8 @@ tabled : (c : tie.Else8)
 tabled c = tabled-in-room (in-room (within (looked c))) (summed c) (c .if8 .left)
 
 two-sums-requires : tie.Need-two-sums-requires
-two-sums-requires c κs = (tabled c, λ i l. faultless-upto _ _ _ (tabled c .keys-room) (tabled c .weights-room) (faultless c) i l)
+two-sums-requires c κs =
+    (tabled c, faultless-upto _ _ _ (tabled c .keys-room) (tabled c .weights-room) (faultless c))
 
 other-sums-requires-2 : tie.Need-other-sums-requires-2
 other-sums-requires-2 c κs = search needs
