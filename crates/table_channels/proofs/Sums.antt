@@ -1,5 +1,5 @@
--- Laws of the sums of pixels: of one pixel, of pixels in two lots, how large they get, and that streaks have the sums of
--- the pixels in them.
+-- Laws of the sums of pixels: of one pixel, of pixels in two lots, how large they get, and that streaks have the sums
+-- of the pixels in them.
 use Prim.Native.Nat.{ℕ, _+_, _≤_}
 use mathlib.Core.List.{List, [], _∷_, _++_}
 use mathlib.Core.Path.{_≡_}
