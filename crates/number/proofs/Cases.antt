@@ -26,11 +26,6 @@ pub neither : (a b : Bool) → (a || b) ≡ false → (a ≡ false) × (b ≡ fa
 neither true b h = never h
 neither false b h = (refl, h)
 
--- a test beside one that fails
-pub or-false : (a : Bool) → (a || false) ≡ a
-or-false true = refl
-or-false false = refl
-
 -- a test whose negation fails holds
 pub not-not : (a : Bool) → not a ≡ false → a ≡ true
 not-not true h = refl

@@ -1,6 +1,6 @@
 -- A good table, fact by fact: what callers know where the test of BAD TABLE fails, and what makes it fail.
 use mathlib.Core.Path.{_≡_, refl, sym, ap, ap₂, _∙_}
-use mathlib.Core.Bool.{Bool, true, false, not, _&&_, _||_}
+use mathlib.Core.Bool.{Bool, true, false, not, _&&_, _||_, or-false}
 use mathlib.Core.Logic.{_↔_}
 use mathlib.Core.List.{List}
 use Prim.Native.Nat.{ℕ, _+_, _*_, _≤_, _<_}
@@ -9,7 +9,7 @@ use lib.ListN.{getD, length}
 use lib.Dec.{ltb, eqb}
 use borrow.Author.Tests.{le-ltb, ltb-false, eq-eqb, eqb-true}
 use Rattle.number.specs.{sum}
-use Rattle.number.proofs.Cases.{both, neither, or-false, not-not, fail-together}
+use Rattle.number.proofs.Cases.{both, neither, not-not, fail-together}
 use Rattle.number.proofs.Sums.{sum-eq, sum-weighed}
 use Rattle.colour.specs.{mostLevel, mostPixels, redOf, greenOf, blueOf}
 use Rattle.table_entries.specs.{weightOf, pixelsOf, entries, sound}

@@ -1,6 +1,6 @@
 -- Each way out of the test of a table, on plain lists: what the answer is there.
 use mathlib.Core.Path.{_≡_, refl, sym, _∙_}
-use mathlib.Core.Bool.{Bool, true, false, not, _&&_, _||_}
+use mathlib.Core.Bool.{true, not, _&&_, or-true, or-false}
 use mathlib.Core.Logic.{inl, inr}
 use mathlib.Core.List.{List}
 use Prim.Native.Nat.{ℕ, _≤_, _<_}
@@ -8,7 +8,7 @@ use native.Mathlib.Omega.{arith}
 use lib.Dec.{eqb}
 use borrow.Author.Tests.{lt-ltb, le-ltb, eq-eqb, ne-eqb}
 use Rattle.number.specs.{sum}
-use Rattle.number.proofs.Cases.{bool, or-false}
+use Rattle.number.proofs.Cases.{bool}
 use Rattle.colour.specs.{mostPixels, redOf, greenOf, blueOf}
 use Rattle.table_entries.specs.{entries, sound, Tabled}
 use Rattle.table_entries.proofs.Slices.{entries-length}
@@ -26,12 +26,6 @@ bad-over-room rec ks ws h = simp (lt-ltb (roomOf ks ws) (rec .used) h)
 -- the used entries are within the room
 pub record InRoom (rec : Record) (ks ws : List ℕ) : Type 0 where
   pub within : rec .used ≤ roomOf ks ws
-
--- two tests beside one that holds
-many : (a b : Bool) → (a || (b || true)) ≡ true
-many true b = refl
-many false true = refl
-many false false = refl
 
 module _ {rec : Record} {ks ws : List ℕ} (r : InRoom rec ks ws) where
   -- entries whose weights come to no more pixels than a table has are a table's
@@ -96,8 +90,11 @@ module _ {rec : Record} {ks ws : List ℕ} (r : InRoom rec ks ws) where
   pub bad-of-many : mostPixels < rec .pixels → badTable rec ks ws ≡ true
   bad-of-many l =
       bad-in-room
-      ∙ rw (lt-ltb mostPixels (rec .pixels) l)
-      (many (not (sound 0 (entries (rec .used) ks ws))) (not (sameRecord (recordOf (entries (rec .used) ks ws)) rec)))
+      ∙ rw (
+        lt-ltb mostPixels (rec .pixels) l,
+        or-true (not (sameRecord (recordOf (entries (rec .used) ks ws)) rec)),
+        or-true (not (sound 0 (entries (rec .used) ks ws))),
+      )
 
   -- entries with nothing at fault, whose weights come to the record's pixels, none too many, are bad where a channel's
   -- sum is another
