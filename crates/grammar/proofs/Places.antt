@@ -85,12 +85,16 @@ module _ {I : Type 0} (after : I → ℕ → Option (List I)) where
       → wrongFront (i ∷ rest) s a ≡ wrongFront (is ++ rest) s (a + 1)
   front-taken i rest is s a h e = from-on step nothingLeft (i ∷ rest) (is ++ rest) s a h (ap (before rest) e)
 
+  -- the end, where something is to come
+  pub front-ends : (i : I) (rest : List I) (s : List ℕ) (a : ℕ) → length s ≤ a → wrongFront (i ∷ rest) s a ≡ some a
+  front-ends i rest s a h = from-end step nothingLeft (i ∷ rest) s a h refl
+
   -- a byte that it does not take, or the end
   pub front-wrong : (i : I) (rest : List I) (s : List ℕ) (a : ℕ) → after i (byteAt s a) ≡ none
       → wrongFront (i ∷ rest) s a ≡ some a
   front-wrong i rest s a e = elim (decLt a (length s)) [
     | yes h ↦ from-dead step nothingLeft (i ∷ rest) s a h (ap (before rest) e)
-    | no h ↦ from-end step nothingLeft (i ∷ rest) s a (omega arith) refl
+    | no h ↦ front-ends i rest s a (omega arith)
   ]
 
   -- two items that do the same with the byte at a place, or with the end
@@ -103,5 +107,4 @@ module _ {I : Type 0} (after : I → ℕ → Option (List I)) where
       told h none k = front-wrong i rest s a (e ∙ k) ∙ sym (front-wrong j rest s a k)
       told (yes h) (some is) k = front-taken i rest is s a h (e ∙ k) ∙ sym (front-taken j rest is s a h k)
       told (no h) (some is) k =
-          from-end step nothingLeft (i ∷ rest) s a (omega arith) refl
-          ∙ sym (from-end step nothingLeft (j ∷ rest) s a (omega arith) refl)
+          front-ends i rest s a (omega arith) ∙ sym (front-ends j rest s a (omega arith))

@@ -1,6 +1,6 @@
 // Inputs listed one after the other, held to the file stdout beside src/: every refusal that a
 // listing can print, the scope's example, one shade, runs of four rounds and of 20, 64 shades,
-// 8,192 pixels and 8,193, 65,536 bytes and 65,537.
+// 8,192 pixels and 8,193, 65,536 bytes and 65,537, headers with comments.
 use libc::STDOUT_FILENO;
 use listing::Listing;
 
@@ -42,6 +42,14 @@ fn accepted() {
     show(b"1\nP6 2 1 255 abcdef");
     show(b"01\nP6\n1 2\n255\nabcdef");
     show(b"2\nP6 5 1 255 abaaoksrtfkdtoo");
+}
+
+// The same drawings with comments in their headers, as drawing programs write them; and a comment
+// that never ends, 12.
+fn commented() {
+    show(b"2\nP6\n# drawn\n2 2\n255\n\0\0\0\0\0\0\0\0\0\n\0\0");
+    show(b"1\nP6#\r\n2#\n1 # depth\n255 abcdef");
+    show(b"1\nP6 2 1 # 255 abcdef");
 }
 
 // A run that is not settled at 20 rounds: 80 colours on a line, six shades.
@@ -120,4 +128,5 @@ fn main() {
     most_shades();
     most_pixels();
     most_bytes();
+    commented();
 }

@@ -1,17 +1,19 @@
 -- What is shown of P6 pictures, each theorem in full; its body names the proof.
 -- `readPicture s` and `rasterOf s` are what the contracts of `read_picture` and `raster_of` say of every input.
 use Prim.Native.Nat.{ℕ, _*_, _≤_}
-use mathlib.Core.Bool.{false}
-use mathlib.Core.List.{List, [], _∷_}
+use mathlib.Core.Bool.{true, false}
+use mathlib.Core.List.{List, [], _∷_, _++_}
 use mathlib.Core.Logic.{_↔_}
 use mathlib.Core.Path.{_≡_, sym, _∙_}
 use lib.ListN.{length, drop}
 use Rattle.refusal.specs.{Refusal, numberOf, done, Given, NoneHolds, BAD-HEADER}
 use Rattle.colour.specs.{mostPixels}
-use Rattle.p6_header.specs.{headerOf, HeaderSays, offsetIn, HeaderIn, FirstWrong}
+use Rattle.p6_gap.specs.{isWhite, Unended, replaced}
+use Rattle.p6_header.specs.{headerOf, HeaderSays, offsetIn, HeaderIn, Between, FirstWrong}
 use Rattle.p6.specs.Refusals.{mostSide, theDepth, badHeader, badSize, badDepth, badRaster, pictureRows}
-use Rattle.p6.specs.Outcomes.{refusedPicture, readPicture, rasterOf}
+use Rattle.p6.specs.Outcomes.{refusedPicture, readPicture, rasterOf, Alike}
 use Rattle.p6.specs.declared.Picture.{Picture}
+use Rattle.p6.proofs.Comments as comments
 use Rattle.p6.proofs.Meaning as meaning
 use Rattle.p6.proofs.Headers as headers
 
@@ -68,6 +70,27 @@ picture-refused-answers s = meaning.picture-refuses s .refused-is
 -- Without BAD HEADER the offset is zero.
 pub offset-zero : (s : List ℕ) → badHeader s ≡ false → readPicture s .offset ≡ 0
 offset-zero = meaning.offset-zero
+
+-- Where a comment that may open, between two parts before the depth, never ends, BAD HEADER is given with the input's
+-- length.
+pub unended-offset : (s : List ℕ) (at : ℕ) → Between s at → Unended s at
+    → (readPicture s .refusal ≡ numberOf BAD-HEADER) × (readPicture s .offset ≡ length s)
+unended-offset = comments.unended-offset
+
+-- ---- comments in the header
+
+-- A picture with comments in its header, and the same with each comment replaced by one white byte, whichever, have the
+-- same refusal, sides and raster: the answers differ in the raster's first place at most.
+pub comments-alike : (one : ℕ) → isWhite one ≡ true → (header : List ℕ) (w h d : ℕ)
+    → HeaderIn header w h d (length header) → (raster : List ℕ)
+    → Alike (readPicture (header ++ raster)) (readPicture (replaced one header ++ raster))
+    × (rasterOf (header ++ raster) ≡ rasterOf (replaced one header ++ raster))
+comments-alike = comments.comments-alike
+
+-- That place counts all bytes of the header, those of comments too.
+pub accepted-behind : (header : List ℕ) (w h d : ℕ) → HeaderIn header w h d (length header) → (raster : List ℕ)
+    → readPicture (header ++ raster) .refusal ≡ done → readPicture (header ++ raster) .start ≡ length header
+accepted-behind = comments.accepted-behind
 
 -- ---- accepted pictures
 

@@ -12,6 +12,7 @@
 --   refusedPicture, madePicture   the answer where something is refused, and where nothing is
 --   readPicture input      the answer on every input
 --   rasterOf input         the raster, nothing for a refused picture
+--   Alike                  two answers differ in the raster's first place at most
 pub mod Refusals
 pub mod Outcomes
 pub use declared.Picture.{Picture}
@@ -31,3 +32,4 @@ unfoldable pub use Refusals.{
   pictureRows,
 }
 unfoldable pub use Outcomes.{refusedPicture, madePicture, readPicture, rasterOf}
+pub use Outcomes.{Alike}

@@ -2,6 +2,7 @@
 use Prim.Native.Nat.{ℕ}
 use mathlib.Core.Bool.{cond}
 use mathlib.Core.List.{List, []}
+use mathlib.Core.Path.{_≡_}
 use lib.Dec.{eqb}
 use lib.ListN.{drop}
 use Rattle.refusal.specs.{done, outcomeOf}
@@ -31,3 +32,10 @@ readPicture input =
 -- the raster: the input from the raster's first place on; nothing for a refused picture
 unfoldable pub rasterOf : List ℕ → List ℕ
 rasterOf input = cond (eqb (readPicture input .refusal) done) (drop (readPicture input .start) input) []
+
+-- two answers differ in the raster's first place at most
+pub record Alike (p q : Picture) : Type 0 where
+  pub refusal : p .refusal ≡ q .refusal
+  pub offset : p .offset ≡ q .offset
+  pub width : p .width ≡ q .width
+  pub height : p .height ≡ q .height

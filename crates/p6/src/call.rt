@@ -27,8 +27,8 @@ fn refused(number: u8, offset: usize) -> Picture
 
 // Reads a P6 picture: its width and height, and where its raster begins.
 // Refuses, in this order:
-//   12 BAD HEADER   a byte cannot stand where it does, or the input ends early; the offset is that
-//                   byte's, or the input's length;
+//   12 BAD HEADER   a byte cannot stand where it does, or the input ends early, be it inside a
+//                   comment; the offset is that byte's, or the input's length;
 //   13 BAD SIZE     a side is not 1 to 16,384, or the pixels are more than 16,777,216;
 //   14 BAD DEPTH    the depth is not 255;
 //   15 BAD RASTER   the bytes after the header are fewer or more than 3 for each pixel.

@@ -1,4 +1,4 @@
-// P6 pictures: a header and, after it, three raster bytes a pixel.
+// P6 pictures: a header, which may have comments, and after it three raster bytes a pixel.
 //
 // Calls; none requires anything of its caller
 //   read_picture   width, height and where the raster begins.   call.rt

@@ -1,6 +1,6 @@
--- A field, as it is read and as it stands: white bytes and a number after them, from one place to another.
-use Prim.Native.Nat.{ℕ, _+_}
-use mathlib.Core.Bool.{true}
+-- A field, as it is read and as it stands: a gap and a number behind it, from one place to another.
+use Prim.Native.Nat.{ℕ, _+_, _<_}
+use mathlib.Core.Bool.{true, false}
 use mathlib.Core.List.{List}
 use mathlib.Core.Path.{_≡_, refl, sym, ap, _∙_, subst}
 use native.Mathlib.Decide.{ℕ-discrete}
@@ -8,37 +8,83 @@ use native.Mathlib.Omega.{arith}
 use lib.ListN.{length}
 use Rattle.grammar.specs.{byteAt, isDigit, mostDigits, digitsAt, decimal, numberAt, Reading}
 use Rattle.grammar.specs.declared.Reading.the-variants.{Number, Failed}
-use Rattle.grammar.proofs.Spans.{span-at-most, span-all, span-ends, span-only, all-first}
+use Rattle.grammar.proofs.Spans.{span-at-most, span-all, span-ends, span-only, all-first, byte-past, nothing-digit}
 use Rattle.grammar.proofs.Readings.{number-reads, number-fails}
-use Rattle.p6_header.specs.Bytes.{isWhite}
-use Rattle.p6_header.specs.Fields.{whitesAt, fieldAt}
-use Rattle.p6_header.specs.Standing.{DigitsEnd, Field, FieldFailed, FieldRead}
-use Rattle.p6_header.proofs.Whites.{digit-not-white, whites-end, whites-only}
+use Rattle.p6_gap.specs.{hash, gapEnd, Whites}
+use Rattle.p6_gap.proofs.Bytes.{hash-inside, digit-not-white, hash-not-digit}
+use Rattle.p6_gap.proofs.Gaps.{
+  whites-later,
+  gap-later,
+  gap-whites,
+  whites-gap,
+  gap-first,
+  gap-only,
+  gap-unended,
+  GapTold,
+  stops,
+  open-ended,
+  gap-told,
+}
+use Rattle.number.proofs.Cases.{never}
+use Rattle.p6_header.specs.Fields.{fieldAt}
+use Rattle.p6_header.specs.Standing.{DigitsEnd, Field, FieldFailed, no-part, unended, FieldRead}
 use Rattle.p6_header.proofs.field.Readings.{field-reads, field-fails}
 
 -- ---- a field that is read
 
--- a field begins with a white byte
-pub field-white : (s : List ℕ) (a b value : ℕ) → Field s a b value → isWhite (byteAt s a) ≡ true
-field-white s a b value f = all-first isWhite s a (f .whites) (f .white) (f .some-white)
+-- a field does not begin with a digit
+pub field-first : (s : List ℕ) (a b value : ℕ) → Field s a b value → isDigit (byteAt s a) ≡ false
+field-first s a b value f = gap-first s a (f .start) (f .gap)
 
--- and after its white bytes stands a digit
-field-digit : (s : List ℕ) (a b value : ℕ) (f : Field s a b value) → isDigit (byteAt s (a + f .whites)) ≡ true
-field-digit s a b value f = all-first isDigit s (a + f .whites) (f .digits) (f .digit) (f .some-digit)
+-- it ends behind the place where it begins
+pub field-later : (s : List ℕ) (a b value : ℕ) → Field s a b value → a < b
+field-later s a b value f = omega (arith, gap-later s a (f .start) (f .gap), f .ends)
+
+-- its gap ends before a digit
+field-start : (s : List ℕ) (a b value : ℕ) (f : Field s a b value) → gapEnd s a ≡ f .start
+field-start s a b value f =
+    let digit = all-first isDigit s (f .start) (f .digits) (f .digit) (f .some-digit) in
+    gap-only s a (f .start) (gap-whites s a (f .start) (f .gap)) (digit-not-white _ digit)
+    (λ h. never (sym digit ∙ hash-not-digit _ h))
 
 -- a field that stands, with its digits ended, is read
 pub field-is-read : (s : List ℕ) (a b value : ℕ) (f : Field s a b value) → DigitsEnd s a b value f
     → fieldAt s a ≡ Number value b
 field-is-read s a b value f ended =
-    let w = f .whites in
     let n = f .digits in
-    let whites : w ≡ whitesAt s a =
-    whites-only s a w (f .white) (digit-not-white _ (field-digit s a b value f)) in
-    let digits : n ≡ digitsAt s (a + w) =
-    span-only isDigit mostDigits s (a + w) n (f .few-digits) (f .digit) (λ l. rw (← f .ends) (ended l)) in
-    sym (field-reads s a (a + w) (ap (λ i. a + i) whites) (λ e. omega (arith, f .some-white)))
-    ∙ sym (number-reads s (a + w) n value digits (λ e. omega (arith, f .some-digit)) (f .is))
+    let digits : n ≡ digitsAt s (f .start) =
+    span-only isDigit mostDigits s (f .start) n (f .few-digits) (f .digit) (λ l. rw (← f .ends) (ended l)) in
+    sym (field-reads s a (f .start) (sym (field-start s a b value f))
+    (λ e. omega (arith, gap-later s a (f .start) (f .gap))))
+    ∙ sym (number-reads s (f .start) n value digits (λ e. omega (arith, f .some-digit)) (f .is))
     ∙ ap (Number value) (sym (f .ends))
+
+-- ---- a field that fails
+
+-- with no digit there no number is read
+no-number : (s : List ℕ) (at : ℕ) → isDigit (byteAt s at) ≡ false → numberAt s at ≡ Failed at
+no-number s at d =
+    let none : 0 ≡ digitsAt s at =
+    span-only isDigit mostDigits s at 0 (omega arith) (λ i h. absurd (omega arith))
+    (λ l. let y : at + 0 ≡ at = omega arith in rw y d) in
+    sym (number-fails s at 0 none refl)
+
+-- a field that fails is not read
+pub field-is-failed : (s : List ℕ) (a at : ℕ) → FieldFailed s a at → fieldAt s a ≡ Failed at
+field-is-failed s a at (no-part ws w h d) = go (ℕ-discrete at a)
+  where
+    end : at ≡ gapEnd s a
+    end = sym (gap-only s a at ws w h)
+
+    go : Dec (at ≡ a) → fieldAt s a ≡ Failed at
+    go (yes z) = sym (field-fails s a at end z) ∙ ap Failed (sym z)
+    go (no z) =
+        sym (field-reads s a at end z) ∙ no-number s at (d (omega (arith, z, whites-later s a at ws)))
+field-is-failed s a at (unended from ws u z) =
+    let end : at ≡ gapEnd s a = z ∙ sym (gap-unended s a from ws u) in
+    let later : ¬ (at ≡ a) = λ e. omega (arith, whites-later s a from ws, hash-inside s from (u .opens)) in
+    let past : byteAt s at ≡ 0 = byte-past s at (omega arith) in
+    sym (field-reads s a at end later) ∙ no-number s at (ap isDigit past ∙ nothing-digit)
 
 -- ---- what a reading says
 
@@ -47,83 +93,46 @@ pub data Told (s : List ℕ) (a : ℕ) : Reading → Type 0 where
   read : (value b : ℕ) → FieldRead s a b value → Told s a (Number value b)
   failed : (at : ℕ) → FieldFailed s a at → Told s a (Failed at)
 
--- with no white byte there it failed at once
-told-at-once : (s : List ℕ) (a : ℕ) → whitesAt s a ≡ 0 → Told s a (fieldAt s a)
-told-at-once s a z =
-    let here : a + whitesAt s a ≡ a = omega arith in
-    subst (Told s a) (field-fails s a a (sym here) refl) (failed a (record {
-      whites = 0;
-      white = λ i h. absurd (omega arith);
-      ends = omega arith;
-      not-white = ap (λ i. isWhite (byteAt s i)) (sym here) ∙ whites-end s a;
-      not-digit = λ h. absurd (omega arith);
-    }))
+-- a field that fails is told so
+told-failed : (s : List ℕ) (a at : ℕ) → FieldFailed s a at → Told s a (fieldAt s a)
+told-failed s a at f = subst (Told s a) (sym (field-is-failed s a at f)) (failed at f)
 
-module _ (s : List ℕ) (a : ℕ) (some : ¬ (whitesAt s a ≡ 0)) where
-  -- after the white bytes the field is the number there
-  after : numberAt s (a + whitesAt s a) ≡ fieldAt s a
-  after = field-reads s a (a + whitesAt s a) refl (λ e. some (omega arith))
-
-  -- with no digit there it failed
-  told-no-digit : digitsAt s (a + whitesAt s a) ≡ 0 → Told s a (fieldAt s a)
-  told-no-digit z =
-      let b = a + whitesAt s a in
-      let here : b + digitsAt s b ≡ b = omega arith in
-      subst (Told s a) (number-fails s b 0 (sym z) refl ∙ after) (failed b (record {
-        whites = whitesAt s a;
-        white = span-all isWhite (length s) s a;
-        ends = refl;
-        not-white = whites-end s a;
-        not-digit = λ h. ap (λ i. isDigit (byteAt s i)) (sym here) ∙ span-ends isDigit mostDigits s b (omega arith);
-      }))
-
-  -- with digits there it is read
-  told-read : ¬ (digitsAt s (a + whitesAt s a) ≡ 0) → Told s a (fieldAt s a)
-  told-read digits =
-      let b = a + whitesAt s a in
-      let value = decimal (digitsAt s b) (λ i. byteAt s (b + i)) in
-      let f : Field s a (b + digitsAt s b) value = record {
-        whites = whitesAt s a;
-        digits = digitsAt s b;
-        some-white = omega (arith, some);
-        some-digit = omega (arith, digits);
-        few-digits = span-at-most isDigit mostDigits s b;
-        white = span-all isWhite (length s) s a;
-        digit = span-all isDigit mostDigits s b;
-        is = refl;
-        ends = refl;
-      } in
-      subst (Told s a) (number-reads s b (digitsAt s b) value refl digits refl ∙ after)
-      (read value (b + digitsAt s b) (record { field = f; ended = span-ends isDigit mostDigits s b }))
+-- behind a gap stand digits, and it is read
+told-read : (s : List ℕ) (a e : ℕ) → e ≡ gapEnd s a → Whites s a e → ¬ (e ≡ a) → ¬ (digitsAt s e ≡ 0)
+    → Told s a (fieldAt s a)
+told-read s a e end ws later digits =
+    let value = decimal (digitsAt s e) (λ i. byteAt s (e + i)) in
+    let f : Field s a (e + digitsAt s e) value = record {
+      start = e;
+      digits = digitsAt s e;
+      gap = whites-gap s a e ws (λ z. later (sym z));
+      some-digit = omega (arith, digits);
+      few-digits = span-at-most isDigit mostDigits s e;
+      digit = span-all isDigit mostDigits s e;
+      is = refl;
+      ends = refl;
+    } in
+    subst (Told s a) (number-reads s e (digitsAt s e) value refl digits refl ∙ field-reads s a e end later)
+    (read value (e + digitsAt s e) (record { field = f; ended = span-ends isDigit mostDigits s e }))
 
 -- every field is read or failed
 pub field-told : (s : List ℕ) (a : ℕ) → Told s a (fieldAt s a)
-field-told s a = go (ℕ-discrete (whitesAt s a) 0) (ℕ-discrete (digitsAt s (a + whitesAt s a)) 0)
+field-told s a = by (gap-told s a)
   where
-    go : Dec (whitesAt s a ≡ 0) → Dec (digitsAt s (a + whitesAt s a) ≡ 0) → Told s a (fieldAt s a)
-    go (yes z) n = told-at-once s a z
-    go (no z) (yes n) = told-no-digit s a z n
-    go (no z) (no n) = told-read s a z n
+    e : ℕ
+    e = gapEnd s a
 
--- ---- a field that fails
+    -- no digit is there
+    none-there : digitsAt s e ≡ 0 → isDigit (byteAt s e) ≡ false
+    none-there z =
+        let here : e + digitsAt s e ≡ e = omega arith in
+        ap (λ i. isDigit (byteAt s i)) (sym here) ∙ span-ends isDigit mostDigits s e (omega arith)
 
--- a field that fails is not read
-pub field-is-failed : (s : List ℕ) (a at : ℕ) → FieldFailed s a at → fieldAt s a ≡ Failed at
-field-is-failed s a at f = go (ℕ-discrete (f .whites) 0)
-  where
-    here : byteAt s (a + f .whites) ≡ byteAt s at
-    here = rw (← f .ends) refl
-
-    whites : a + f .whites ≡ a + whitesAt s a
-    whites = ap (λ n. a + n) (whites-only s a (f .whites) (f .white) (ap isWhite here ∙ f .not-white))
-
-    go : Dec (f .whites ≡ 0) → fieldAt s a ≡ Failed at
-    go (yes z) = sym (field-fails s a (a + f .whites) whites (omega arith)) ∙ ap Failed (omega (arith, f .ends))
-    go (no z) =
-        let none : 0 ≡ digitsAt s (a + f .whites) =
-        span-only isDigit mostDigits s (a + f .whites) 0 (omega arith) (λ i h. absurd (omega arith))
-        (λ l.
-        let y : a + f .whites + 0 ≡ a + f .whites = omega arith in
-        rw y (ap isDigit here ∙ f .not-digit (omega arith))) in
-        sym (field-reads s a (a + f .whites) whites (λ e. z (omega arith)))
-        ∙ sym (number-fails s (a + f .whites) 0 none refl) ∙ ap Failed (sym (f .ends))
+    by : GapTold s a (gapEnd s a) → Told s a (fieldAt s a)
+    by (open-ended from ws u z) = told-failed s a e (unended from ws u z)
+    by (stops ws w h) = go (ℕ-discrete e a) (ℕ-discrete (digitsAt s e) 0)
+      where
+        go : Dec (e ≡ a) → Dec (digitsAt s e ≡ 0) → Told s a (fieldAt s a)
+        go (yes z) n = told-failed s a e (no-part ws w h (λ l. absurd (omega arith)))
+        go (no z) (yes n) = told-failed s a e (no-part ws w h (λ l. none-there n))
+        go (no z) (no n) = told-read s a e refl ws z n

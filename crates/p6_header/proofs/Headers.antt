@@ -8,14 +8,15 @@ use native.Mathlib.Omega.{arith}
 use lib.ListN.{length}
 use Rattle.number.proofs.Cases.{bool}
 use Rattle.grammar.specs.{byteAt, Reading}
-use Rattle.p6_header.specs.Bytes.{isWhite, letterP, figureSix}
+use Rattle.p6_gap.specs.{isWhite}
+use Rattle.p6_gap.proofs.Bytes.{white-inside, white-not-digit}
+use Rattle.p6_header.specs.Bytes.{letterP, figureSix}
 use Rattle.p6_header.specs.Fields.{fieldAt}
-use Rattle.p6_header.specs.Headers.{andThen, lastWhite, fieldsOf, headerOf, headerNumber}
+use Rattle.p6_header.specs.Headers.{andThen, lastWhite, fieldsBy, headerOf, headerNumber}
 use Rattle.p6_header.specs.declared.Header.{Header}
 use Rattle.p6_header.specs.declared.Header.the-variants.{Read, Bad}
 use Rattle.p6_header.specs.Standing.{Field, HeaderIn}
-use Rattle.p6_header.proofs.Whites.{white-inside, white-not-digit}
-use Rattle.p6_header.proofs.Fields.{field-white, field-is-read, Told, read, failed, field-told}
+use Rattle.p6_header.proofs.Fields.{field-first, field-is-read, Told, read, failed, field-told}
 use Rattle.p6_header.proofs.read.Ways.{letter-fails, figure-fails, letters-pass}
 
 -- a header that failed was not read
@@ -25,17 +26,17 @@ bad-not-read at w h d n e = absurd (let z = ap headerNumber e in omega arith)
 -- ---- how an input opens
 
 -- another byte than the letter, another than the figure after it, or both and then the fields
-data Opening (s : List ℕ) : Type 0 where
+pub data Opening (s : List ℕ) : Type 0 where
   no-letter : ¬ (byteAt s 0 ≡ letterP) → headerOf s ≡ Bad 0 → Opening s
   no-figure : byteAt s 0 ≡ letterP → ¬ (byteAt s 1 ≡ figureSix) → headerOf s ≡ Bad 1 → Opening s
-  fields : byteAt s 0 ≡ letterP → byteAt s 1 ≡ figureSix → headerOf s ≡ fieldsOf s → Opening s
+  fields : byteAt s 0 ≡ letterP → byteAt s 1 ≡ figureSix → headerOf s ≡ fieldsBy fieldAt s → Opening s
 
 -- with both letters the header goes on with the fields
-header-fields : (s : List ℕ) → byteAt s 0 ≡ letterP → byteAt s 1 ≡ figureSix → headerOf s ≡ fieldsOf s
+pub header-fields : (s : List ℕ) → byteAt s 0 ≡ letterP → byteAt s 1 ≡ figureSix → headerOf s ≡ fieldsBy fieldAt s
 header-fields s l f = letters-pass s _ _ refl l refl f
 
 -- which it is
-opening : (s : List ℕ) → Opening s
+pub opening : (s : List ℕ) → Opening s
 opening s = go (ℕ-discrete (byteAt s 0) letterP) (ℕ-discrete (byteAt s 1) figureSix)
   where
     go : Dec (byteAt s 0 ≡ letterP) → Dec (byteAt s 1 ≡ figureSix) → Opening s
@@ -70,7 +71,7 @@ module _ (s : List ℕ) (l : byteAt s 0 ≡ letterP) (f : byteAt s 1 ≡ figureS
   ]
 
   -- from the first field on
-  fields-stand : Stands s (fieldsOf s)
+  fields-stand : Stands s (fieldsBy fieldAt s)
   fields-stand = width (field-told s 2)
     where
       depth : (w h a b : ℕ) → Field s 2 a w → Field s a b h → {r : Reading} → Told s b r
@@ -102,9 +103,9 @@ header-stands s w h d n e = elim (opening s) [
 pub header-reads : (s : List ℕ) (w h d n : ℕ) → HeaderIn s w h d n → headerOf s ≡ Read w h d n
 header-reads s w h d n H =
     let width = field-is-read s 2 (H .after-width) w (H .width-is)
-    (λ l. white-not-digit _ (field-white s _ _ h (H .height-is))) in
+    (λ l. field-first s _ _ h (H .height-is)) in
     let height = field-is-read s (H .after-width) (H .after-height) h (H .height-is)
-    (λ l. white-not-digit _ (field-white s _ _ d (H .depth-is))) in
+    (λ l. field-first s _ _ d (H .depth-is)) in
     let depth = field-is-read s (H .after-height) (H .after-depth) d (H .depth-is)
     (λ l. white-not-digit _ (H .last)) in
     header-fields s (H .letter) (H .figure) ∙ rw (width, height, depth, H .last, H .ends)

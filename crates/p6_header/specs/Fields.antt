@@ -1,22 +1,22 @@
--- A field of a header: white bytes, and a number after them.
-use Prim.Native.Nat.{ℕ, _+_}
+-- A field of a header: white bytes and comments, and a number after them.
+use Prim.Native.Nat.{ℕ}
 use mathlib.Core.Bool.{cond}
 use mathlib.Core.List.{List, [], _∷_}
 use mathlib.Core.Path.{_≡_}
 use lib.Dec.{eqb}
-use lib.ListN.{length}
 use Rattle.refusal.specs.{numberOf, done, BAD-HEADER}
-use Rattle.grammar.specs.{spanAt, numberAt, Reading}
+use Rattle.grammar.specs.{numberAt, Reading}
 use Rattle.grammar.specs.declared.Reading.the-variants.{Number, Failed}
-use Rattle.p6_header.specs.Bytes.{isWhite}
+use Rattle.p6_gap.specs.{gapEnd}
 
--- the white bytes from `at` on
-abbrev pub whitesAt : List ℕ → ℕ → ℕ
-whitesAt input at = spanAt isWhite (length input) input at
+-- what is read from `at` on where a number may begin at `start`: that number; with nothing between the two it fails at
+-- `at`
+abbrev pub numberBehind : List ℕ → ℕ → ℕ → Reading
+numberBehind input at start = cond (eqb start at) (Failed at) (numberAt input start)
 
--- one or more white bytes from `at` on and the number after them; with no white byte there it fails at `at`
+-- one or more white bytes and comments from `at` on, and the number after them; with none of them there it fails at `at`
 unfoldable pub fieldAt : List ℕ → ℕ → Reading
-fieldAt input at = cond (eqb (whitesAt input at) 0) (Failed at) (numberAt input (at + whitesAt input at))
+fieldAt input at = numberBehind input at (gapEnd input at)
 
 -- ---- what a reading says, case by case
 

@@ -1,4 +1,5 @@
--- The header: "P6"; one or more white bytes; width; white bytes; height; white bytes; depth; exactly one white byte.
+-- The header: "P6"; one or more white bytes and comments; width; the same; height; the same; depth; exactly one white
+-- byte.
 use Prim.Native.Nat.{ℕ, _+_}
 use mathlib.Core.Bool.{cond}
 use mathlib.Core.List.{List, [], _∷_}
@@ -7,7 +8,8 @@ use lib.Dec.{eqb}
 use Rattle.refusal.specs.{numberOf, done, BAD-HEADER}
 use Rattle.grammar.specs.{byteAt, Reading}
 use Rattle.grammar.specs.declared.Reading.the-variants.{Number, Failed}
-use Rattle.p6_header.specs.Bytes.{isWhite, letterP, figureSix}
+use Rattle.p6_gap.specs.{isWhite}
+use Rattle.p6_header.specs.Bytes.{letterP, figureSix}
 use Rattle.p6_header.specs.Fields.{fieldAt}
 use Rattle.p6_header.specs.declared.Header.{Header}
 use Rattle.p6_header.specs.declared.Header.the-variants.{Read, Bad}
@@ -23,17 +25,22 @@ andThen (Failed at) more = Bad at
 abbrev pub lastWhite : List ℕ → ℕ → ℕ → ℕ → ℕ → Header
 lastWhite input width height depth at = cond (isWhite (byteAt input at)) (Read width height depth (at + 1)) (Bad at)
 
--- the three numbers after "P6", and the white byte
-abbrev pub fieldsOf : List ℕ → Header
-fieldsOf input =
-    andThen (fieldAt input 2) (λ width at.
-    andThen (fieldAt input at) (λ height at.
-    andThen (fieldAt input at) (λ depth at. lastWhite input width height depth at)))
+-- the three numbers after "P6", each by a way to read a field, and the white byte
+abbrev pub fieldsBy : (List ℕ → ℕ → Reading) → List ℕ → Header
+fieldsBy field input =
+    andThen (field input 2) (λ width at.
+    andThen (field input at) (λ height at.
+    andThen (field input at) (λ depth at. lastWhite input width height depth at)))
+
+-- "P6", and then these
+abbrev pub headerBy : (List ℕ → ℕ → Reading) → List ℕ → Header
+headerBy field input =
+    cond (eqb (byteAt input 0) letterP)
+    (cond (eqb (byteAt input 1) figureSix) (fieldsBy field input) (Bad 1)) (Bad 0)
 
 -- the header at the front of an input
 unfoldable pub headerOf : List ℕ → Header
-headerOf input =
-    cond (eqb (byteAt input 0) letterP) (cond (eqb (byteAt input 1) figureSix) (fieldsOf input) (Bad 1)) (Bad 0)
+headerOf input = headerBy fieldAt input
 
 -- ---- what it says, case by case
 

@@ -3,13 +3,13 @@ ghost use mathlib.Core.Path.{_≡_};
 ghost use Rattle.p6_header.specs.Headers.{headerOf, offsetIn};
 use super::Header;
 use super::field::field;
-use super::white::is_white;
 use grammar::Reading;
 use grammar::byte_at;
 use grammar::place_in;
+use p6_gap::is_white;
 
 // Reads the header at the front of an input: "P6", width, height and depth, each with white bytes
-// before it, and one white byte.
+// and comments before it, and one white byte.
 pub fn read_header(input: &[u8]) -> Header
     ensures { λ r. ⌜ r ≡ headerOf (now (input .entry)) ⌝ }
 {

@@ -1,6 +1,7 @@
 // Pictures that are run: the raster goes uncopied from the reader to the table and to the mapper.
 // Held to the file stdout beside src/. A line of a picture is refusal, offset, width, height, the
-// raster's first place and its length; then come the lines of the table and of the mapping.
+// raster's first place and its length; then come the lines of the table and of the mapping, and
+// those of pictures with comments.
 use libc::STDOUT_FILENO;
 use mapping::Mapped;
 use p6::Picture;
@@ -95,10 +96,43 @@ fn small_pictures() {
     show_picture(b"P6 2 1 255 123456");
 }
 
+// Headers with comments that count as white bytes: right after the letters, after a number and before
+// the depth, ended by LF, CR and CR LF, several in a row, with NUL and the opening byte inside.
+fn commented_pictures() {
+    show_picture(b"P6#c\n2 1 255 123456");
+    show_picture(b"P6 2#\n1 255 123456");
+    show_picture(b"P6\n# one\r\n#two\r #\n2 1\n255\n123456");
+    show_picture(b"P6 2 1 #\0#7\n255 123456");
+    show_picture(b"P6 2 1#\n255\n#23456");
+}
+
+// Headers with bytes that open no comment: before and inside the letters, after the depth; and
+// comments that never end.
+fn miscommented_pictures() {
+    show_picture(b"#\nP6 2 1 255 123456");
+    show_picture(b"P#\n6 2 1 255 123456");
+    show_picture(b"P6 2 1 255#\n123456");
+    show_picture(b"P6#");
+    show_picture(b"P6 2 # 1 255 123456");
+}
+
+// A comment of 60,000 bytes, and the same without its end.
+fn long_comment() {
+    let mut input = [b'#'; 60013];
+    texts::put_word(&mut input, 0, b"P6");
+    texts::put_word(&mut input, 60001, b"\n1 1 255 ");
+    show_picture(&input);
+    texts::put_word(&mut input, 60001, b"#");
+    show_picture(&input);
+}
+
 fn main() {
     small_pictures();
     let drawing = b"P6\n2 2\n255\n\x00\x00\x00\x00\x00\x00\x00\x00\x00\x0a\x00\x00";
     show_picture(drawing);
     show_table(drawing);
     show_mapping(drawing);
+    commented_pictures();
+    miscommented_pictures();
+    long_comment();
 }

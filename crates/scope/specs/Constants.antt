@@ -21,7 +21,8 @@ use Rattle.method.specs.{mostRounds, flat}
 use Rattle.lloyd_tests.specs.{usualLimit, limitOf}
 use Rattle.palette.specs.{levelOf}
 use Rattle.grammar.specs.{isDigit, mostDigits, blank, lineFeed}
-use Rattle.p6_header.specs.{isWhite, letterP, figureSix}
+use Rattle.p6_gap.specs.{isWhite, hash, endsComment}
+use Rattle.p6_header.specs.{letterP, figureSix}
 use Rattle.p6.specs.{mostSide, theDepth}
 use Rattle.listing_test.specs.{mostListed}
 use Rattle.listing_work.specs.{listedLimit}
@@ -60,9 +61,13 @@ constants =
     -- palette byte: the whole part of (coordinate + 8) / 16
     ∷ lists (map levelOf (0 ∷ 7 ∷ 8 ∷ 23 ∷ 24 ∷ [])) (0 ∷ 0 ∷ 1 ∷ 1 ∷ 2 ∷ [])
     ∷ lists (map levelOf (4071 ∷ 4072 ∷ 4080 ∷ [])) (254 ∷ 255 ∷ 255 ∷ [])
-    -- P6: the two letters, the white bytes TAB, LF, CR and blank of all bytes, the digits, 1 to 5 of them
+    -- P6: the two letters, the white bytes TAB, LF, CR and blank of all bytes
     ∷ lists (letterP ∷ figureSix ∷ []) (80 ∷ 54 ∷ [])
     ∷ lists (those isWhite (numbersBelow 256)) (9 ∷ 10 ∷ 13 ∷ 32 ∷ [])
+    -- a comment (document 02): what opens it, and the bytes LF and CR that end it, of all bytes
+    ∷ says hash 35
+    ∷ lists (those endsComment (numbersBelow 256)) (10 ∷ 13 ∷ [])
+    -- the digits, 1 to 5 of them
     ∷ lists (those isDigit (numbersBelow 256)) (48 ∷ 49 ∷ 50 ∷ 51 ∷ 52 ∷ 53 ∷ 54 ∷ 55 ∷ 56 ∷ 57 ∷ [])
     ∷ says mostDigits 5
     -- sides to 16,384, depth 255

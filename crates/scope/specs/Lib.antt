@@ -9,15 +9,19 @@
 --   zeros, usedOnly, badPair, headed   what the tests are tried on: slices, records, tables of two entries, headers
 --   told header       what a header says: its number, and its values
 --   bounds            each test at its boundary: of the values tried, those that are refused
+--   afterLetters, afterWidth, aroundDepth   headers of 1 by 1 pixel with some bytes between their parts
+--   comments          headers with comments: what is read of each, or where it fails
 --   scopeTable        the table of all of these
 --   orderOf rows      the numbers of some rows, in their order
 pub mod Lines
 pub mod Refusals
 pub mod Constants
 pub mod Bounds
+pub mod Comments
 pub mod Table
 unfoldable pub use Lines.{says, lists, those, orderOf}
 unfoldable pub use Refusals.{refusals}
 unfoldable pub use Constants.{constants}
 unfoldable pub use Bounds.{zeros, badPair, usedOnly, headed, told, bounds}
+unfoldable pub use Comments.{afterLetters, afterWidth, aroundDepth, comments}
 unfoldable pub use Table.{scopeTable}

@@ -1,19 +1,19 @@
--- The ways a field is read: it fails at the place where it begins, or is the number after its white bytes.
-use Prim.Native.Nat.{ℕ, _+_}
+-- The ways a field is read: it fails at the place where it begins, or is the number behind its gap.
+use Prim.Native.Nat.{ℕ}
 use mathlib.Core.List.{List}
 use mathlib.Core.Path.{_≡_}
-use native.Mathlib.Omega.{arith}
 use borrow.Author.Tests.{eq-eqb, ne-eqb}
 use Rattle.grammar.specs.{numberAt}
 use Rattle.grammar.specs.declared.Reading.the-variants.{Failed}
-use Rattle.p6_header.specs.Fields.{whitesAt, fieldAt}
+use Rattle.p6_gap.specs.{gapEnd}
+use Rattle.p6_header.specs.Fields.{fieldAt}
 
--- with no white byte there the field fails
-pub field-fails : (s : List ℕ) (at a : ℕ) → a ≡ at + whitesAt s at → a ≡ at → Failed at ≡ fieldAt s at
+-- with no gap there the field fails
+pub field-fails : (s : List ℕ) (at a : ℕ) → a ≡ gapEnd s at → a ≡ at → Failed at ≡ fieldAt s at
 unfolding fieldAt
-field-fails s at a e z = rw (eq-eqb (whitesAt s at) 0 (omega arith))
+field-fails s at a e z = rw (← e, eq-eqb a at z)
 
--- with white bytes there it is the number after them
-pub field-reads : (s : List ℕ) (at a : ℕ) → a ≡ at + whitesAt s at → (a ≡ at → ⊥) → numberAt s a ≡ fieldAt s at
+-- with one there it is the number behind it
+pub field-reads : (s : List ℕ) (at a : ℕ) → a ≡ gapEnd s at → (a ≡ at → ⊥) → numberAt s a ≡ fieldAt s at
 unfolding fieldAt
-field-reads s at a e z = rw (e, ne-eqb (whitesAt s at) 0 (λ w. z (omega arith)))
+field-reads s at a e z = rw (← e, ne-eqb a at z)

@@ -1,12 +1,13 @@
 -- The ways a header fails, at its letters, at a field and at its last byte, and how it goes on after each.
 use Prim.Native.Nat.{ℕ, _+_}
-use mathlib.Core.Bool.{Bool, true, false}
+use mathlib.Core.Bool.{true, false}
 use mathlib.Core.List.{List}
 use mathlib.Core.Path.{_≡_, sym, ap, _∙_}
 use borrow.Author.Tests.{eq-eqb, ne-eqb}
 use Rattle.grammar.specs.{byteAt, placeIn, Reading}
 use Rattle.grammar.specs.declared.Reading.the-variants.{Number, Failed}
-use Rattle.p6_header.specs.Bytes.{isWhite, letterP, figureSix}
+use Rattle.p6_gap.specs.{isWhite}
+use Rattle.p6_header.specs.Bytes.{letterP, figureSix}
 use Rattle.p6_header.specs.Fields.{fieldAt}
 use Rattle.p6_header.specs.Headers.{andThen, lastWhite, headerOf}
 use Rattle.p6_header.specs.declared.Header.{Header}
@@ -52,11 +53,6 @@ pub field-passes : (s : List ℕ) (at value next : ℕ) (k : ℕ → ℕ → Hea
 field-passes s at value next k r on e f = on ∙ ap (λ q. andThen q k) (sym e ∙ f)
 
 -- ---- the last byte
-
--- whether the last byte is white, once it was read and tried
-pub last-is : (s : List ℕ) (at x : ℕ) (u t : Bool) → x ≡ byteAt s at → u ≡ isWhite x → u ≡ t
-    → isWhite (byteAt s at) ≡ t
-last-is s at x u t e f g = ap isWhite (sym e) ∙ sym f ∙ g
 
 -- with another byte than a white one it fails there
 pub last-fails : (s : List ℕ) (width height depth at : ℕ) → headerOf s ≡ lastWhite s width height depth at

@@ -8,11 +8,11 @@ use denote.Ref.{now}
 use borrow.Author.Needs.{needs}
 use borrow.Author.Tests.{not-true, not-false}
 use Rattle.grammar.specs.{byteAt}
-use Rattle.p6_header.specs.Bytes.{isWhite}
+use Rattle.p6_gap.specs.{isWhite}
+use Rattle.p6_gap.proofs.Bytes.{white-is, white-inside}
 use Rattle.p6_header.specs.Fields.{fieldAt}
 use Rattle.p6_header.specs.Headers.{headerOf, andThen, lastWhite}
 use Rattle.p6_header.specs.declared.Header.the-variants.{Bad}
-use Rattle.p6_header.proofs.Whites.{white-inside}
 use Rattle.p6_header.proofs.read.Ways.{
   letter-fails,
   figure-fails,
@@ -21,7 +21,6 @@ use Rattle.p6_header.proofs.read.Ways.{
   letters-pass,
   field-ends,
   field-passes,
-  last-is,
   last-fails,
   last-passes,
 }
@@ -121,7 +120,7 @@ at-last c =
 white : (c : tie.Else3) → isWhite (byteAt (whole (c .before)) (depth-end (c .before))) ≡ true
 white c =
     let l = c .before in
-    last-is (whole l) (depth-end l) _ _ true (l .before .byte-at3 .ensures) (l .is-white .ensures)
+    white-is (whole l) (depth-end l) _ _ true (l .before .byte-at3 .ensures) (l .is-white .ensures)
     (not-false _ (c .if3 .left))
 
 byte-at-requires : tie.Need-byte-at-requires
@@ -212,7 +211,7 @@ returns-6 : tie.Need-returns-6
 returns-6 c =
     let l = c .before in
     last-fails (whole l) _ _ (depth l) (depth-end l) (at-last l)
-    (last-is (whole l) (depth-end l) _ _ _ (l .before .byte-at3 .ensures) (l .is-white .ensures)
+    (white-is (whole l) (depth-end l) _ _ _ (l .before .byte-at3 .ensures) (l .is-white .ensures)
     (not-true _ (c .if3 .taken)))
 
 add-t17 : tie.Need-add-t17

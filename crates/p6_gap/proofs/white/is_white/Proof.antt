@@ -1,8 +1,8 @@
 -- `is_white` meets its contract: each way out is one of the white bytes.
 use borrow.Author.Tests.{eq-eqb, ne-eqb}
-use Rattle.p6_header.specs.Bytes.{isWhite}
-use Rattle.p6_header.proofs.white.is_white.Statement.{statement}
-use Rattle.p6_header.proofs.white.is_white.Tie as tie
+use Rattle.p6_gap.specs.Bytes.{isWhite}
+use Rattle.p6_gap.proofs.white.is_white.Statement.{statement}
+use Rattle.p6_gap.proofs.white.is_white.Tie as tie
 
 returns : tie.Need-returns
 unfolding isWhite

@@ -1,0 +1,2 @@
+-- The text of a comment as the loop meets it.
+pub mod Turns

@@ -1,2 +1,0 @@
--- The white bytes as the loop meets them.
-pub mod Turns
