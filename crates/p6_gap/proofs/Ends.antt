@@ -154,3 +154,11 @@ end-later s a n = elim (seen s a) [
   | endless u ↦ rw (unended-read s a u) (hash-inside s a (u .opens), omega arith)
   | neither w h ↦ absurd (n (neither-end s a w h))
 ]
+
+-- a comment ends behind its `#`
+pub comment-later : (s : List ℕ) (a : ℕ) → byteAt s a ≡ hash → a < commentEnd s a
+comment-later s a h = rw (← hash-end s a h) (elim (seen s a) [
+  | one w ↦ white-later s a _ w
+  | endless u ↦ rw (unended-read s a u) (hash-inside s a h)
+  | neither w n ↦ absurd (n h)
+])

@@ -4,7 +4,7 @@
 // For the crates above, with what is required above each
 //   is_white      whether a byte is white                                    white.rt
 //   gap_end       where white bytes and comments from a place on end         gap.rt
-// Their parts: one white byte or comment in white.rt, a comment in comment.rt.
+// A comment stands in comment.rt.
 //
 // Read next: specs/Lib.antt (what the words mean), proofs/Promises.antt (what is shown).
 

@@ -1,35 +1,45 @@
--- White bytes and comments in a row as the loop meets them: what is left to read ends where all of them end.
-use Prim.Native.Nat.{ℕ, _-_, _<_}
+-- White bytes and comments in a row as the loop meets them: those that are left end where all of them end.
+use Prim.Native.Nat.{ℕ, _+_, _-_, _≤_, _<_}
+use mathlib.Core.Bool.{true, false}
 use mathlib.Core.List.{List}
 use mathlib.Core.Path.{_≡_, refl, sym, ap, _∙_}
 use native.Mathlib.Omega.{arith}
 use lib.ListN.{length}
-use Rattle.p6_gap.specs.Gaps.{whiteEnd, gapEnd}
-use Rattle.p6_gap.proofs.Ends.{end-later}
+use Rattle.grammar.specs.{byteAt}
+use Rattle.p6_gap.specs.Bytes.{isWhite, hash}
+use Rattle.p6_gap.specs.Gaps.{commentEnd, gapEnd}
+use Rattle.p6_gap.proofs.Ends.{byte-end, hash-end, neither-end, past-end, comment-later}
 use Rattle.p6_gap.proofs.Gaps.{gap-on, gap-here}
 
--- those from i on end where those from `at` on do, and the first of them ends at `next`
-pub record Reached (s : List ℕ) (at i next : ℕ) : Type 0 where
+-- those from i on end where those from `at` on do
+pub record Left (s : List ℕ) (at i : ℕ) : Type 0 where
   pub ends : gapEnd s i ≡ gapEnd s at
-  pub first : next ≡ whiteEnd s i
 
 -- at first all are left
-pub reached-start : (s : List ℕ) (at next : ℕ) → next ≡ whiteEnd s at → Reached s at at next
-reached-start s at next e = record { ends = refl; first = e }
+pub left-start : (s : List ℕ) (at : ℕ) → Left s at at
+left-start s at = record { ends = refl }
 
--- behind the first the others are left
-pub reached-step : {s : List ℕ} {at i next : ℕ} → Reached s at i next → (after : ℕ) → after ≡ whiteEnd s next
-    → Reached s at next after
-reached-step {s} {at} {i} p after e = record {
-  ends = ap (gapEnd s) (p .first) ∙ gap-on s i ∙ p .ends;
-  first = e;
+-- behind a white byte the others are left
+pub left-white : {s : List ℕ} {at i : ℕ} → Left s at i → isWhite (byteAt s i) ≡ true → Left s at (i + 1)
+left-white {s} {i = i} p w = record { ends = ap (gapEnd s) (sym (byte-end s i w)) ∙ gap-on s i ∙ p .ends }
+
+-- behind a comment they are
+pub left-comment : {s : List ℕ} {at i : ℕ} → Left s at i → (next : ℕ) → byteAt s i ≡ hash → next ≡ commentEnd s i
+    → Left s at next
+left-comment {s} {i = i} p next h e = record {
+  ends = ap (gapEnd s) (e ∙ sym (hash-end s i h)) ∙ gap-on s i ∙ p .ends;
 }
 
 -- which is further on
-pub reached-less : {s : List ℕ} {at i next : ℕ} → Reached s at i next → ¬ (next ≡ i) → length s - next < length s - i
-reached-less {s} {i = i} p n =
-    omega (arith, p .first, end-later s i (λ e. n (p .first ∙ e)) .0, end-later s i (λ e. n (p .first ∙ e)) .1)
+pub comment-less : {s : List ℕ} {at i : ℕ} → Left s at i → (next : ℕ) → i < length s → byteAt s i ≡ hash
+    → next ≡ commentEnd s i → length s - next < length s - i
+comment-less {s} {i = i} p next l h e = omega (arith, comment-later s i h)
 
--- where none is left they end
-pub reached-done : {s : List ℕ} {at i next : ℕ} → Reached s at i next → next ≡ i → i ≡ gapEnd s at
-reached-done {s} {i = i} p e = sym (gap-here s i (sym (p .first) ∙ e)) ∙ p .ends
+-- where neither stands they end
+pub left-done : {s : List ℕ} {at i : ℕ} → Left s at i → isWhite (byteAt s i) ≡ false → ¬ (byteAt s i ≡ hash)
+    → i ≡ gapEnd s at
+left-done {s} {i = i} p w h = sym (gap-here s i (neither-end s i w h)) ∙ p .ends
+
+-- or the input ends there
+pub left-all : {s : List ℕ} {at i : ℕ} → Left s at i → length s ≤ i → i ≡ gapEnd s at
+left-all {s} {i = i} p l = sym (gap-here s i (past-end s i l)) ∙ p .ends

@@ -1,38 +1,72 @@
--- `gap_end` meets its contract: what is left to read is the same at every turn.
+-- `gap_end` meets its contract: the loop passes white bytes and comments, and what is left ends where all of them end.
 use Prim.Native.Nat.{_-_}
+use mathlib.Core.Path.{_≡_, sym, _∙_}
 use native.Mathlib.Omega.{arith}
 use lib.ListN.{length}
 use denote.Ref.{now}
 use borrow.Author.Needs.{needs}
-use Rattle.p6_gap.proofs.gap.Turns.{Reached, reached-start, reached-step, reached-less, reached-done}
+use Rattle.p6_gap.proofs.gap.Turns.{
+  Left,
+  left-start,
+  left-white,
+  left-comment,
+  comment-less,
+  left-done,
+  left-all,
+}
 use Rattle.p6_gap.proofs.gap.gap_end.Statement.{statement}
 use Rattle.p6_gap.proofs.gap.gap_end.Tie as tie
 
 abbrev Inv-loop : tie.InvT-loop
-Inv-loop input at i₀ next₀ i next = Reached input at i next
+Inv-loop input at i₀ i = Left input at i
 
 abbrev μ-loop : tie.MeasureT-loop
-μ-loop input at i₀ next₀ i next = length input - i
+μ-loop input at i₀ i = length input - i
 
-white-end-requires : tie.Need-white-end-requires Inv-loop μ-loop
-white-end-requires c κs = search needs
+-- the turn of the loop
+abbrev turn : tie.After-is-white Inv-loop μ-loop → tie.At-loop Inv-loop μ-loop
+turn c = c .before .before .before
 
 loop-holds : tie.Need-loop-holds Inv-loop μ-loop
-loop-holds c =
-    let a = c .before .before .args in
-    reached-start (now (a .input)) (a .at) _ (c .white-end .ensures)
+loop-holds c = left-start (now (c .before .args .input)) (c .before .args .at)
 
-white-end-requires-2 : tie.Need-white-end-requires-2 Inv-loop μ-loop
-white-end-requires-2 c κs = search needs
+shared-slice-read-byte : tie.Need-shared-slice-read-byte Inv-loop μ-loop
+shared-slice-read-byte c = omega arith
+
+is-white-requires : tie.Need-is-white-requires Inv-loop μ-loop
+is-white-requires c κs = search needs
+
+add-i : tie.Need-add-i Inv-loop μ-loop
+add-i c = search needs
 
 loop-less : tie.Need-loop-less Inv-loop μ-loop
-loop-less c = reached-less (c .before .before .loop .inv) (c .before .loop-test .taken)
+loop-less c = omega arith
 
 loop-again : tie.Need-loop-again Inv-loop μ-loop
-loop-again c = reached-step (c .before .before .loop .inv) _ (c .white-end2 .ensures)
+loop-again c =
+    let w = c .before in
+    left-white (turn w .loop .inv) (sym (w .is-white .ensures) ∙ c .if1 .taken)
 
 returns : tie.Need-returns Inv-loop μ-loop
-returns c = reached-done (c .before .loop .inv) (c .loop-test .left)
+returns c =
+    let w = c .before .before in
+    left-done (turn w .loop .inv) (sym (w .is-white .ensures) ∙ c .before .if1 .left) (c .if2 .taken)
+
+comment-end-requires : tie.Need-comment-end-requires Inv-loop μ-loop
+comment-end-requires c κs = search needs
+
+loop-less-2 : tie.Need-loop-less-2 Inv-loop μ-loop
+loop-less-2 c =
+    let w = c .before .before .before in
+    comment-less (turn w .loop .inv) _ (w .before .before .loop-test .taken) (c .before .if2 .left)
+    (c .comment-end .ensures)
+
+loop-again-2 : tie.Need-loop-again-2 Inv-loop μ-loop
+loop-again-2 c =
+    left-comment (turn (c .before .before .before) .loop .inv) _ (c .before .if2 .left) (c .comment-end .ensures)
+
+returns-2 : tie.Need-returns-2 Inv-loop μ-loop
+returns-2 c = left-all (c .before .loop .inv) (c .loop-test .left)
 
 pub gap-end-spec : {M : Type 1} → statement M
 gap-end-spec =
@@ -40,9 +74,14 @@ gap-end-spec =
     (tie.spec
     Inv-loop
     μ-loop
-    white-end-requires
     loop-holds
-    white-end-requires-2
+    shared-slice-read-byte
+    is-white-requires
+    add-i
     loop-less
     loop-again
-    returns)
+    returns
+    comment-end-requires
+    loop-less-2
+    loop-again-2
+    returns-2)
