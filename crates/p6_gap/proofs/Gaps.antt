@@ -2,6 +2,7 @@
 use Prim.Native.Nat.{ℕ, zero, suc, _+_, _≤_, _<_}
 use mathlib.Core.Bool.{true, false}
 use mathlib.Core.List.{List}
+use mathlib.Core.Logic.{_↔_}
 use mathlib.Core.Path.{_≡_, refl, sym, ap, _∙_, subst}
 use native.Mathlib.Decide.{ℕ-discrete}
 use native.Mathlib.Omega.{arith}
@@ -9,7 +10,18 @@ use lib.ListN.{length}
 use Rattle.grammar.specs.{byteAt, isDigit, AllOf}
 use Rattle.p6_gap.specs.Bytes.{isWhite, hash}
 use Rattle.p6_gap.specs.Gaps.{whiteEnd, gapFrom, gapEnd}
-use Rattle.p6_gap.specs.Standing.{White, byte, Whites, none, more, Gap, Unended}
+use Rattle.p6_gap.specs.Standing.{
+  White,
+  byte,
+  Whites,
+  none,
+  more,
+  Gap,
+  Unended,
+  GapRead,
+  stops,
+  open-ended,
+}
 use Rattle.p6_gap.proofs.Bytes.{hash-inside}
 use Rattle.p6_gap.proofs.Ends.{
   neither-end,
@@ -118,31 +130,34 @@ module _ (s : List ℕ) where
       gap-behind a b ws ∙ sym (gap-on s b) ∙ ap (gapEnd s) (unended-read s b u)
       ∙ gap-here s (length s) (past-end s (length s) (omega arith))
 
-  -- what is read up to e: so many, and then neither a white byte nor `#`; or so many, and a comment that never ends
-  pub data GapTold (a e : ℕ) : Type 0 where
-    stops : Whites s a e → isWhite (byteAt s e) ≡ false → ¬ (byteAt s e ≡ hash) → GapTold a e
-    open-ended : (from : ℕ) → Whites s a from → Unended s from → e ≡ length s → GapTold a e
-
   -- the same with one more before them
-  told-more : (a b e : ℕ) → White s a b → GapTold b e → GapTold a e
-  told-more a b e w (stops ws n h) = stops (more a b e w ws) n h
-  told-more a b e w (open-ended from ws u z) = open-ended from (more a b from w ws) u z
+  read-more : (a b e : ℕ) → White s a b → GapRead s b e → GapRead s a e
+  read-more a b e w (stops ws n h) = stops (more a b e w ws) n h
+  read-more a b e w (open-ended from ws u z) = open-ended from (more a b from w ws) u z
 
   -- by what stands first
-  told-by : (a : ℕ) → Seen s a → (White s a (whiteEnd s a) → GapTold (whiteEnd s a) (gapEnd s (whiteEnd s a)))
-      → GapTold a (gapEnd s a)
-  told-by a (one w) further = subst (GapTold a) (gap-on s a) (told-more a _ _ w (further w))
-  told-by a (endless u) further = open-ended a (none a a refl) u (gap-unended a a (none a a refl) u)
-  told-by a (neither w h) further =
-      subst (GapTold a) (sym (gap-here s a (neither-end s a w h))) (stops (none a a refl) w h)
+  read-by : (a : ℕ) → Seen s a → (White s a (whiteEnd s a) → GapRead s (whiteEnd s a) (gapEnd s (whiteEnd s a)))
+      → GapRead s a (gapEnd s a)
+  read-by a (one w) further = subst (GapRead s a) (gap-on s a) (read-more a _ _ w (further w))
+  read-by a (endless u) further = open-ended a (none a a refl) u (gap-unended a a (none a a refl) u)
+  read-by a (neither w h) further =
+      subst (GapRead s a) (sym (gap-here s a (neither-end s a w h))) (stops (none a a refl) w h)
 
   -- within so many bytes
-  told-from : (m a : ℕ) → length s ≤ a + m → GapTold a (gapEnd s a)
-  told-from zero a h =
-      told-by a (seen s a) (λ w. absurd (omega (arith, white-later s a _ w, white-within s a _ w)))
-  told-from (suc m) a h =
-      told-by a (seen s a) (λ w. told-from m (whiteEnd s a) (omega (arith, white-later s a _ w)))
+  read-from : (m a : ℕ) → length s ≤ a + m → GapRead s a (gapEnd s a)
+  read-from zero a h =
+      read-by a (seen s a) (λ w. absurd (omega (arith, white-later s a _ w, white-within s a _ w)))
+  read-from (suc m) a h =
+      read-by a (seen s a) (λ w. read-from m (whiteEnd s a) (omega (arith, white-later s a _ w)))
 
   -- for all that is read
-  pub gap-told : (a : ℕ) → GapTold a (gapEnd s a)
-  gap-told a = told-from (length s) a (omega arith)
+  pub gap-read : (a : ℕ) → GapRead s a (gapEnd s a)
+  gap-read a = read-from (length s) a (omega arith)
+
+  -- and nothing else is
+  pub gap-reads-exactly : (a e : ℕ) → (gapEnd s a ≡ e) ↔ GapRead s a e
+  gap-reads-exactly a e = (λ z. subst (GapRead s a) z (gap-read a), read)
+    where
+      read : GapRead s a e → gapEnd s a ≡ e
+      read (stops ws w h) = gap-only a e ws w h
+      read (open-ended from ws u z) = gap-unended a from ws u ∙ sym z

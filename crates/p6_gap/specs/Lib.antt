@@ -9,6 +9,7 @@
 --   White, Whites         one of them stands from one place to another; so many, or none
 --   Gap                   what may stand between two parts of a header: one of them, or more
 --   Unended               a comment opens here that never ends
+--   GapRead               white bytes and comments are read from one place to another
 --   replaced one bytes    the bytes with each comment replaced by one byte
 pub mod Bytes
 pub mod Gaps
@@ -16,5 +17,5 @@ pub mod Standing
 pub mod Replacing
 unfoldable pub use Bytes.{isWhite, hash, endsComment, isText}
 unfoldable pub use Gaps.{textEnd, commentEnd, whiteEnd, gapFrom, gapEnd}
-pub use Standing.{White, Whites, Gap, Unended}
+pub use Standing.{White, Whites, Gap, Unended, GapRead}
 unfoldable pub use Replacing.{replacedFrom, replaced}

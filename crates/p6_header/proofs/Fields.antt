@@ -10,7 +10,8 @@ use Rattle.grammar.specs.{byteAt, isDigit, mostDigits, digitsAt, decimal, numbe
 use Rattle.grammar.specs.declared.Reading.the-variants.{Number, Failed}
 use Rattle.grammar.proofs.Spans.{span-at-most, span-all, span-ends, span-only, all-first, byte-past, nothing-digit}
 use Rattle.grammar.proofs.Readings.{number-reads, number-fails}
-use Rattle.p6_gap.specs.{hash, gapEnd, Whites}
+use Rattle.p6_gap.specs.{hash, gapEnd, Whites, GapRead}
+use Rattle.p6_gap.specs.Standing.{stops, open-ended}
 use Rattle.p6_gap.proofs.Bytes.{hash-inside, digit-not-white, hash-not-digit}
 use Rattle.p6_gap.proofs.Gaps.{
   whites-later,
@@ -20,10 +21,7 @@ use Rattle.p6_gap.proofs.Gaps.{
   gap-first,
   gap-only,
   gap-unended,
-  GapTold,
-  stops,
-  open-ended,
-  gap-told,
+  gap-read,
 }
 use Rattle.number.proofs.Cases.{never}
 use Rattle.p6_header.specs.Fields.{fieldAt}
@@ -117,7 +115,7 @@ told-read s a e end ws later digits =
 
 -- every field is read or failed
 pub field-told : (s : List ℕ) (a : ℕ) → Told s a (fieldAt s a)
-field-told s a = by (gap-told s a)
+field-told s a = by (gap-read s a)
   where
     e : ℕ
     e = gapEnd s a
@@ -128,7 +126,7 @@ field-told s a = by (gap-told s a)
         let here : e + digitsAt s e ≡ e = omega arith in
         ap (λ i. isDigit (byteAt s i)) (sym here) ∙ span-ends isDigit mostDigits s e (omega arith)
 
-    by : GapTold s a (gapEnd s a) → Told s a (fieldAt s a)
+    by : GapRead s a (gapEnd s a) → Told s a (fieldAt s a)
     by (open-ended from ws u z) = told-failed s a e (unended from ws u z)
     by (stops ws w h) = go (ℕ-discrete e a) (ℕ-discrete (digitsAt s e) 0)
       where
