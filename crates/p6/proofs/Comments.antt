@@ -1,5 +1,5 @@
--- Pictures with comments in their headers: what is answered is told by the header's numbers and the raster behind it, so
--- with each comment replaced by one white byte the answer differs in the raster's first place alone.
+-- Pictures with comments in their headers: what is answered is told by the header's numbers and the raster behind it,
+-- so with each comment replaced by one white byte the answer differs in the raster's first place alone.
 use Prim.Native.Nat.{ℕ, _-_}
 use mathlib.Core.Bool.{Bool, true, false, cond}
 use mathlib.Core.List.{List, [], _++_}
@@ -8,13 +8,13 @@ use mathlib.Core.Path.{_≡_, refl, sym, ap, _∙_}
 use native.Mathlib.Decide.{ℕ-discrete}
 use native.Mathlib.Omega.{arith}
 use lib.Dec.{eqb}
-use lib.ListN.{length, take, drop, length-append}
+use lib.ListN.{length, drop, length-append}
 use lib.Seq.{take-length, drop-append-seam}
 use borrow.Author.Tests.{eq-eqb, ne-eqb}
 use Rattle.number.proofs.Cases.{bool}
 use Rattle.refusal.specs.{numberOf, done, BAD-HEADER, BAD-SIZE, BAD-DEPTH, BAD-RASTER}
 use Rattle.p6_gap.specs.{isWhite, Unended, replaced}
-use Rattle.p6_header.specs.{Header, headerOf, HeaderIn, Between}
+use Rattle.p6_header.specs.{headerOf, HeaderIn, Between}
 use Rattle.p6_header.specs.declared.Header.the-variants.{Read}
 use Rattle.p6_header.proofs.Promises.{comments-as-white, start-counts-all, unended-fails}
 use Rattle.p6.specs.Refusals.{badSize, badDepth, badRaster, startIn}

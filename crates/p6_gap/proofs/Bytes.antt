@@ -1,5 +1,5 @@
--- Laws of single bytes: white bytes, `#` and the ends of comments stand inside the input, and none of the first two is a
--- digit.
+-- Laws of single bytes: white bytes, `#` and the ends of comments stand inside the input, and none of the first two is
+-- a digit.
 use Prim.Native.Nat.{ℕ, _<_}
 use mathlib.Core.Bool.{Bool, true, false}
 use mathlib.Core.List.{List}

@@ -10,10 +10,10 @@ use native.Mathlib.Omega.{arith}
 use lib.ListN.{length}
 use borrow.Author.Tests.{eq-eqb, ne-eqb, not-false}
 use Rattle.number.proofs.Cases.{bool, never}
-use Rattle.grammar.specs.{byteAt, isDigit, spanAt, AllOf}
-use Rattle.grammar.proofs.Spans.{span-at-most, span-all, span-ends, span-only, byte-past}
+use Rattle.grammar.specs.{byteAt, isDigit, AllOf}
+use Rattle.grammar.proofs.Spans.{span-all, span-ends, span-only, byte-past}
 use Rattle.p6_gap.specs.Bytes.{isWhite, hash, endsComment, isText}
-use Rattle.p6_gap.specs.Gaps.{textEnd, commentEnd, whiteEnd}
+use Rattle.p6_gap.specs.Gaps.{textAt, textEnd, commentEnd, whiteEnd}
 use Rattle.p6_gap.specs.Standing.{White, byte, comment, Unended}
 use Rattle.p6_gap.proofs.Bytes.{
   nothing-white,
@@ -30,40 +30,36 @@ use Rattle.p6_gap.proofs.Bytes.{
 -- ---- the text of a comment
 
 module _ (s : List ℕ) (a : ℕ) where
-  -- the bytes of its text, up to the input's end
-  abbrev texts : ℕ
-  texts = spanAt isText (length s - (a + 1)) s (a + 1)
-
   -- text that is ended is all of it
   pub text-only : (n : ℕ) → AllOf isText s (a + 1) n → endsComment (byteAt s (a + 1 + n)) ≡ true
-      → n ≡ spanAt isText (length s - (a + 1)) s (a + 1)
+      → n ≡ textAt s a
   text-only n all ends =
       span-only isText (length s - (a + 1)) s (a + 1) n (omega (arith, end-inside s (a + 1 + n) ends)) all
       (λ l. ap not ends)
 
   -- text up to the input's end is
   pub text-whole : (n : ℕ) → AllOf isText s (a + 1) n → n ≡ length s - (a + 1)
-      → n ≡ spanAt isText (length s - (a + 1)) s (a + 1)
+      → n ≡ textAt s a
   text-whole n all e =
       span-only isText (length s - (a + 1)) s (a + 1) n (omega arith) all (λ l. absurd (omega arith))
 
   -- a comment with an end goes up to and including it
-  pub comment-ended : (n : ℕ) → n ≡ spanAt isText (length s - (a + 1)) s (a + 1)
+  pub comment-ended : (n : ℕ) → n ≡ textAt s a
       → endsComment (byteAt s (a + 1 + n)) ≡ true → commentEnd s a ≡ a + 1 + n + 1
   unfolding commentEnd
   comment-ended n e t = rw (← e, t)
 
   -- one without goes up to the end of its text
-  pub comment-open : (n : ℕ) → n ≡ spanAt isText (length s - (a + 1)) s (a + 1)
+  pub comment-open : (n : ℕ) → n ≡ textAt s a
       → endsComment (byteAt s (a + 1 + n)) ≡ false → commentEnd s a ≡ a + 1 + n
   unfolding commentEnd
   comment-open n e t = rw (← e, t)
 
   -- where the byte behind its text does not end it, none does: the text goes up to the input's end
   never-ends : endsComment (byteAt s (textEnd s a)) ≡ false → (i : ℕ) → a < i → endsComment (byteAt s i) ≡ false
-  never-ends t i h = go (decLt i (textEnd s a)) (decLt texts (length s - (a + 1)))
+  never-ends t i h = go (decLt i (textEnd s a)) (decLt (textAt s a) (length s - (a + 1)))
     where
-      go : Dec (i < textEnd s a) → Dec (texts < length s - (a + 1)) → endsComment (byteAt s i) ≡ false
+      go : Dec (i < textEnd s a) → Dec (textAt s a < length s - (a + 1)) → endsComment (byteAt s i) ≡ false
       go (yes l) m =
           let z : a + 1 + (i - (a + 1)) ≡ i = omega arith in
           let text = span-all isText (length s - (a + 1)) s (a + 1) (i - (a + 1)) (omega arith) in
@@ -126,8 +122,8 @@ seen s a = go (bool (isWhite (byteAt s a))) (ℕ-discrete (byteAt s a) hash) (bo
     go (inl w) h t = one (byte w (byte-end s a w))
     go (inr w) (no h) t = neither w h
     go (inr w) (yes h) (inl t) =
-        one (comment (texts s a) h (span-all isText (length s - (a + 1)) s (a + 1)) t
-        (hash-end s a h ∙ comment-ended s a (texts s a) refl t))
+        one (comment (textAt s a) h (span-all isText (length s - (a + 1)) s (a + 1)) t
+        (hash-end s a h ∙ comment-ended s a (textAt s a) refl t))
     go (inr w) (yes h) (inr t) = endless (record { opens = h; never = never-ends s a t })
 
 -- ---- where it ends

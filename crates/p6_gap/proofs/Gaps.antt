@@ -1,6 +1,6 @@
 -- White bytes and comments in a row: where they end as they are read is where they end as they stand.
 use Prim.Native.Nat.{ℕ, zero, suc, _+_, _≤_, _<_}
-use mathlib.Core.Bool.{true, false}
+use mathlib.Core.Bool.{false}
 use mathlib.Core.List.{List}
 use mathlib.Core.Logic.{_↔_}
 use mathlib.Core.Path.{_≡_, refl, sym, ap, _∙_, subst}
@@ -22,7 +22,6 @@ use Rattle.p6_gap.specs.Standing.{
   stops,
   open-ended,
 }
-use Rattle.p6_gap.proofs.Bytes.{hash-inside}
 use Rattle.p6_gap.proofs.Ends.{
   neither-end,
   past-end,

@@ -1,6 +1,6 @@
 -- Comments replaced by one white byte each, place by place: what stands from a place of the input on stands, with its
 -- comments replaced, from a place of the other input on.
-use Prim.Native.Nat.{ℕ, zero, suc, _+_, _≤_, _<_}
+use Prim.Native.Nat.{ℕ, zero, suc, _+_, _<_}
 use mathlib.Core.Bool.{true, false}
 use mathlib.Core.List.{List, [], _∷_, _++_}
 use mathlib.Core.Logic.{⊎-elim}
@@ -99,12 +99,18 @@ module _ (one : ℕ) (white : isWhite one ≡ true) (s t behind : List ℕ) wher
       drop-first t b one (replacedFrom false one (drop (a + 1 + n + 1) s) ++ behind)
       (ap (λ x. x ++ behind) (sym g) ∙ o)
 
+  -- so is a white byte
+  pub onward-blank : (a b : ℕ) → isWhite (byteAt s a) ≡ true → Onward a b
+      → (isWhite (byteAt t b) ≡ true) × Onward (a + 1) (b + 1)
+  onward-blank a b w o =
+      let d = onward-byte a b (white-inside s a w) (λ h. never (sym w ∙ hash-not-white _ h)) o in
+      (ap isWhite (d .0) ∙ w, d .1)
+
   -- a white byte or a comment is a white byte
   onward-white : (a b c : ℕ) → White s a c → Onward a b → White t b (b + 1) × Onward c (b + 1)
   onward-white a b c (byte w e) o =
-      let n : ¬ (byteAt s a ≡ hash) = λ h. never (sym w ∙ hash-not-white _ h) in
-      let d = onward-byte a b (white-inside s a w) n o in
-      (byte (ap isWhite (d .0) ∙ w) refl, subst (λ i. Onward i (b + 1)) (sym e) (d .1))
+      let d = onward-blank a b w o in
+      (byte (d .0) refl, subst (λ i. Onward i (b + 1)) (sym e) (d .1))
   onward-white a b c (comment n h all ends e) o =
       let d = onward-comment a b n h all ends o in
       (byte (ap isWhite (d .0) ∙ white) refl, subst (λ i. Onward i (b + 1)) (sym e) (d .1))

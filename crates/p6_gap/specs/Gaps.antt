@@ -7,10 +7,14 @@ use lib.ListN.{length}
 use Rattle.grammar.specs.{byteAt, spanAt}
 use Rattle.p6_gap.specs.Bytes.{isWhite, hash, endsComment, isText}
 
--- where the text of the comment that opens at `at` ends: at the next LF or CR, or at the input's length where there is
--- none
+-- the bytes of text of the comment that opens at `at`: those up to the next LF or CR, or all that are left where there
+-- is none
+abbrev pub textAt : List ℕ → ℕ → ℕ
+textAt input at = spanAt isText (length input - (at + 1)) input (at + 1)
+
+-- where its text ends
 abbrev pub textEnd : List ℕ → ℕ → ℕ
-textEnd input at = at + 1 + spanAt isText (length input - (at + 1)) input (at + 1)
+textEnd input at = at + 1 + textAt input at
 
 -- the place behind that comment: the LF or CR is part of it
 unfoldable pub commentEnd : List ℕ → ℕ → ℕ

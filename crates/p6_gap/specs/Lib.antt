@@ -2,7 +2,8 @@
 --   isWhite               white bytes
 --   hash                  `#`, which opens a comment
 --   endsComment, isText   LF and CR, which end a comment; every other byte
---   textEnd input at      where the text of the comment that opens at `at` ends
+--   textAt input at       the bytes of text of the comment that opens at `at`
+--   textEnd input at      where its text ends
 --   commentEnd input at   the place behind that comment
 --   whiteEnd input at     the place behind the white byte or the comment at `at`
 --   gapFrom, gapEnd       the place behind so many of them, and behind all, from `at` on
@@ -16,6 +17,6 @@ pub mod Gaps
 pub mod Standing
 pub mod Replacing
 unfoldable pub use Bytes.{isWhite, hash, endsComment, isText}
-unfoldable pub use Gaps.{textEnd, commentEnd, whiteEnd, gapFrom, gapEnd}
+unfoldable pub use Gaps.{textAt, textEnd, commentEnd, whiteEnd, gapFrom, gapEnd}
 pub use Standing.{White, Whites, Gap, Unended, GapRead}
 unfoldable pub use Replacing.{replacedFrom, replaced}

@@ -29,8 +29,8 @@ pub record Unended (input : List ℕ) (at : ℕ) : Type 0 where
   pub opens : byteAt input at ≡ hash
   pub never : (i : ℕ) → at < i → endsComment (byteAt input i) ≡ false
 
--- white bytes and comments from a on are read up to e: so many stand there, and then neither a white byte nor `#`; or so
--- many and then a comment that never ends, which is read up to the input's length
+-- white bytes and comments from a on are read up to e: so many stand there, and then neither a white byte nor `#`; or
+-- so many and then a comment that never ends, which is read up to the input's length
 pub data GapRead (input : List ℕ) (a e : ℕ) : Type 0 where
   stops : Whites input a e → isWhite (byteAt input e) ≡ false → ¬ (byteAt input e ≡ hash) → GapRead input a e
   open-ended : (from : ℕ) → Whites input a from → Unended input from → e ≡ length input → GapRead input a e

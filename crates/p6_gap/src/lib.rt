@@ -1,5 +1,5 @@
-// The gap between two parts of a P6 header: white bytes and comments, as many as there are. A comment
-// is `#` and all bytes up to and including the next LF or CR; it counts as one white byte.
+// The gap between two parts of a P6 header: white bytes and comments, as many as there are. A
+// comment is `#` and all bytes up to and including the next LF or CR; it counts as one white byte.
 //
 // For the crates above, with what is required above each
 //   is_white      whether a byte is white                                    white.rt

@@ -12,7 +12,7 @@ use Rattle.p6_gap.specs.{isWhite}
 use Rattle.p6_gap.proofs.Same.{gap-same}
 use Rattle.p6_header.specs.Standing.{Field, HeaderIn, IsHeader}
 use Rattle.p6_header.proofs.Fields.{field-later}
-use Rattle.p6_header.proofs.Headers.{header-inside}
+use Rattle.p6_header.proofs.Headers.{header-long, header-inside}
 
 module _ (s t : List ℕ) (n : ℕ) (same : (i : ℕ) → i < n → byteAt s i ≡ byteAt t i) where
   -- a field stands in another input with the same bytes
@@ -31,7 +31,6 @@ module _ (s t : List ℕ) (n : ℕ) (same : (i : ℕ) → i < n → byteAt s i �
   -- and so a header
   header-same : (w h d : ℕ) → HeaderIn s w h d n → HeaderIn t w h d n
   header-same w h d H =
-      let first = field-later s 2 (H .after-width) w (H .width-is) in
       let second = field-later s (H .after-width) (H .after-height) h (H .height-is) in
       let third = field-later s (H .after-height) (H .after-depth) d (H .depth-is) in
       record {
@@ -39,7 +38,7 @@ module _ (s t : List ℕ) (n : ℕ) (same : (i : ℕ) → i < n → byteAt s i �
         after-height = H .after-height;
         after-depth = H .after-depth;
         letter = sym (same 0 (omega (arith, H .ends))) ∙ H .letter;
-        figure = sym (same 1 (omega (arith, H .ends, first, second, third))) ∙ H .figure;
+        figure = sym (same 1 (omega (arith, header-long s w h d n H))) ∙ H .figure;
         width-is = field-same 2 (H .after-width) w (H .width-is) (omega (arith, H .ends, second, third));
         height-is = field-same (H .after-width) (H .after-height) h (H .height-is) (omega (arith, H .ends, third));
         depth-is = field-same (H .after-height) (H .after-depth) d (H .depth-is) (omega (arith, H .ends));

@@ -1,16 +1,15 @@
 -- A field, as it is read and as it stands: a gap and a number behind it, from one place to another.
 use Prim.Native.Nat.{ℕ, _+_, _<_}
-use mathlib.Core.Bool.{true, false}
+use mathlib.Core.Bool.{false}
 use mathlib.Core.List.{List}
 use mathlib.Core.Path.{_≡_, refl, sym, ap, _∙_, subst}
 use native.Mathlib.Decide.{ℕ-discrete}
 use native.Mathlib.Omega.{arith}
-use lib.ListN.{length}
 use Rattle.grammar.specs.{byteAt, isDigit, mostDigits, digitsAt, decimal, numberAt, Reading}
 use Rattle.grammar.specs.declared.Reading.the-variants.{Number, Failed}
 use Rattle.grammar.proofs.Spans.{span-at-most, span-all, span-ends, span-only, all-first, byte-past, nothing-digit}
 use Rattle.grammar.proofs.Readings.{number-reads, number-fails}
-use Rattle.p6_gap.specs.{hash, gapEnd, Whites, GapRead}
+use Rattle.p6_gap.specs.{gapEnd, Whites, GapRead}
 use Rattle.p6_gap.specs.Standing.{stops, open-ended}
 use Rattle.p6_gap.proofs.Bytes.{hash-inside, digit-not-white, hash-not-digit}
 use Rattle.p6_gap.proofs.Gaps.{

@@ -1,5 +1,5 @@
 -- A header is read exactly where one stands.
-use Prim.Native.Nat.{ℕ, _≤_}
+use Prim.Native.Nat.{ℕ, _≤_, _<_}
 use mathlib.Core.List.{List}
 use mathlib.Core.Logic.{_↔_, inl, inr}
 use mathlib.Core.Path.{_≡_, refl, sym, ap, _∙_, subst}
@@ -16,7 +16,7 @@ use Rattle.p6_header.specs.Headers.{andThen, lastWhite, fieldsBy, header
 use Rattle.p6_header.specs.declared.Header.{Header}
 use Rattle.p6_header.specs.declared.Header.the-variants.{Read, Bad}
 use Rattle.p6_header.specs.Standing.{Field, HeaderIn}
-use Rattle.p6_header.proofs.Fields.{field-first, field-is-read, Told, read, failed, field-told}
+use Rattle.p6_header.proofs.Fields.{field-first, field-later, field-is-read, Told, read, failed, field-told}
 use Rattle.p6_header.proofs.read.Ways.{letter-fails, figure-fails, letters-pass}
 
 -- a header that failed was not read
@@ -113,6 +113,17 @@ header-reads s w h d n H =
 -- a header is read exactly where it stands
 pub header-reads-exactly : (s : List ℕ) (w h d n : ℕ) → (headerOf s ≡ Read w h d n) ↔ HeaderIn s w h d n
 header-reads-exactly s w h d n = (header-stands s w h d n, header-reads s w h d n)
+
+-- a header is longer than its letters
+pub header-long : (s : List ℕ) (w h d n : ℕ) → HeaderIn s w h d n → 2 < n
+header-long s w h d n H =
+    omega (
+      arith,
+      H .ends,
+      field-later s 2 (H .after-width) w (H .width-is),
+      field-later s (H .after-width) (H .after-height) h (H .height-is),
+      field-later s (H .after-height) (H .after-depth) d (H .depth-is),
+    )
 
 -- a header ends inside its input
 pub header-inside : (s : List ℕ) (w h d n : ℕ) → HeaderIn s w h d n → n ≤ length s

@@ -14,7 +14,7 @@ use Rattle.p6_header.specs.Bytes.{letterP, figureSix}
 use Rattle.p6_header.specs.Fields.{numberBehind, fieldAt}
 use Rattle.p6_header.specs.Headers.{andThen, lastWhite, fieldsBy, headerOf}
 use Rattle.p6_header.specs.Plain.{whitesAt, plainField, plainHeader}
-use Rattle.p6_header.specs.Standing.{Field, FieldRead, PartEnds, letters, width, height, Between}
+use Rattle.p6_header.specs.Standing.{FieldRead, PartEnds, letters, width, height, Between}
 use Rattle.p6_header.specs.declared.Header.{Header}
 use Rattle.p6_header.proofs.Fields.{Told, read, failed, field-told}
 

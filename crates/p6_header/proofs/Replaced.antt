@@ -5,14 +5,13 @@ use mathlib.Core.List.{List, [], _++_}
 use mathlib.Core.Path.{_≡_, refl, sym, ap, _∙_, subst}
 use native.Mathlib.Omega.{arith}
 use lib.ListN.{length, take, drop, length-append, length-drop, drop-of-length-le}
-use Rattle.number.proofs.Cases.{never}
-use Rattle.grammar.specs.{byteAt, isDigit}
+use Rattle.grammar.specs.{isDigit}
 use Rattle.grammar.proofs.Decimals.{decimal-same}
-use Rattle.p6_gap.specs.{isWhite, hash, replacedFrom, replaced}
-use Rattle.p6_gap.proofs.Bytes.{white-inside, hash-not-white}
-use Rattle.p6_gap.proofs.Replacing.{Onward, onward-byte, onward-gap, onward-digits}
+use Rattle.p6_gap.specs.{isWhite, replacedFrom, replaced}
+use Rattle.p6_gap.proofs.Bytes.{white-inside}
+use Rattle.p6_gap.proofs.Replacing.{Onward, onward-byte, onward-blank, onward-gap, onward-digits}
 use Rattle.p6_header.specs.Standing.{Field, HeaderIn}
-use Rattle.p6_header.proofs.Fields.{field-later}
+use Rattle.p6_header.proofs.Headers.{header-long}
 use Rattle.p6_header.proofs.Alone.{header-alone}
 
 module _ (one : ℕ) (white : isWhite one ≡ true) (s t behind : List ℕ) where
@@ -54,17 +53,13 @@ module _ (one : ℕ) (white : isWhite one ≡ true) (s t behind : List ℕ) wher
   -- a header alone has the same numbers
   onward-header : (w h d : ℕ) → HeaderIn s w h d (length s) → On 0 0 → HeaderIn t w h d (length (replaced one s))
   onward-header w h d H all =
-      let not-hash : (i c : ℕ) → byteAt s i ≡ c → ¬ (c ≡ hash) → ¬ (byteAt s i ≡ hash) = λ i c e n z. n (sym e ∙ z) in
-      let first = field-later s 2 (H .after-width) w (H .width-is) in
-      let second = field-later s (H .after-width) (H .after-height) h (H .height-is) in
-      let third = field-later s (H .after-height) (H .after-depth) d (H .depth-is) in
-      let letter = onward-byte one white s t behind 0 0 (omega (arith, H .ends)) (not-hash 0 80 (H .letter) (λ z. omega arith)) all in
-      let figure = onward-byte one white s t behind 1 1 (omega (arith, H .ends, first, second, third)) (not-hash 1 54 (H .figure) (λ z. omega arith)) (letter .1) in
+      let long = header-long s w h d (length s) H in
+      let letter = onward-byte one white s t behind 0 0 (omega arith) (λ z. omega (arith, H .letter)) all in
+      let figure = onward-byte one white s t behind 1 1 (omega arith) (λ z. omega (arith, H .figure)) (letter .1) in
       let width = onward-field 2 2 (H .after-width) w (H .width-is) (figure .1) in
       let height = onward-field (H .after-width) (width .0) (H .after-height) h (H .height-is) (width .2) in
       let depth = onward-field (H .after-height) (height .0) (H .after-depth) d (H .depth-is) (height .2) in
-      let last = onward-byte one white s t behind (H .after-depth) (depth .0) (omega (arith, H .ends)) (λ z. never (sym (H .last) ∙ hash-not-white _ z)) (depth .2) in
-      let is-white : isWhite (byteAt t (depth .0)) ≡ true = ap isWhite (last .0) ∙ H .last in
+      let last = onward-blank one white s t behind (H .after-depth) (depth .0) (H .last) (depth .2) in
       record {
         after-width = width .0;
         after-height = height .0;
@@ -74,9 +69,9 @@ module _ (one : ℕ) (white : isWhite one ≡ true) (s t behind : List ℕ) wher
         width-is = width .1;
         height-is = height .1;
         depth-is = depth .1;
-        last = is-white;
+        last = last .0;
         ends =
-            onward-end (depth .0 + 1) (omega (arith, white-inside t (depth .0) is-white)) all
+            onward-end (depth .0 + 1) (omega (arith, white-inside t (depth .0) (last .0))) all
             (subst (λ i. On i (depth .0 + 1)) (sym (H .ends)) (last .1));
       }
 

@@ -2,7 +2,7 @@
 use Prim.Native.Nat.{ℕ}
 use mathlib.Core.Bool.{false}
 use mathlib.Core.List.{List}
-use mathlib.Core.Path.{_≡_, refl, ap, _∙_, subst}
+use mathlib.Core.Path.{_≡_, refl, _∙_, subst}
 use lib.ListN.{length}
 use Rattle.grammar.specs.{byteAt, isDigit}
 use Rattle.grammar.specs.declared.Reading.the-variants.{Failed}

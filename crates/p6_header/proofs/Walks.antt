@@ -95,22 +95,25 @@ module _ (s : List ℕ) where
   LedOn i is = (b : ℕ) → isDigit b ≡ false → after i b ≡ gapThen is b
 
   module _ (i : Item) (is rest : List Item) (led : LedOn i is) where
-    -- it walks over one of them
+    -- it walks into a comment
+    hash-walk : (a : ℕ) → byteAt s a ≡ hash → says (i ∷ rest) s a ≡ says (comment ∷ (is ++ rest)) s (a + 1)
+    hash-walk a h =
+        front-taken after i rest (comment ∷ is) s a (hash-inside s a h)
+        (led _ (hash-not-digit _ h) ∙ rw (hash-not-white _ h, eq-eqb _ _ h) refl)
+
+    -- over a white byte or a comment
     white-walk : (a b : ℕ) → White s a b → says (i ∷ rest) s a ≡ says (is ++ rest) s b
     white-walk a b (byte w e) =
         front-taken after i rest is s a (white-inside s a w) (led _ (white-not-digit _ w) ∙ rw w refl)
         ∙ ap (says (is ++ rest) s) (sym e)
     white-walk a b (remark n h all ends e) =
-        front-taken after i rest (comment ∷ is) s a (hash-inside s a h)
-        (led _ (hash-not-digit _ h) ∙ rw (hash-not-white _ h, eq-eqb _ _ h) refl)
-        ∙ comment-walk (is ++ rest) n (a + 1) all ends ∙ ap (says (is ++ rest) s) (sym e)
+        hash-walk a h ∙ comment-walk (is ++ rest) n (a + 1) all ends ∙ ap (says (is ++ rest) s) (sym e)
 
-    -- and into a comment that never ends
+    -- and in a comment that never ends up to the input's length
     unended-walk : (a : ℕ) → Unended s a → says (i ∷ rest) s a ≡ some (length s)
     unended-walk a u =
         let inside = hash-inside s a (u .opens) in
-        front-taken after i rest (comment ∷ is) s a inside
-        (led _ (hash-not-digit _ (u .opens)) ∙ rw (hash-not-white _ (u .opens), eq-eqb _ _ (u .opens)) refl)
+        hash-walk a (u .opens)
         ∙ comment-dies (is ++ rest) (length s - (a + 1)) (a + 1) (omega arith) (λ j l. u .never j (omega arith))
 
   -- what ends a part but the depth is led on from to what comes, and a number to itself

@@ -14,7 +14,8 @@ use Rattle.p6_gap.specs.{gapEnd}
 abbrev pub numberBehind : List ℕ → ℕ → ℕ → Reading
 numberBehind input at start = cond (eqb start at) (Failed at) (numberAt input start)
 
--- one or more white bytes and comments from `at` on, and the number after them; with none of them there it fails at `at`
+-- one or more white bytes and comments from `at` on, and the number after them; with none of them there it fails at
+-- `at`
 unfoldable pub fieldAt : List ℕ → ℕ → Reading
 fieldAt input at = numberBehind input at (gapEnd input at)
 

@@ -1,11 +1,11 @@
-// The header of a P6 picture: "P6", then three numbers with white bytes and comments before each, then
-// one white byte. What the numbers may be is tested by the crate p6.
+// The header of a P6 picture: "P6", then three numbers with white bytes and comments before each,
+// then one white byte. What the numbers may be is tested by the crate p6.
 //
 // Calls; none requires anything of its caller
 //   read_header   the header at the front of an input, or where it fails   read.rt
 //   bad_at        where a header failed
-// Its parts: white bytes and comments, and a number after them, in field.rt. White bytes and comments
-// are the crate p6_gap's, digits and numbers the crate grammar's.
+// Its parts: white bytes and comments, and a number after them, in field.rt. White bytes and
+// comments are the crate p6_gap's, digits and numbers the crate grammar's.
 //
 // Read next: specs/Lib.antt (what the words mean), proofs/Promises.antt (what is shown).
 

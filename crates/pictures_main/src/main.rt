@@ -96,8 +96,9 @@ fn small_pictures() {
     show_picture(b"P6 2 1 255 123456");
 }
 
-// Headers with comments that count as white bytes: right after the letters, after a number and before
-// the depth, ended by LF, CR and CR LF, several in a row, with NUL and the opening byte inside.
+// Headers with comments that count as white bytes: right after the letters, after a number and
+// before the depth, ended by LF, CR and CR LF, several in a row, with NUL and the opening byte
+// inside.
 fn commented_pictures() {
     show_picture(b"P6#c\n2 1 255 123456");
     show_picture(b"P6 2#\n1 255 123456");

@@ -25,7 +25,7 @@ reads input answer = lists (told (headerOf input)) answer
 -- comments that count as one white byte, and those that cannot stand or never end
 abbrev pub comments : List Example
 comments =
-    -- right after "P6": `#c` LF; `#` LF alone; ended by CR; CR LF, where the LF is one more white byte; a blank before it
+    -- right after "P6": `#c` LF; `#` LF alone; ended by CR; CR LF, where the LF is one more white byte; behind a blank
     reads (afterLetters (35 ∷ 99 ∷ 10 ∷ [])) (0 ∷ 1 ∷ 1 ∷ 255 ∷ 13 ∷ [])
     ∷ reads (afterLetters (35 ∷ 10 ∷ [])) (0 ∷ 1 ∷ 1 ∷ 255 ∷ 12 ∷ [])
     ∷ reads (afterLetters (35 ∷ 99 ∷ 13 ∷ [])) (0 ∷ 1 ∷ 1 ∷ 255 ∷ 13 ∷ [])
@@ -50,6 +50,6 @@ comments =
     ∷ reads (80 ∷ 54 ∷ 32 ∷ 49 ∷ 32 ∷ 35 ∷ 35 ∷ 0 ∷ 49 ∷ []) (12 ∷ 9 ∷ [])
     ∷ reads (80 ∷ 54 ∷ 32 ∷ 49 ∷ 32 ∷ 49 ∷ 35 ∷ 32 ∷ []) (12 ∷ 8 ∷ [])
     ∷ reads (80 ∷ 54 ∷ 35 ∷ 10 ∷ []) (12 ∷ 4 ∷ [])
-    -- a comment ends a number: `1#` LF `1` are two numbers, and a letter behind a comment cannot stand
+    -- a letter behind a comment cannot stand
     ∷ reads (80 ∷ 54 ∷ 35 ∷ 10 ∷ 120 ∷ []) (12 ∷ 4 ∷ [])
     ∷ []

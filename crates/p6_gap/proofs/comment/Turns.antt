@@ -2,7 +2,7 @@
 use Prim.Native.Nat.{ℕ, _+_, _-_, _≤_, _<_}
 use mathlib.Core.Bool.{true, false, not}
 use mathlib.Core.List.{List}
-use mathlib.Core.Path.{_≡_, sym, ap, _∙_}
+use mathlib.Core.Path.{_≡_, ap, _∙_}
 use native.Mathlib.Omega.{arith}
 use lib.ListN.{length}
 use Rattle.grammar.specs.{byteAt, AllOf}
@@ -47,7 +47,8 @@ pub passed-all : {s : List ℕ} {at i : ℕ} → Passed s at i → length s ≤ 
 passed-all {s} {at} {i} p h =
     let n = i - (at + 1) in
     let here : at + 1 + n ≡ i = omega (arith, p .from) in
-    let past : endsComment (byteAt s (at + 1 + n)) ≡ false = rw here (ap endsComment (byte-past s i h) ∙ nothing-ends) in
+    let past : endsComment (byteAt s (at + 1 + n)) ≡ false =
+    rw here (ap endsComment (byte-past s i h) ∙ nothing-ends) in
     omega (
       arith,
       p .within,

@@ -1,6 +1,6 @@
 -- `gap_end` meets its contract: the loop passes white bytes and comments, and what is left ends where all of them end.
 use Prim.Native.Nat.{_-_}
-use mathlib.Core.Path.{_≡_, sym, _∙_}
+use mathlib.Core.Path.{sym, _∙_}
 use native.Mathlib.Omega.{arith}
 use lib.ListN.{length}
 use denote.Ref.{now}
