@@ -42,7 +42,7 @@ extern "C" {
 #endif
 
 /* The version of the library that this header belongs to. */
-#define KF_VERSION "0.3.0"
+#define KF_VERSION "0.4.0"
 
 /* The refusals. */
 enum kf_refusal {
@@ -242,7 +242,10 @@ enum kf_read_picture_place {
     KF_READ_PICTURE_PLACES = 4  /* how many places there are */
 };
 
-/* Reads a P6 picture (Netpbm's, without comments, depth 255). Writes the answer.
+/* Reads a P6 picture (Netpbm's, depth 255). Writes the answer.
+ * After "P6" and before the depth, wherever a white byte may stand, `#` opens a comment: it has any bytes up to and
+ * including the first CR or LF, and counts as one white byte. The offset and the raster's place count all its bytes. A
+ * comment that never ends is KF_BAD_HEADER at input_len. After the depth there is one white byte and no comment.
  * Refuses, in this order: KF_BAD_HEADER, KF_BAD_SIZE, KF_BAD_DEPTH, KF_BAD_RASTER. */
 uint32_t kf_read_picture(const uint8_t *input, size_t input_len, uint64_t answer[KF_READ_PICTURE_PLACES]);
 

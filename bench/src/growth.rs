@@ -107,13 +107,16 @@ fn with_shades(pace: Pace, side: usize) {
     row("palette", "shades", "shade", [4, 16, 64].map(|count| (count as f64, time(count))));
 }
 
-/// The header, which grows with its own bytes.
+/// The header, which grows with its own bytes: white bytes, and those of a comment.
 fn with_bytes(pace: Pace) {
-    let padded = |white: usize| {
-        let header = [b"P6".to_vec(), vec![b' '; white], b"1 1 255 abc".to_vec()].concat();
+    let padded = |between: &[u8]| {
+        let header = [b"P6", between, b"1 1 255 abc"].concat();
         (header.len() as f64, best(pace, &mut || timed(|| mapping::proved_reading(&header)).0))
     };
-    row("P6 header", "bytes of white space", "byte", [100, 10_000, 1_000_000].map(padded));
+    let sizes = [100, 10_000, 1_000_000];
+    row("P6 header", "bytes of white space", "byte", sizes.map(|bytes| padded(&vec![b' '; bytes])));
+    let comment = |bytes: usize| [b"#", vec![b'c'; bytes - 2].as_slice(), b"\n"].concat();
+    row("P6 header", "bytes of comment", "byte", sizes.map(|bytes| padded(&comment(bytes))));
 }
 
 /// The whole table of growth.

@@ -32,6 +32,9 @@ fn due_in(slip: Slip) -> &'static [&'static str] {
         Slip::TakesTheHighestNumberAtATie => &["rounds", "run", "map", "strips"],
         Slip::CutsPaletteBytes => &["palette"],
         Slip::PutsTheOffsetOneTooFar => &["picture"],
+        Slip::EndsACommentAtLfAlone | Slip::TakesACommentAfterTheDepth => &["picture"],
+        Slip::TellsAnUnendedCommentAtItsHash | Slip::TakesAHashBeforeTheLetters => &["picture"],
+        Slip::AsksForAWhiteByteBeforeAComment | Slip::SkipsTheByteAfterAComment => &["picture"],
     }
 }
 

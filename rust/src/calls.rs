@@ -254,7 +254,7 @@ pub fn map_strip(strip: &[u8], palette: &[u8], index: &mut [u8], first: usize) -
     })
 }
 
-/// Reads a P6 picture; its raster is a stretch of the input, uncopied.
+/// Reads a P6 picture, comments in its header too; its raster is a stretch of the input, uncopied.
 ///
 /// # Refusals
 /// BAD HEADER, BAD SIZE, BAD DEPTH, BAD RASTER.

@@ -14,6 +14,10 @@ use crate::refusal::Refusal;
 ///
 /// assert_eq!(Picture::read(b"P6 2,1 255 abcdef"), Err(Refusal::BadHeader { offset: 4 }));
 /// assert_eq!(Picture::read(b"P6 2 1 255 abcde"), Err(Refusal::BadRaster));
+///
+/// // A comment, as drawing programs write one, counts as a white byte.
+/// assert_eq!(Picture::read(b"P6\n# by hand\n2 1\n255\nabcdef")?, picture);
+/// assert_eq!(Picture::read(b"P6 2 1 # no end"), Err(Refusal::BadHeader { offset: 15 }));
 /// # Ok::<(), Refusal>(())
 /// ```
 #[derive(Clone, Copy, Debug, PartialEq, Eq)]
@@ -32,7 +36,10 @@ impl<'a> Picture<'a> {
 
     /// Reads a P6 picture: the header, then three bytes for each pixel and nothing after them.
     ///
-    /// Sides are 1 to 16,384, pixels at most 16,777,216, the depth is 255, and comments are not read.
+    /// Sides are 1 to 16,384, pixels at most 16,777,216, and the depth is 255. After "P6" and before the depth,
+    /// wherever a white byte may stand, `#` opens a comment: it has any bytes up to and including the first CR or LF,
+    /// and counts as one white byte. Offsets count its bytes too. A comment that never ends is BAD HEADER at the
+    /// input's length.
     ///
     /// # Refusals
     /// BAD HEADER, BAD SIZE, BAD DEPTH, BAD RASTER.

@@ -26,7 +26,7 @@ fn refused<'a>(rug: &'a [u8], many: &'a [u8]) -> [Refused<'a>; 19] {
         (&["6"], b"", 12, "12 BAD HEADER: the input is empty"),
         (&["6"], b"a letter", 12, "12 BAD HEADER: the byte at offset 0 cannot stand there"),
         (&["6"], b"P65 1 1 255 abc", 12, "12 BAD HEADER: the byte at offset 2 cannot stand there"),
-        (&["6"], b"P6\n# drawn\n", 12, "12 BAD HEADER: the header has a comment at offset 3"),
+        (&["6"], b"P6\n# drawn\n", 12, "12 BAD HEADER: the input ends at offset 11, inside what should be the header"),
         (&["6"], b"P6 64 96 255", 12, "12 BAD HEADER: the input ends at offset 12"),
         (&["6"], b"P6 1 18446744073709551617 255 ", 12, LONG),
         (&["6"], b"P6 16384 1025 255 ", 13, "13 BAD SIZE: the picture has 16384 by 1025 pixels; a side can be 1 to"),

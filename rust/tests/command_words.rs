@@ -107,7 +107,7 @@ fn a_file_that_no_program_here_writes_is_named_and_read_by_the_remedy() {
     let cases: [(&[u8], &str, i32, &str, &str); 6] = [
         (TIFF, "high.tif", 12, "BAD HEADER: this is a TIFF", "tifftopnm high.tif | ppmtoppm | pamdepth 255"),
         (ALPHA, "a.pam", 12, "BAD HEADER: this is a PAM", "pamdepth 255 a.pam | pamtopnm | ppmtoppm"),
-        (b"P6\n2 1\n# drawn\n255\nabcdef", "a b.ppm", 12, "BAD HEADER: the header has a", "pamdepth 255 'a b.ppm'"),
+        (b"P6\n2 1\n255# drawn\nabcdef", "a b.ppm", 12, "BAD HEADER: a comment stands", "pamdepth 255 'a b.ppm'"),
         (b"P6 2 1 65535 abcdefghijkl", "deep.ppm", 14, "BAD DEPTH: the depth is 65535, 16", "pamdepth 255 deep.ppm"),
         (b"P6 2 1 7 \0\0\0\x07\x07\x07", "flat.ppm", 14, "BAD DEPTH: the depth is 7, ", "pamdepth 255 flat.ppm"),
         (&many, "many.ppm", 3, "FULL: the picture has more", "pamdepth 100 many.ppm | pamdepth 255"),

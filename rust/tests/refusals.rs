@@ -268,7 +268,7 @@ fn pictures_that_are_none() {
         (b"P62", Refusal::BadHeader { offset: 2 }),
         (b"P6 000002 1 255 ", Refusal::BadHeader { offset: 8 }),
         (b"P6 0 1 255", Refusal::BadHeader { offset: 10 }),
-        (b"P6 # comment", Refusal::BadHeader { offset: 3 }),
+        (b"P6 # comment", Refusal::BadHeader { offset: 12 }),
         (b"P6 0 1 255 ", Refusal::BadSize),
         (b"P6 16384 1025 254 ", Refusal::BadSize),
         (b"P6 1 1 254 abc", Refusal::BadDepth),

@@ -1,9 +1,15 @@
 //! Reading a P6 picture's header.
 
-/// One or more white bytes from `at` on: the place after them.
-fn white(input: &[u8], at: usize) -> Option<usize> {
-    let blanks = input[at..].iter().take_while(|byte| b" \t\r\n".contains(byte)).count();
-    (blanks > 0).then_some(at + blanks)
+/// One or more white bytes or comments from `from` on: the place after them.
+fn white(input: &[u8], from: usize) -> Option<usize> {
+    let mut at = from;
+    loop {
+        at += input[at..].iter().take_while(|byte| b" \t\r\n".contains(byte)).count();
+        if input.get(at) != Some(&b'#') {
+            return (at > from).then_some(at);
+        }
+        at += 1 + input[at..].iter().position(|byte| b"\r\n".contains(byte))?;
+    }
 }
 
 /// A number of 1 to 5 digits from `at` on, and the place after it.

@@ -37,9 +37,11 @@ pub fn whole(pace: Pace, picture: &Picture, palette: &[u8]) {
     row(&format!("mapping, k = {}", palette.len() / 3), &picture.name, ("pixel", pixels as f64), &times, "cells");
 }
 
-/// Reading a picture's header, ten thousand times a turn.
+/// Reading a picture's header, ten thousand times a turn. The form reads comments too, though none is timed here.
 pub fn read(pace: Pace, picture: &Picture) {
     let file = picture.file();
+    let commented = [b"P6# a comment\r", &file[3..]].concat();
+    assert_eq!(header::picture(&commented), Some(proved_reading(&commented)), "header: a comment is read otherwise");
     let many =
         |read: &dyn Fn(&[u8]) -> [u64; 3]| timed(|| (0..10_000).fold([0; 3], |_, _| black_box(read(black_box(&file)))));
     let times = race(

@@ -27,28 +27,109 @@ fn one_byte(input: &[u8], at: usize, fits: impl Fn(u8) -> bool) -> Result<usize,
 
 /// ""P6"; one or more white bytes (blank, TAB, CR, LF); width; white bytes; height; white bytes; depth; exactly one
 /// white byte". A failure is "the offset of the first byte that cannot stand there, or the input's length if it ends
-/// early".
+/// early". "After the depth there is still one white byte and no comment. Offsets still count all bytes of the input."
+/// (document 02)
 fn header(model: &mut Model, input: &[u8]) -> Result<Header, usize> {
-    let at = one_byte(input, 0, |byte| byte == b'P')?;
+    let hash = |at: usize| input.get(at) == Some(&b'#');
+    model.meet_if(hash(0), "# before P6");
+    let at = if hash(0) && model.slips(Slip::TakesAHashBeforeTheLetters) { comment(model, input, 0)? } else { 0 };
+    let at = one_byte(input, at, |byte| byte == b'P')?;
+    model.meet_if(hash(at), "# inside P6");
     let at = one_byte(input, at, |byte| byte == b'6')?;
-    let at = white_bytes(model, input, at)?;
+    let at = white_bytes(model, input, at, &GAPS[0])?;
     let (width, at) = number(model, input, at)?;
-    let at = white_bytes(model, input, at)?;
+    let at = white_bytes(model, input, at, &GAPS[1])?;
     let (height, at) = number(model, input, at)?;
-    let at = white_bytes(model, input, at)?;
+    let at = white_bytes(model, input, at, &GAPS[2])?;
     let (depth, at) = number(model, input, at)?;
-    let raster = one_byte(input, at, is_white)?;
+    model.meet_if(hash(at), "# right after the depth");
+    let raster = if hash(at) && model.slips(Slip::TakesACommentAfterTheDepth) {
+        comment(model, input, at)?
+    } else {
+        one_byte(input, at, is_white)?
+    };
     Ok(Header { width, height, depth, raster })
 }
 
-/// "one or more white bytes": the place after them.
-fn white_bytes(model: &mut Model, input: &[u8], at: usize) -> Result<usize, usize> {
-    let mut end = one_byte(input, at, is_white)?;
-    while let Ok(next) = one_byte(input, end, is_white) {
-        end = next;
+/// "one or more white bytes": the place after them. What stands there is noted, each by its first byte.
+fn white_bytes(model: &mut Model, input: &[u8], at: usize, gap: &Gap) -> Result<usize, usize> {
+    if model.slips(Slip::AsksForAWhiteByteBeforeAComment) {
+        one_byte(input, at, is_white)?;
     }
-    model.meet_if(end - at > 8, "wide white space");
+    let mut end = white_byte(model, input, at)?;
+    let mut firsts = vec![input[at]];
+    while let Some(&first) = input.get(end).filter(|&&byte| byte == b'#' || is_white(byte)) {
+        end = white_byte(model, input, end)?;
+        firsts.push(first);
+    }
+    gap.note(model, &firsts, (&input[..at], input.get(end)));
     Ok(end)
+}
+
+/// "a `#` met where a white byte between header parts may stand, after "P6" and before the depth, opens a comment ..
+/// It counts as one white byte." (document 02) The place after the white byte or the comment.
+fn white_byte(model: &mut Model, input: &[u8], at: usize) -> Result<usize, usize> {
+    match input.get(at) {
+        Some(b'#') => comment(model, input, at),
+        _ => one_byte(input, at, is_white),
+    }
+}
+
+/// "a comment up to and including the next LF or CR": the place after it. "BAD HEADER at the input's length when a
+/// comment never ends." (document 02)
+fn comment(model: &mut Model, input: &[u8], at: usize) -> Result<usize, usize> {
+    let mut end = at + 1;
+    let ends = |model: &Model, byte: u8| byte == b'\n' || byte == b'\r' && !model.slips(Slip::EndsACommentAtLfAlone);
+    while let Some(&byte) = input.get(end) {
+        end += 1;
+        if ends(model, byte) {
+            note_comment(model, &input[at + 1..end - 1], &input[end - 1..]);
+            return Ok(end + usize::from(model.slips(Slip::SkipsTheByteAfterAComment)));
+        }
+    }
+    model.meet("a comment that never ends");
+    Err(if model.slips(Slip::TellsAnUnendedCommentAtItsHash) { at } else { end })
+}
+
+/// Notes what a comment holds and how it ends.
+fn note_comment(model: &mut Model, inside: &[u8], from_its_end: &[u8]) {
+    model.meet(match from_its_end {
+        [b'\r', b'\n', ..] => "a comment that ends with CR LF",
+        [b'\r', ..] => "a comment that ends with CR",
+        _ => "a comment that ends with LF",
+    });
+    model.meet_if(inside.is_empty(), "an empty comment");
+    model.meet_if(inside.len() >= 60_000, "a comment of 60,000 bytes and more");
+    model.meet_if(inside.contains(&b'#'), "# in a comment");
+    model.meet_if(inside.contains(&0), "NUL in a comment");
+    model.meet_if(inside.contains(&255), "byte 255 in a comment");
+    model.meet_if(inside.iter().any(u8::is_ascii_digit), "a digit in a comment");
+}
+
+/// A gap between two parts of a header: what a comment right after the one is called, and one right before the other.
+struct Gap {
+    after: &'static str,
+    before: &'static str,
+}
+
+const GAPS: [Gap; 3] = [
+    Gap { after: "a comment right after P6", before: "a comment right before the width" },
+    Gap { after: "a comment right after the width", before: "a comment right before the height" },
+    Gap { after: "a comment right after the height", before: "a comment right before the depth" },
+];
+
+impl Gap {
+    /// Notes what stands in this gap by the first bytes of its white bytes and comments, and by the bytes around it.
+    fn note(&self, model: &mut Model, firsts: &[u8], (before, next): (&[u8], Option<&u8>)) {
+        let digits = before.iter().rev().take_while(|byte| byte.is_ascii_digit()).count();
+        let (begins, ends) = (firsts.first() == Some(&b'#'), firsts.last() == Some(&b'#'));
+        model.meet_if(begins, self.after);
+        model.meet_if(begins && digits == 5, "a comment right after five digits");
+        model.meet_if(ends && next.is_some(), self.before);
+        model.meet_if(ends && next.is_none(), "a header that ends after a comment");
+        model.meet_if(firsts.windows(2).any(|two| two == b"##"), "two comments in a row");
+        model.meet_if(firsts.len() > 8, "wide white space");
+    }
 }
 
 /// "Numbers have 1 to 5 decimal digits, leading zeros allowed." "Each number's reading yields the number and where it
@@ -128,6 +209,7 @@ impl Model {
             }
         };
         self.meet_if(refusal == 0, "a picture read");
+        self.meet_if(refusal == 0 && ask.input[answer[3]] == b'#', "# as the first byte of a raster");
         let answer = answer.map(|one| one as u64).to_vec();
         Outcome { refusal, fields: vec![("offset, width, height, raster", Values::Longs(answer))] }
     }

@@ -20,10 +20,16 @@ pub enum Slip {
     LeavesWeightsOutOfTheSums,
     KeepsTheSumsOfTheRecordBefore,
     ReadsShadeZeroWithoutHalvesUp,
+    EndsACommentAtLfAlone,
+    TakesACommentAfterTheDepth,
+    TellsAnUnendedCommentAtItsHash,
+    TakesAHashBeforeTheLetters,
+    AsksForAWhiteByteBeforeAComment,
+    SkipsTheByteAfterAComment,
 }
 
 /// Every slip.
-pub const SLIPS: [Slip; 17] = [
+pub const SLIPS: [Slip; 23] = [
     Slip::SkipsAShadeAtExactlyFourD,
     Slip::RoundsMeansDown,
     Slip::RecordsTheTotalAfterTheMove,
@@ -41,6 +47,12 @@ pub const SLIPS: [Slip; 17] = [
     Slip::LeavesWeightsOutOfTheSums,
     Slip::KeepsTheSumsOfTheRecordBefore,
     Slip::ReadsShadeZeroWithoutHalvesUp,
+    Slip::EndsACommentAtLfAlone,
+    Slip::TakesACommentAfterTheDepth,
+    Slip::TellsAnUnendedCommentAtItsHash,
+    Slip::TakesAHashBeforeTheLetters,
+    Slip::AsksForAWhiteByteBeforeAComment,
+    Slip::SkipsTheByteAfterAComment,
 ];
 
 /// Slips of the listing program, which the calls of the library do not show.

@@ -1,5 +1,6 @@
-//! Netpbm's programs as peers: pictures that they write are read, their count of each colour is that of the table,
-//! and their mapping to a palette has the same squared error (of two entries as near they may take the other).
+//! Netpbm's programs as peers: pictures that they write are read, and with comments in them by both; their count of
+//! each colour is that of the table, and their mapping to a palette has the same squared error (of two entries as near
+//! they may take the other).
 use std::fs;
 use std::path::{Path, PathBuf};
 use std::process::{self, Command};
@@ -12,15 +13,16 @@ use crate::bench::Bench;
 use crate::chance::Chance;
 use crate::library;
 use crate::make::colours::{levels, strip};
+use crate::make::header::{commented, Made};
 use crate::model::run::USUAL_LIMIT;
 use crate::model::Model;
-use crate::outcome::Difference;
+use crate::outcome::{same_values, Difference, Values};
 
 pub const SUBJECT: Subject = Subject {
     name: "netpbm",
     cases: 400,
     one_case,
-    meets: &["a picture read", "a mapping without error", "a mapping with an error"],
+    meets: &["a picture read", "a picture with comments", "a mapping without error", "a mapping with an error"],
     refuses: &[],
 };
 
@@ -80,6 +82,11 @@ fn one_case(bench: &mut Bench, chance: &mut Chance) -> Result<(), Difference> {
     fs::create_dir_all(&folder.0).map_err(|why| Difference::new("a temporary folder", why, "made"))?;
     let input = picture(&folder, chance)?;
     let raster = read(bench, &input)?;
+    let plain = Made { header: input.len() - raster.len(), input };
+    let (input, comments) = commented(chance, &plain);
+    let behind = Values::Bytes(read(bench, &input)?);
+    same_values("raster behind comments", &behind, &Values::Bytes(raster.clone()))?;
+    bench.model.meet_if(!comments.is_empty(), "a picture with comments");
     let path = file(&folder, "picture.ppm", &input)?;
     let table = counted(bench, &raster)?;
     let counts = output("ppmhist", &["-noheader", &path])?;

@@ -62,9 +62,10 @@ refused by 5; an error of 0 on the sheet says then that every yarn has its
 shade.
 
   K              how many shades, 1 to 64
-  PICTURE.ppm    a P6 picture without comments, depth 255, at most 16,777,216
-                 pixels with at most 1,048,576 colours; `-` or no name means
-                 standard input
+  PICTURE.ppm    a P6 picture, depth 255, at most 16,777,216 pixels with at most
+                 1,048,576 colours; `-` or no name means standard input.
+                 Comments before the depth, from # to the end of the line, are
+                 passed over
 
 Options
   --in-use N       in place of K: the smallest count of shades, from N on, whose

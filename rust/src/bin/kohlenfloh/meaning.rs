@@ -1,5 +1,5 @@
 //! What a refusal means for the picture at hand, and what can be done about it.
-use kohlenfloh::Refusal;
+use kohlenfloh::{Picture, Refusal};
 
 use crate::digits::grouped;
 use crate::header::{self, told, Header};
@@ -60,17 +60,42 @@ impl Case<'_> {
         }
         match (self.input.get(offset), header) {
             (None, _) if offset == 0 => "the input is empty".into(),
-            (None, _) => format!("the input ends at offset {offset}, inside what should be the header of a P6 picture"),
-            (Some(b'#'), _) if offset > 0 => format!(
-                "the header has a comment at offset {offset}, and comments are not read. {}",
-                Way::DEPTH_255.advice("this leaves it out", self.options)
+            (None, _) => self.ends_early(offset),
+            (Some(b'#'), _) if offset < 2 => format!(
+                "a comment stands at offset {offset}, and none can stand before or inside the letters P6, with which \
+                 a picture begins"
             ),
+            (Some(b'#'), _) => self.comment_behind_depth(offset),
             (Some(b'0'..=b'9'), Some(header)) if offset > 2 => format!(
                 "the header tells {} and the depth {}; its numbers can have 5 digits at most",
                 header.sides(),
                 told(header.depth)
             ),
             _ => format!("the byte at offset {offset} cannot stand there in the header of a P6 picture"),
+        }
+    }
+
+    /// The input ends within its header, at this offset, at times inside a comment.
+    fn ends_early(&self, offset: usize) -> String {
+        match header::unended_comment(self.input) {
+            Some(place) => format!(
+                "the input ends at offset {offset}, inside the comment that begins at offset {place}; a comment goes \
+                 on to the end of its line"
+            ),
+            None => format!("the input ends at offset {offset}, inside what should be the header of a P6 picture"),
+        }
+    }
+
+    /// A comment right behind the depth. Netpbm's programs take it for the white byte there; they are told of where the
+    /// picture with a white byte in its place is one that is read.
+    fn comment_behind_depth(&self, offset: usize) -> String {
+        let (before, comment) = self.input.split_at(offset);
+        let read = |raster: &[u8]| Picture::read(&[before, b"\n", raster].concat()).is_ok();
+        let why =
+            format!("a comment stands at offset {offset}, behind the depth, and comments can stand before it only");
+        match header::after_comment(comment).filter(|raster| read(raster)) {
+            Some(_) => format!("{why}. {}", Way::DEPTH_255.advice("this leaves it out", self.options)),
+            None => why,
         }
     }
 
