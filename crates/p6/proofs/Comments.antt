@@ -3,7 +3,6 @@
 use Prim.Native.Nat.{ℕ, _-_}
 use mathlib.Core.Bool.{Bool, true, false, cond}
 use mathlib.Core.List.{List, [], _++_}
-use mathlib.Core.Logic.{_⊎_, inl, inr}
 use mathlib.Core.Path.{_≡_, refl, sym, ap, _∙_}
 use native.Mathlib.Decide.{ℕ-discrete}
 use native.Mathlib.Omega.{arith}
@@ -11,37 +10,23 @@ use lib.Dec.{eqb}
 use lib.ListN.{length, drop, length-append}
 use lib.Seq.{take-length, drop-append-seam}
 use borrow.Author.Tests.{eq-eqb, ne-eqb}
-use Rattle.number.proofs.Cases.{bool}
-use Rattle.refusal.specs.{numberOf, done, BAD-HEADER, BAD-SIZE, BAD-DEPTH, BAD-RASTER}
-use Rattle.p6_gap.specs.{isWhite, Unended, replaced}
-use Rattle.p6_header.specs.{headerOf, HeaderIn, Between}
+use Rattle.refusal.specs.{numberOf, done, BAD-HEADER}
+use Rattle.grammar.specs.{byteAt}
+use Rattle.p6_gap.specs.{isWhite, hash, Unended, replaced}
+use Rattle.p6_header.specs.{headerOf, plainHeader, HeaderIn, Between}
 use Rattle.p6_header.specs.declared.Header.the-variants.{Read}
-use Rattle.p6_header.proofs.Promises.{comments-as-white, start-counts-all, unended-fails}
+use Rattle.p6_header.proofs.Promises.{comments-as-white, start-counts-all, unended-fails, as-without-comments}
 use Rattle.p6.specs.Refusals.{badSize, badDepth, badRaster, startIn}
-use Rattle.p6.specs.Outcomes.{refusedPicture, readPicture, rasterOf, Alike}
+use Rattle.p6.specs.Outcomes.{readPicture, rasterOf, testedPicture, pictureBy, Alike}
 use Rattle.p6.specs.declared.Picture.{Picture}
 use Rattle.p6.proofs.Meaning.{accepted-header, raster-is-stretch, raster-nothing}
-use Rattle.p6.proofs.Ways.{
-  picture-bad-header,
-  picture-bad-size,
-  picture-bad-depth,
-  picture-bad-raster,
-  picture-made,
-}
+use Rattle.p6.proofs.Ways.{picture-bad-header, picture-by-header}
 
 -- ---- a header, and a raster behind it
 
--- the answer by the tests of size, depth and raster, the sides and the raster's first place
-abbrev answerOf : Bool → Bool → Bool → ℕ → ℕ → ℕ → Picture
-answerOf size depth raster w h start =
-    cond size (refusedPicture (numberOf BAD-SIZE) 0)
-    (cond depth (refusedPicture (numberOf BAD-DEPTH) 0)
-    (cond raster (refusedPicture (numberOf BAD-RASTER) 0)
-    (record { refusal = done; offset = 0; width = w; height = h; start = start })))
-
 -- the raster's first place tells nothing else
 place-alike : (size depth raster : Bool) (w h m n : ℕ)
-    → Alike (answerOf size depth raster w h m) (answerOf size depth raster w h n)
+    → Alike (testedPicture size depth raster w h m) (testedPicture size depth raster w h n)
 place-alike true depth raster w h m n = record { refusal = refl; offset = refl; width = refl; height = refl }
 place-alike false true raster w h m n = record { refusal = refl; offset = refl; width = refl; height = refl }
 place-alike false false true w h m n = record { refusal = refl; offset = refl; width = refl; height = refl }
@@ -54,19 +39,10 @@ module _ (u r : List ℕ) (w h d : ℕ) (e : headerOf (u ++ r) ≡ Read w h d (l
 
   -- what is answered
   picture-by : readPicture (u ++ r)
-      ≡ answerOf (badSize w h) (badDepth d) (badRaster w h (length r)) w h (length u)
-  picture-by = go (bool (badSize w h)) (bool (badDepth d)) (bool (badRaster w h (length r)))
-    where
-      go : (badSize w h ≡ true) ⊎ (badSize w h ≡ false) → (badDepth d ≡ true) ⊎ (badDepth d ≡ false)
-          → (badRaster w h (length r) ≡ true) ⊎ (badRaster w h (length r) ≡ false)
-          → readPicture (u ++ r)
-          ≡ answerOf (badSize w h) (badDepth d) (badRaster w h (length r)) w h (length u)
-      go (inl s) t b = picture-bad-size (u ++ r) w h d (length u) e s ∙ rw s refl
-      go (inr s) (inl t) b = picture-bad-depth (u ++ r) w h d (length u) e s t ∙ rw (s, t) refl
-      go (inr s) (inr t) (inl b) =
-          picture-bad-raster (u ++ r) w h d (length u) e s t (ap (badRaster w h) raster-bytes ∙ b) ∙ rw (s, t, b) refl
-      go (inr s) (inr t) (inr b) =
-          picture-made (u ++ r) w h d (length u) e s t (ap (badRaster w h) raster-bytes ∙ b) ∙ rw (s, t, b) refl
+      ≡ testedPicture (badSize w h) (badDepth d) (badRaster w h (length r)) w h (length u)
+  picture-by =
+      picture-by-header (u ++ r) ∙ ap (λ x. pictureBy x (length (u ++ r))) e
+      ∙ ap (λ n. testedPicture (badSize w h) (badDepth d) (badRaster w h n) w h (length u)) raster-bytes
 
   -- where it is accepted the raster begins behind the header
   pub raster-behind : readPicture (u ++ r) .refusal ≡ done → readPicture (u ++ r) .start ≡ length u
@@ -108,6 +84,13 @@ comments-alike one white header w h d is raster =
 pub accepted-behind : (header : List ℕ) (w h d : ℕ) → HeaderIn header w h d (length header) → (raster : List ℕ)
     → readPicture (header ++ raster) .refusal ≡ done → readPicture (header ++ raster) .start ≡ length header
 accepted-behind header w h d is raster = raster-behind header raster w h d (start-counts-all header w h d is raster)
+
+-- ---- no comment
+
+-- where none may open the answer is that by the header of document 01
+pub picture-plain : (s : List ℕ) → ((at : ℕ) → Between s at → ¬ (byteAt s at ≡ hash))
+    → readPicture s ≡ pictureBy (plainHeader s) (length s)
+picture-plain s none = picture-by-header s ∙ ap (λ x. pictureBy x (length s)) (as-without-comments s none)
 
 -- ---- a comment that never ends
 

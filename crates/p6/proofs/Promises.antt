@@ -8,14 +8,16 @@ use mathlib.Core.Path.{_≡_, sym, _∙_}
 use lib.ListN.{length, drop}
 use Rattle.refusal.specs.{Refusal, numberOf, done, Given, NoneHolds, BAD-HEADER}
 use Rattle.colour.specs.{mostPixels}
-use Rattle.p6_gap.specs.{isWhite, Unended, replaced}
-use Rattle.p6_header.specs.{headerOf, HeaderSays, offsetIn, HeaderIn, Between, FirstWrong}
+use Rattle.grammar.specs.{byteAt}
+use Rattle.p6_gap.specs.{isWhite, hash, Unended, replaced}
+use Rattle.p6_header.specs.{headerOf, plainHeader, HeaderSays, offsetIn, HeaderIn, Between, FirstWrong}
 use Rattle.p6.specs.Refusals.{mostSide, theDepth, badHeader, badSize, badDepth, badRaster, pictureRows}
-use Rattle.p6.specs.Outcomes.{refusedPicture, readPicture, rasterOf, Alike}
+use Rattle.p6.specs.Outcomes.{refusedPicture, readPicture, rasterOf, pictureBy, Alike}
 use Rattle.p6.specs.declared.Picture.{Picture}
 use Rattle.p6.proofs.Comments as comments
 use Rattle.p6.proofs.Meaning as meaning
 use Rattle.p6.proofs.Headers as headers
+use Rattle.p6.proofs.Ways as ways
 
 -- ---- the contracts leave one answer
 
@@ -28,6 +30,10 @@ pub raster-only : (s : List ℕ) {r r′ : List ℕ} → r ≡ rasterOf s → r�
 raster-only s a b = a ∙ sym b
 
 -- ---- refusals
+
+-- Of an input the answer depends on the header and the length alone: it is told from these, test by test.
+pub picture-by-header : (s : List ℕ) → readPicture s ≡ pictureBy (headerOf s) (length s)
+picture-by-header = ways.picture-by-header
 
 -- A refusal is given exactly when its row is the first of 12, 13, 14, 15 whose test holds.
 pub picture-refused-exactly : (s : List ℕ) (n : Refusal)
@@ -87,7 +93,13 @@ pub comments-alike : (one : ℕ) → isWhite one ≡ true → (header : List ℕ
     × (rasterOf (header ++ raster) ≡ rasterOf (replaced one header ++ raster))
 comments-alike = comments.comments-alike
 
--- That place counts all bytes of the header, those of comments too.
+-- Where no `#` stands between the parts before the depth, a picture is read as document 01 reads it, byte for byte: the
+-- answer is that by document 01's header.
+pub as-without-comments : (s : List ℕ) → ((at : ℕ) → Between s at → ¬ (byteAt s at ≡ hash))
+    → readPicture s ≡ pictureBy (plainHeader s) (length s)
+as-without-comments = comments.picture-plain
+
+-- The place of the raster counts all bytes of the header, those of comments too.
 pub accepted-behind : (header : List ℕ) (w h d : ℕ) → HeaderIn header w h d (length header) → (raster : List ℕ)
     → readPicture (header ++ raster) .refusal ≡ done → readPicture (header ++ raster) .start ≡ length header
 accepted-behind = comments.accepted-behind

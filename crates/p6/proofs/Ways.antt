@@ -2,8 +2,10 @@
 use Prim.Native.Nat.{ℕ, _-_}
 use mathlib.Core.Bool.{true, false}
 use mathlib.Core.List.{List, [], _∷_}
-use mathlib.Core.Path.{_≡_, ap, _∙_}
+use mathlib.Core.Logic.{_⊎_, inl, inr}
+use mathlib.Core.Path.{_≡_, refl, ap, _∙_}
 use lib.ListN.{length}
+use Rattle.number.proofs.Cases.{bool}
 use Rattle.refusal.specs.{
   Row,
   row,
@@ -19,7 +21,7 @@ use Rattle.refusal.specs.{
 use Rattle.p6_header.specs.{Header, headerOf, offsetIn}
 use Rattle.p6_header.specs.declared.Header.the-variants.{Read, Bad}
 use Rattle.p6.specs.Refusals.{badSize, badDepth, badRaster, widthIn, heightIn, startIn, pictureRows}
-use Rattle.p6.specs.Outcomes.{refusedPicture, readPicture}
+use Rattle.p6.specs.Outcomes.{refusedPicture, readPicture, pictureBy}
 use Rattle.p6.proofs.Meaning.{picture-refuses}
 
 -- the rows after BAD HEADER, of a header's numbers and the count of raster bytes
@@ -71,3 +73,24 @@ module _ (s : List ℕ) where
           height = heightIn x;
           start = startIn x;
         }) e
+
+  -- so the answer is told from the header and the input's length
+  pub picture-by-header : readPicture s ≡ pictureBy (headerOf s) (length s)
+  picture-by-header = by (headerOf s) refl
+    where
+      tested : (w h d n : ℕ) → headerOf s ≡ Read w h d n
+          → (badSize w h ≡ true) ⊎ (badSize w h ≡ false) → (badDepth d ≡ true) ⊎ (badDepth d ≡ false)
+          → (badRaster w h (length s - n) ≡ true) ⊎ (badRaster w h (length s - n) ≡ false)
+          → readPicture s ≡ pictureBy (Read w h d n) (length s)
+      tested w h d n e (inl size) depth raster = picture-bad-size w h d n e size ∙ rw size refl
+      tested w h d n e (inr size) (inl depth) raster =
+          picture-bad-depth w h d n e size depth ∙ rw (size, depth) refl
+      tested w h d n e (inr size) (inr depth) (inl raster) =
+          picture-bad-raster w h d n e size depth raster ∙ rw (size, depth, raster) refl
+      tested w h d n e (inr size) (inr depth) (inr raster) =
+          picture-made w h d n e size depth raster ∙ rw (size, depth, raster) refl
+
+      by : (x : Header) → headerOf s ≡ x → readPicture s ≡ pictureBy x (length s)
+      by (Bad at) e = picture-bad-header at e
+      by (Read w h d n) e =
+          tested w h d n e (bool (badSize w h)) (bool (badDepth d)) (bool (badRaster w h (length s - n)))

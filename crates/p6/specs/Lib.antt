@@ -12,6 +12,7 @@
 --   refusedPicture, madePicture   the answer where something is refused, and where nothing is
 --   readPicture input      the answer on every input
 --   rasterOf input         the raster, nothing for a refused picture
+--   testedPicture, pictureBy   the answer by a header and the input's length
 --   Alike                  two answers differ in the raster's first place at most
 pub mod Refusals
 pub mod Outcomes
@@ -31,5 +32,5 @@ unfoldable pub use Refusals.{
   badRaster,
   pictureRows,
 }
-unfoldable pub use Outcomes.{refusedPicture, madePicture, readPicture, rasterOf}
+unfoldable pub use Outcomes.{refusedPicture, madePicture, readPicture, rasterOf, testedPicture, pictureBy}
 pub use Outcomes.{Alike}
