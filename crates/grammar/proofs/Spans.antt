@@ -1,6 +1,6 @@
 -- Laws of spans: how many bytes of one kind stand from a place on, at most so many or with no bound; and that a byte of
 -- a kind that 0 is not of stands inside the input.
-use Prim.Native.Nat.{ℕ, _+_, _≤_, _<_}
+use Prim.Native.Nat.{ℕ, suc, _+_, _≤_, _<_}
 use mathlib.Core.Bool.{Bool, true, false, not}
 use mathlib.Core.List.{List}
 use mathlib.Core.Logic.{⊎-elim}
@@ -43,6 +43,12 @@ span-only kind most s at n h all ends =
 -- the first of some bytes of a kind
 pub all-first : (kind : ℕ → Bool) (s : List ℕ) (at n : ℕ) → AllOf kind s at n → 0 < n → kind (byteAt s at) ≡ true
 all-first kind s at n all h = let z : at + 0 ≡ at = omega arith in rw z at (all 0 h)
+
+-- and the others
+pub all-rest : (kind : ℕ → Bool) (s : List ℕ) (at n : ℕ) → AllOf kind s at (suc n) → AllOf kind s (at + 1) n
+all-rest kind s at n all i h =
+    let z : at + suc i ≡ at + 1 + i = omega arith in
+    rw z at (all (suc i) (omega arith))
 
 -- one byte more of a kind
 pub all-step : (kind : ℕ → Bool) (s : List ℕ) (at n : ℕ) → AllOf kind s at n → kind (byteAt s (at + n)) ≡ true

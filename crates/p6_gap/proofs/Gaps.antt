@@ -8,6 +8,7 @@ use native.Mathlib.Decide.{ℕ-discrete}
 use native.Mathlib.Omega.{arith}
 use lib.ListN.{length}
 use Rattle.grammar.specs.{byteAt, isDigit, AllOf}
+use Rattle.grammar.proofs.Spans.{all-first, all-rest}
 use Rattle.p6_gap.specs.Bytes.{isWhite, hash}
 use Rattle.p6_gap.specs.Gaps.{whiteEnd, gapFrom, gapEnd}
 use Rattle.p6_gap.specs.Standing.{
@@ -104,12 +105,9 @@ module _ (s : List ℕ) where
   pub row-whites : (n a : ℕ) → AllOf isWhite s a n → Whites s a (a + n)
   row-whites zero a all = none a (a + 0) (omega arith)
   row-whites (suc n) a all =
-      let here : a + 0 ≡ a = omega arith in
       let end : a + 1 + n ≡ a + suc n = omega arith in
-      more a (a + 1) (a + suc n) (byte (rw here at (all 0 (omega arith))) refl)
-      (subst (Whites s (a + 1)) end (row-whites n (a + 1) (λ i l.
-      let z : a + suc i ≡ a + 1 + i = omega arith in
-      rw z at (all (suc i) (omega arith)))))
+      more a (a + 1) (a + suc n) (byte (all-first isWhite s a (suc n) all (omega arith)) refl)
+      (subst (Whites s (a + 1)) end (row-whites n (a + 1) (all-rest isWhite s a n all)))
 
   -- ---- what is read stands
 

@@ -14,7 +14,7 @@ use borrow.Author.Tests.{eq-eqb, ne-eqb}
 use Rattle.number.proofs.Cases.{never}
 use Rattle.number.proofs.Searches.{below-or-last}
 use Rattle.grammar.specs.{byteAt, isDigit, AllOf, Digits}
-use Rattle.grammar.proofs.Spans.{digit-inside}
+use Rattle.grammar.proofs.Spans.{all-first, all-rest, digit-inside}
 use Rattle.p6_gap.specs.Bytes.{isWhite, hash, endsComment, isText}
 use Rattle.p6_gap.specs.Replacing.{replacedFrom}
 use Rattle.p6_gap.specs.Standing.{White, byte, comment, Whites, none, more, Gap}
@@ -65,14 +65,12 @@ replaced-text one s zero a all ends =
     let e = rw here at ends in
     rw (z, drop-cons s a 0 (end-inside s a e), e)
 replaced-text one s (suc n) a all ends =
-    let here : a + 0 ≡ a = omega arith in
-    let next : a + suc n ≡ suc a + n = omega arith in
-    let text : endsComment (byteAt s a) ≡ false = text-not-end _ (rw here at (all 0 (omega arith))) in
+    let next : a + suc n ≡ a + 1 + n = omega arith in
+    let text : endsComment (byteAt s a) ≡ false = text-not-end _ (all-first isText s a (suc n) all (omega arith)) in
     let inside : a < length s = omega (arith, end-inside s (a + suc n) ends) in
     rw (drop-cons s a 0 inside, text, next)
-    (replaced-text one s n (suc a) (λ i l.
-    let z : a + suc i ≡ suc a + i = omega arith in
-    rw z at (all (suc i) (omega arith))) (rw next at ends))
+    (ap (λ i. replacedFrom true one (drop i s)) (sym (add-one a))
+    ∙ replaced-text one s n (a + 1) (all-rest isText s a n all) (rw next at ends))
 
 -- ---- from a place on
 

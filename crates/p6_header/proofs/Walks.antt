@@ -13,7 +13,7 @@ use lib.ListN.{length}
 use borrow.Author.Tests.{eq-eqb, ne-eqb, lt-ltb, le-ltb}
 use Rattle.number.proofs.Cases.{bool, never}
 use Rattle.grammar.specs.{byteAt, isDigit, mostDigits, AllOf, Digits, Reading}
-use Rattle.grammar.proofs.Spans.{all-first, kind-inside, digit-inside}
+use Rattle.grammar.proofs.Spans.{all-first, all-rest, kind-inside, digit-inside}
 use Rattle.grammar.proofs.Places.{wrongFront, front-nothing, front-taken, front-ends, front-same, front-wrong}
 use Rattle.p6_gap.specs.{isWhite, hash, endsComment, isText, White, Whites, Gap, Unended}
 use Rattle.p6_gap.specs.Standing.{byte, comment as remark, none as no-more, more}
@@ -71,14 +71,11 @@ module _ (s : List ℕ) where
       let e = rw z at ends in
       rw z (front-taken after comment rest [] s a (end-inside s a e) (rw e refl))
   comment-walk rest (suc n) a all ends =
-      let here : a + 0 ≡ a = omega arith in
       let next : a + suc n ≡ a + 1 + n = omega arith in
-      let text : endsComment (byteAt s a) ≡ false = text-not-end _ (rw here at (all 0 (omega arith))) in
+      let text : endsComment (byteAt s a) ≡ false = text-not-end _ (all-first isText s a (suc n) all (omega arith)) in
       let inside : a < length s = omega (arith, end-inside s (a + suc n) ends) in
       front-taken after comment rest (comment ∷ []) s a inside (rw text refl)
-      ∙ comment-walk rest n (a + 1) (λ i l.
-      let z : a + suc i ≡ a + 1 + i = omega arith in
-      rw z at (all (suc i) (omega arith))) (rw next at ends)
+      ∙ comment-walk rest n (a + 1) (all-rest isText s a n all) (rw next at ends)
       ∙ ap (λ i. says rest s (i + 1)) (sym next)
 
   -- and in one that never ends up to the input's length
