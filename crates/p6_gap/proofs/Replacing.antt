@@ -2,14 +2,13 @@
 -- comments replaced, from a place of the other input on.
 use Prim.Native.Nat.{ℕ, zero, suc, _+_, _<_}
 use mathlib.Core.Bool.{true, false}
-use mathlib.Core.List.{List, [], _∷_, _++_}
+use mathlib.Core.List.{List, _∷_, _++_}
 use mathlib.Core.Logic.{⊎-elim}
 use mathlib.Core.Path.{_≡_, refl, sym, ap, _∙_, subst}
-use native.Mathlib.Decide.{decLt}
 use native.Mathlib.Numerals.{add-one}
 use native.Mathlib.Omega.{arith}
-use lib.ListN.{length, getD, drop, drop-of-length-le}
-use lib.Seq.{drop-cons}
+use lib.ListN.{length, getD, drop}
+use lib.Seq.{drop-cons, getD-drop, drop-drop}
 use borrow.Author.Tests.{eq-eqb, ne-eqb}
 use Rattle.number.proofs.Cases.{never}
 use Rattle.number.proofs.Searches.{below-or-last}
@@ -31,15 +30,10 @@ use Rattle.p6_gap.proofs.Bytes.{
 
 -- where a byte and others stand from a place on, the byte is that of the place
 drop-first : (t : List ℕ) (b c : ℕ) (l : List ℕ) → c ∷ l ≡ drop b t → (byteAt t b ≡ c) × (l ≡ drop (b + 1) t)
-drop-first t b c l e = go (decLt b (length t))
-  where
-    go : Dec (b < length t) → (byteAt t b ≡ c) × (l ≡ drop (b + 1) t)
-    go (yes h) =
-        let f : c ∷ l ≡ byteAt t b ∷ drop (suc b) t = e ∙ drop-cons t b 0 h in
-        (sym (ap (λ x. getD x 0 0) f), ap (drop 1) f ∙ rw (add-one b) refl)
-    go (no h) =
-        let z : drop b t ≡ [] = drop-of-length-le t {i = b} (omega arith) in
-        absurd (let n = ap length (e ∙ z) in omega arith)
+drop-first t b c l e =
+    let z : b + 0 ≡ b = omega arith in
+    let first : c ≡ byteAt t (b + 0) = ap (λ x. getD x 0 0) e ∙ getD-drop b t 0 0 in
+    (sym (rw z at first), ap (drop 1) e ∙ drop-drop 1 b t)
 
 -- ---- one byte, one comment
 

@@ -1,10 +1,11 @@
 -- A header with each comment replaced by one white byte has the same numbers.
 use Prim.Native.Nat.{ℕ, _+_, _≤_}
 use mathlib.Core.Bool.{true, false}
-use mathlib.Core.List.{List, [], _++_}
+use mathlib.Core.List.{List, _++_}
 use mathlib.Core.Path.{_≡_, refl, sym, ap, _∙_, subst}
 use native.Mathlib.Omega.{arith}
-use lib.ListN.{length, take, drop, length-append, length-drop, drop-of-length-le}
+use lib.ListN.{length, take, drop, length-append, length-drop}
+use lib.Seq.{drop-length}
 use Rattle.grammar.specs.{isDigit}
 use Rattle.grammar.proofs.Decimals.{decimal-same}
 use Rattle.p6_gap.specs.{isWhite, replacedFrom, replaced}
@@ -42,8 +43,7 @@ module _ (one : ℕ) (white : isWhite one ≡ true) (s t behind : List ℕ) wher
   onward-end : (b : ℕ) → b ≤ length t → On 0 0 → On (length s) b → length (replaced one s) ≡ b
   unfolding replacedFrom
   onward-end b l all o =
-      let z : drop (length s) s ≡ [] = drop-of-length-le s {i = length s} (omega arith) in
-      let rest : behind ≡ drop b t = sym (ap (λ x. replacedFrom false one x ++ behind) z) ∙ o in
+      let rest : behind ≡ drop b t = sym (ap (λ x. replacedFrom false one x ++ behind) (drop-length s)) ∙ o in
       omega (
         arith,
         sym (length-append (replaced one s) behind) ∙ ap length all,
