@@ -4,5 +4,5 @@ pub mod Bounds
 pub mod Summing
 -- The sums where one entry goes to another group.
 pub mod Moving
--- Sums that stand two in one number, taken apart: the pixel count and the coordinate sums of colours.
+-- Sums that stand two in one number, taken apart: the pixel count and the sums of levels of a group.
 pub mod Parts

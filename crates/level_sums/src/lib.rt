@@ -4,7 +4,7 @@
 // Calls; none refuses, and what one requires stands above it
 //   red_green     weight times red and green level, in one    pair.rt
 //   blue_pixels   weight times blue level, and the weight
-//   high, low     the upper and the lower sum, in sixteenths
+//   high, low     the upper and the lower sum
 //
 // Read next: specs/Lib.antt (what the words mean), proofs/Lib.antt (what is shown).
 

@@ -35,16 +35,16 @@ pub fn blue_pixels(weight: u32, key: u32) -> u64
     pair(weight * colour::blue_of(key), weight)
 }
 
-// The upper sum, in sixteenths.
+// The upper sum.
 pub fn high(x: u64) -> u64
-    ensures { λ r. ⌜ r ≡ 16 * (x / 4294967296) ⌝ }
+    ensures { λ r. ⌜ r ≡ x / 4294967296 ⌝ }
 {
-    16 * (x / 4294967296)
+    x / 4294967296
 }
 
-// The lower sum, in sixteenths.
+// The lower sum.
 pub fn low(x: u64) -> u64
-    ensures { λ r. ⌜ r ≡ 16 * (x % 4294967296) ⌝ }
+    ensures { λ r. ⌜ r ≡ x % 4294967296 ⌝ }
 {
-    16 * (x % 4294967296)
+    x % 4294967296
 }

@@ -150,11 +150,11 @@ module _ {rec : Record} {ks ws : List ℕ} {k limit : ℕ} {ms ts : List ℕ} {r
   calls-leave = calls-are-rounds (r .rounds) ∙ ap (frontOf k) (sym left-is)
 
   -- that is fit for a round
-  left-fit : Fit C k (left r members)
+  pub left-fit : Fit (coloursOf (rec .used) ks ws) k (left r members)
   left-fit = rw left-is (fit-at (r .rounds))
 
   -- with a shade's number in each member
-  left-joined : Joined C k (left r members)
+  pub left-joined : Joined (coloursOf (rec .used) ks ws) k (left r members)
   left-joined = member-below (making h)
 
   -- ---- a settled run

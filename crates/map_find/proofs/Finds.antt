@@ -10,10 +10,9 @@ use Rattle.number.proofs.Fills.{fill-same}
 use Rattle.number.proofs.Parts.{stretch-filled}
 use Rattle.colour.specs.{Within, mostCoordinate}
 use Rattle.colour.proofs.Promises.{levels-most}
-use Rattle.shades.specs.{packedNearest}
+use Rattle.shades.specs.{levelsAt, packedNearest}
 use Rattle.search_all.specs.{pointAt, PointsOnGrid, RoomFor}
 use Rattle.search_all.proofs.Layouts.{LaidOut, laid-out-ready}
-use Rattle.map_slots.specs.{levelsAt}
 
 -- the levels read from a key are those of a point on the grid
 levels-on-grid : (keys : List ℕ) (q : ℕ) → Within mostCoordinate (levelsAt keys q)

@@ -4,9 +4,8 @@ ghost use mathlib.Core.Path.{_≡_};
 ghost use Prim.Native.Nat.{_<_, _≤_};
 ghost use lib.ListN.{length};
 ghost use Rattle.number.specs.{fill};
-ghost use Rattle.shades.specs.{Shades, packedNearest};
+ghost use Rattle.shades.specs.{Shades, levelsAt, packedNearest};
 ghost use Rattle.search_all.specs.{RoomFor};
-ghost use Rattle.map_slots.specs.{levelsAt};
 
 // Lays out the colours of the first `slots` keys: their levels go to the fronts of three lists, the
 // rest of which stays. Requires that many keys, and room for their colours.

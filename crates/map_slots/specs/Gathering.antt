@@ -4,8 +4,8 @@ use Prim.Native.Nat.{ℕ, _≤_, _<_}
 use mathlib.Core.List.{List}
 use mathlib.Core.Path.{_≡_}
 use lib.ListN.{getD}
-use Rattle.colour.specs.{Point, keyOf, redOf, greenOf, blueOf}
-use Rattle.shades.specs.{shadeAt}
+use Rattle.colour.specs.{Point, keyOf}
+use Rattle.shades.specs.{shadeAt, levelsAt}
 
 -- the most pixels of a block, and so the most slots
 abbrev pub mostSlots : ℕ
@@ -27,11 +27,7 @@ slotKey keys q = getD keys q 0
 abbrev pub slotOf : List ℕ → ℕ → ℕ
 slotOf which i = getD which i 0
 
--- the colour with the key at slot q, in whole levels
-abbrev pub levelsAt : List ℕ → ℕ → Point
-levelsAt keys q = record { r = redOf (getD keys q 0); g = greenOf (getD keys q 0); b = blueOf (getD keys q 0) }
-
--- the colour at the slot of pixel i
+-- the colour at the slot of pixel i, in whole levels
 abbrev pub levelsOf : List ℕ → List ℕ → ℕ → Point
 levelsOf keys which i = levelsAt keys (slotOf which i)
 

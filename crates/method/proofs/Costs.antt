@@ -122,17 +122,21 @@ to-mean-least q G y z = go (pixelsIn G) refl
     go zero e = omega (arith, empty-costs-nothing G e (toMean q G y))
     go (suc w) e = rw (to-mean-moves q G y (omega arith)) (mean-costs-least G (omega arith) z)
 
+-- where neither the shade nor a colour is above m, it does not go above m
+pub to-mean-within : (m q : ℕ) (G : Colours) (z : Point) → ((i : ℕ) → Within m (G .c i)) → Within m z
+    → Within m (toMean q G z)
+to-mean-within m q G z h w = go (pixelsIn G) refl
+  where
+    go : (n : ℕ) → pixelsIn G ≡ n → Within m (toMean q G z)
+    go zero e = rw (to-mean-stays q G z e) w
+    go (suc n) e = rw (to-mean-moves q G z (omega arith)) (mean-within G m h (omega arith))
+
 -- so it costs the group no more than staying; and it keeps to the grid
 pub to-mean-good : GoodRule toMean
 to-mean-good = record {
   no-dearer = λ q G z. to-mean-least q G z z;
-  keeps = λ q G z h w. go q G z h w (pixelsIn G) refl;
+  keeps = to-mean-within mostCoordinate;
 }
-  where
-    go : (q : ℕ) (G : Colours) (z : Point) → ((i : ℕ) → Within mostCoordinate (G .c i)) → Within mostCoordinate z
-        → (n : ℕ) → pixelsIn G ≡ n → Within mostCoordinate (toMean q G z)
-    go q G z h w zero e = rw (to-mean-stays q G z e) w
-    go q G z h w (suc n) e = rw (to-mean-moves q G z (omega arith)) (mean-within G mostCoordinate h (omega arith))
 
 -- it goes to the mean from shade 0 on
 pub to-mean-means : Means 0 toMean

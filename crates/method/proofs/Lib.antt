@@ -12,6 +12,8 @@ pub mod Falls
 pub mod Bounds
 -- What a round leaves, by a rule that goes to the mean from some shade on; and a round that moves no shade.
 pub mod Ends
+-- One coordinate at a time: the mean, Lloyd's rule, sums in sixteenths and in whole levels.
+pub mod Axes
 -- How many rounds a run makes.
 pub mod Runs
 -- What a table's colours are at most.

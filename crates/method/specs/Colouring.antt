@@ -8,7 +8,7 @@ use lib.Dec.{eqb}
 use Rattle.number.specs.{sum, Group, S, Q, roundedMean}
 use Rattle.colour.specs.{Point, Within, distance, mostCoordinate, mostPixels}
 use Rattle.table_entries.specs.{mostEntries}
-use Rattle.shades.specs.{colourAt}
+use Rattle.shades.specs.{colourAt, levelsAt}
 
 -- places below n, each with a weight in pixels and the point at which its colour stands
 pub record Colours : Type 0 where
@@ -19,6 +19,10 @@ pub record Colours : Type 0 where
 -- the table in two slices: the first n keys with the first n weights
 abbrev pub coloursOf : ℕ → List ℕ → List ℕ → Colours
 coloursOf n ks ws = record { n = n; w = λ i. getD ws i 0; c = colourAt ks }
+
+-- the same table in whole levels
+abbrev pub levelColours : ℕ → List ℕ → List ℕ → Colours
+levelColours n ks ws = record { n = n; w = λ i. getD ws i 0; c = levelsAt ks }
 
 -- one coordinate of the colours, f being that of a point
 abbrev pub on : (Point → ℕ) → Colours → Group

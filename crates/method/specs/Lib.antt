@@ -1,6 +1,7 @@
 -- Glossary.
 --   Colours              a number n of places, each with a weight and a point
 --   coloursOf n ks ws    the table in two slices, by place
+--   levelColours n ks ws the same in whole levels
 --   pixelsIn C           W, the sum of the weights
 --   sumsOf C             S1, S2, S3, the weighted sums of the coordinates
 --   squaresOf C          Q, the weighted sum of the squared coordinates
@@ -55,6 +56,7 @@ pub mod Fractions
 pub use Colouring.{Colours, Fair}
 unfoldable pub use Colouring.{
   coloursOf,
+  levelColours,
   on,
   pixelsIn,
   sumsOf,

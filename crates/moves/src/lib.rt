@@ -3,11 +3,9 @@
 // Calls; none refuses, and what one requires stands above it
 //   move_shades    moves each shade to the rounded mean of its group   step.rt
 //   count_movers   how many of them that moves
-// A group's sums are taken apart in read.rt.
 //
 // Read next: specs/Lib.antt (what the words mean), proofs/Lib.antt (what is shown).
 
-mod read;
 mod step;
 
 pub use step::count_movers;

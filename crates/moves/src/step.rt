@@ -5,8 +5,10 @@ ghost use Prim.Native.Nat.{_+_, _*_, _<_, _≤_};
 ghost use lib.ListN.{length};
 ghost use Rattle.number.specs.{fill, howMany};
 ghost use Rattle.shades.specs.{mostShades, mostCoordinates};
-ghost use Rattle.moves.specs.Reading.{goes, stays, Measured};
-use super::read::sum_in;
+ghost use Rattle.group_sums.specs.{Measured};
+ghost use Rattle.moves.specs.Reading.{goes, stays};
+use group_sums::level_sum;
+use group_sums::pixels_of;
 
 // Where coordinate `i` goes. Requires sums of a table's groups, and that the coordinate is there.
 fn new_coordinate(sums: &[u64; 128], shades: &[u32], i: usize) -> u32
@@ -14,11 +16,11 @@ fn new_coordinate(sums: &[u64; 128], shades: &[u32], i: usize) -> u32
     ensures { λ r. ⌜ r ≡ goes (now (sums .entry)) (now (shades .entry)) i ⌝ }
 {
     let q = i / 3;
-    let pixels = sums[2 * q + 1] % 4294967296;
+    let pixels = pixels_of(sums, q);
     if pixels == 0 {
         return shades[i];
     }
-    colour::rounded_mean(pixels, sum_in(sums, i % 3, q))
+    colour::rounded_mean(pixels, 16 * level_sum(sums, i % 3, q))
 }
 
 // Moves the first `count` shades. Requires sums of a table's groups, and that the shades are there.

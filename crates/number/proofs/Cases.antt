@@ -1,7 +1,7 @@
 -- Case splits: on a Bool, and on how a number stands to another, with the values of the tests.
 use mathlib.Core.Path.{_≡_, refl, sym}
 use mathlib.Core.Bool.{Bool, true, false, not, _&&_, _||_}
-use mathlib.Core.Logic.{_⊎_, inl, inr}
+use mathlib.Core.Logic.{_↔_, _⊎_, inl, inr}
 use Prim.Native.Nat.{ℕ, _≤_, _<_}
 use native.Mathlib.Omega.{arith}
 use lib.Dec.{ltb, eqb}
@@ -25,6 +25,11 @@ both false b h = never (sym h)
 pub neither : (a b : Bool) → (a || b) ≡ false → (a ≡ false) × (b ≡ false)
 neither true b h = never h
 neither false b h = (refl, h)
+
+-- two tests joined by "or" hold exactly where one of them does
+pub either-exactly : (a b : Bool) → ((a || b) ≡ true) ↔ ((a ≡ true) ⊎ (b ≡ true))
+either-exactly true b = (λ h. inl refl, λ h. refl)
+either-exactly false b = (λ h. inr h, λ h. elim h [ inl e ↦ never (sym e) | inr e ↦ e ])
 
 -- a test whose negation fails holds
 pub not-not : (a : Bool) → not a ≡ false → a ≡ true

@@ -1,5 +1,5 @@
--- The rounded mean: off the true mean by at most a half, halves going up; as cheap as any whole shade; within a
--- quarter of W of the least cost; and no higher than the highest coordinate.
+-- The rounded mean: off the true mean by at most a half, halves going up, and the only such; as cheap as any whole
+-- shade; within a quarter of W of the least cost; and no higher than the highest coordinate.
 use mathlib.Core.Path.{_≡_, refl}
 use Prim.Native.Nat.{ℕ, _+_, _-_, _*_, _≤_, _<_}
 use native.Mathlib.Decide.{decLe}
@@ -13,7 +13,7 @@ use native.Mathlib.Nat.{
   mul-le-mul-right,
 }
 use native.Mathlib.Omega.{arith}
-use Rattle.number.specs.Groups.{Group, W, S, Q, cost, roundedMean}
+use Rattle.number.specs.Groups.{Group, W, S, Q, cost, roundedMean, Nearest}
 use Rattle.number.specs.Square.{gap, sq}
 use Rattle.number.proofs.Costs.{cauchy, cost-parts, nearer-no-dearer}
 use Rattle.number.proofs.Sums.{sum-le, sum-mul}
@@ -44,10 +44,33 @@ module _ (k t : ℕ) (pos : 0 < k) where
   mean-nearest : (z : ℕ) → gap t (roundedMean k t * k) ≤ gap t (z * k)
   mean-nearest z = half-off-nearest k t (roundedMean k t) z mean-near
 
+  -- and every one above it is farther
+  mean-above : (z : ℕ) → roundedMean k t < z → gap t (roundedMean k t * k) < gap t (z * k)
+  mean-above z h =
+      omega (
+        arith,
+        mul-le-mul-right {m = roundedMean k t + 1} {n = z} k (omega arith),
+        lt-div-mul-add {a = 2 * t + k} {b = 2 * k} (omega arith),
+      )
+
+  -- so it is the nearest, a half going up
+  pub mean-is-nearest : Nearest k t (roundedMean k t)
+  mean-is-nearest = record { no-nearer = mean-nearest; halves-up = mean-above }
+
   -- a mean of at most `top` rounds to at most `top`
   pub mean-below : (top : ℕ) → t ≤ top * k → roundedMean k t ≤ top
   mean-below top h =
       omega (arith, div-lt-iff-lt-mul {k = 2 * k} {x = 2 * t + k} {y = top + 1} (omega arith) .1 (omega arith))
+
+-- there is one nearest whole number only: of two, the lower would be farther from the one above it than that allows
+pub nearest-only : (w s : ℕ) {x y : ℕ} → Nearest w s x → Nearest w s y → x ≡ y
+nearest-only w s {x} {y} a b = elim (decLe x y) [
+  | no h ↦ absurd (omega (arith, b .halves-up x (omega arith), a .no-nearer y))
+  | yes h ↦ elim (decLe y x) [
+    | no h′ ↦ absurd (omega (arith, a .halves-up y (omega arith), b .no-nearer x))
+    | yes h′ ↦ omega arith
+  ]
+]
 
 -- a mean of m and a half rounds to m + 1
 pub mean-half-up : (k m : ℕ) → 0 < k → roundedMean (2 * k) (2 * k * m + k) ≡ m + 1

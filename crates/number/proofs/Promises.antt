@@ -4,7 +4,7 @@
 use mathlib.Core.Bool.{Bool}
 use mathlib.Core.Path.{_≡_}
 use Prim.Native.Nat.{ℕ, _+_, _-_, _*_, _≤_, _<_}
-use Rattle.number.specs.Groups.{Group, W, S, Q, cost, roundedMean, scale}
+use Rattle.number.specs.Groups.{Group, W, S, Q, cost, roundedMean, Nearest, scale}
 use Rattle.number.specs.Search.{Best, least, most, firstThat, First}
 use Rattle.number.specs.Square.{gap, sq}
 use Rattle.number.proofs.Searches as Searches
@@ -67,6 +67,14 @@ cauchy = Costs.cauchy
 -- The rounded mean is off the true mean by at most a half.
 pub rounded-mean-near : (G : Group) → 0 < W G → 2 * gap (S G) (roundedMean (W G) (S G) * W G) ≤ W G
 rounded-mean-near G = Means.mean-near (W G) (S G)
+
+-- It is the whole number nearest to the true mean, a half going up.
+pub rounded-mean-is-nearest : (w s : ℕ) → 0 < w → Nearest w s (roundedMean w s)
+rounded-mean-is-nearest = Means.mean-is-nearest
+
+-- There is one such number only.
+pub nearest-only : (w s : ℕ) {x y : ℕ} → Nearest w s x → Nearest w s y → x ≡ y
+nearest-only = Means.nearest-only
 
 -- A true mean of m and a half rounds to m + 1.
 pub rounded-mean-halves-up : (k m : ℕ) → 0 < k → roundedMean (2 * k) (2 * k * m + k) ≡ m + 1

@@ -19,6 +19,7 @@
 --   Group, W, S, Q    a weighted group on one coordinate, and its three sums
 --   cost              what a whole shade costs a group
 --   roundedMean       the whole part of (2S + W) / (2W)
+--   Nearest w s x     x is the whole number nearest to s / w, a half going up
 --   scale             a group drawn k times as large
 pub mod Sum
 pub mod Count
@@ -33,4 +34,4 @@ unfoldable pub use Search.{firstBest, least, most, lesserOf, greaterOf, peak, lo
 pub use Search.{Best, Order, First}
 unfoldable pub use Square.{gap, sq}
 unfoldable pub use Groups.{W, S, Q, cost, roundedMean, scale}
-pub use Groups.{Group}
+pub use Groups.{Group, Nearest}

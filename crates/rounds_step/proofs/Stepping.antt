@@ -9,11 +9,12 @@ use Rattle.number.specs.{fill, howMany}
 use Rattle.number.proofs.Fills.{fill-at}
 use Rattle.shades.specs.{mostShades}
 use Rattle.method.specs.{State, stateOf, coloursOf, toMean, joins}
-use Rattle.group_sums.specs.{Summed, memberAt}
+use Rattle.group_sums.specs.{Summed, Measured, memberAt}
 use Rattle.group_sums.proofs.Moving.{summed-same}
+use Rattle.group_sums.proofs.Parts.{measured}
 use Rattle.group_join.specs.{Grouped}
-use Rattle.moves.specs.{Measured, goes, stays}
-use Rattle.moves.proofs.Moving.{measured, moves-laid, movers-are}
+use Rattle.moves.specs.{goes, stays}
+use Rattle.moves.proofs.Moving.{moves-laid, movers-are}
 use Rattle.rounds_step.specs.Meeting.{Steppable, Walkable, StepMeets}
 
 module _ {used : ℕ} {ks ws s : List ℕ} {k : ℕ} {before after t : List ℕ} {total : ℕ}

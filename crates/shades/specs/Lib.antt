@@ -3,6 +3,7 @@
 --   mostCoordinates      192, three for each of 64 shades
 --   shadeAt s q          shade q of the coordinates s
 --   colourAt ks i        where the colour with the key at place i stands
+--   levelsAt ks i        that colour in whole levels
 --   axis e p             coordinate e of a point: red, green, blue
 --   coordinateOf f n     coordinate n of the shades f 0, f 1, ..
 --   laid k f d           the shades f 0 .. f (k - 1) in front of d, the rest kept
@@ -28,6 +29,7 @@ unfoldable pub use Places.{
   mostCoordinates,
   shadeAt,
   colourAt,
+  levelsAt,
   axis,
   coordinateOf,
   laid,

@@ -5,7 +5,7 @@ use mathlib.Core.List.{List}
 use lib.ListN.{getD, set, length}
 use lib.Dec.{eqb}
 use Rattle.number.specs.{fill}
-use Rattle.colour.specs.{Point, mostCoordinate, colourOf}
+use Rattle.colour.specs.{Point, mostCoordinate, redOf, greenOf, blueOf, colourOf}
 
 -- the most shades
 abbrev pub mostShades : ℕ
@@ -22,6 +22,10 @@ shadeAt s q = record { r = getD s (3 * q) 0; g = getD s (3 * q + 1) 0; b = getD 
 -- where the colour with the key at place i stands
 abbrev pub colourAt : List ℕ → ℕ → Point
 colourAt ks i = colourOf (getD ks i 0)
+
+-- the same colour in whole levels
+abbrev pub levelsAt : List ℕ → ℕ → Point
+levelsAt ks i = record { r = redOf (getD ks i 0); g = greenOf (getD ks i 0); b = blueOf (getD ks i 0) }
 
 -- coordinate e of a point: 0 is red, 1 green, 2 blue
 abbrev pub axis : ℕ → Point → ℕ

@@ -8,12 +8,12 @@ use Rattle.number.specs.{fill}
 use Rattle.number.proofs.Fills.{fill-at, fill-length, fill-same}
 use Rattle.colour.specs.{Point, Bytes, mostPixels}
 use Rattle.colour.proofs.Promises.{levels-of-key}
-use Rattle.shades.specs.{mostShades, shadeAt, nearestShade, packedNearest, Shades}
+use Rattle.shades.specs.{mostShades, shadeAt, levelsAt, nearestShade, packedNearest, Shades}
 use Rattle.shades.proofs.Nearest.{nearest-below, packed-number}
 use Rattle.search_all.specs.{RoomFor}
 use Rattle.map_errors.specs.{Errors, pixelAt, missesOf, Found, numberIn, foundNumber}
 use Rattle.map_block.specs.Blocks.{nearestTo}
-use Rattle.map_slots.specs.{pixelKey, slotKey, slotOf, levelsAt, levelsOf, Gathered}
+use Rattle.map_slots.specs.{pixelKey, slotKey, slotOf, levelsOf, Gathered}
 use Rattle.map_join.specs.{fewSlots}
 use Rattle.map_block.specs.Blocks.{FewTaken, nearestAt}
 use Rattle.map_errors.proofs.Misses.{misses-same}

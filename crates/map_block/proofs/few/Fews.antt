@@ -8,11 +8,11 @@ use Rattle.number.specs.{fill}
 use Rattle.number.proofs.Fills.{fill-length, fill-same}
 use Rattle.number.proofs.Sums.{sum-eq}
 use Rattle.colour.specs.{Point, mostPixels}
-use Rattle.shades.specs.{nearestShade, Shades}
+use Rattle.shades.specs.{levelsAt, nearestShade, Shades}
 use Rattle.shades.proofs.Nearest.{nearest-below}
 use Rattle.map_errors.specs.{Errors, missesOf, foundNumber}
 use Rattle.map_tell.specs.{cellOf, cellsOf, toldAt, toldOf, toldErrors, Tellable, Told}
-use Rattle.map_slots.specs.{slotKey, slotOf, levelsAt, levelsOf, Gathered}
+use Rattle.map_slots.specs.{slotKey, slotOf, levelsOf, Gathered}
 use Rattle.map_block.specs.Blocks.{nearestAt, FewTaken}
 use Rattle.map_block.proofs.block.Searches.{Searched, searched-inside}
 use Rattle.map_tell.proofs.Tells.{told-at}

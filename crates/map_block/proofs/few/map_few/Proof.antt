@@ -4,7 +4,8 @@ use native.Mathlib.Omega.{arith}
 use lib.ListN.{length}
 use denote.Ref.{now}
 use borrow.Author.Needs.{needs}
-use Rattle.map_slots.specs.{slotKey, levelsAt, Gathered}
+use Rattle.shades.specs.{levelsAt}
+use Rattle.map_slots.specs.{slotKey, Gathered}
 use Rattle.map_block.proofs.block.Searches.{Searched, room-for, searched-all}
 use Rattle.map_block.proofs.few.Fews.{
   NearestTold,

@@ -6,7 +6,7 @@ use denote.Ref.{now}
 use borrow.Author.Needs.{needs}
 use Rattle.search_all.specs.{RoomFor}
 use Rattle.search_all.proofs.Layouts.{Fronts, fronts-start, fronts-room, fronts-step, fronts-long}
-use Rattle.map_slots.specs.{levelsAt}
+use Rattle.shades.specs.{levelsAt}
 use Rattle.map_find.proofs.find.lay_out.Statement.{statement}
 use Rattle.map_find.proofs.find.lay_out.Tie as tie
 

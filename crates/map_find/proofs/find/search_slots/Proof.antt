@@ -4,7 +4,7 @@ use native.Mathlib.Omega.{arith}
 use denote.Ref.{now}
 use borrow.Author.Needs.{needs}
 use Rattle.search_all.proofs.Layouts.{LaidOut, fronts-done}
-use Rattle.map_slots.specs.{levelsAt}
+use Rattle.shades.specs.{levelsAt}
 use Rattle.map_find.proofs.Finds.{keys-ready, keys-searched}
 use Rattle.map_find.proofs.find.search_slots.Statement.{statement}
 use Rattle.map_find.proofs.find.search_slots.Tie as tie

@@ -1,22 +1,26 @@
 -- `new_coordinate` answers where the coordinate goes: it stays where the group is empty.
-use Prim.Native.Nat.{_/_, _%_}
+use Prim.Native.Nat.{_*_, _/_, _%_, _≤_, _<_}
+use mathlib.Core.Path.{sym, _∙_}
 use native.Mathlib.Omega.{arith}
 use borrow.Author.Tests.{eq-eqb, ne-eqb}
 use borrow.Author.Needs.{needs}
+use Rattle.colour.specs.{mostLevel, mostPixels}
+use Rattle.group_sums.proofs.Parts.{mean-asked}
 use Rattle.moves.proofs.step.new_coordinate.Statement.{statement}
 use Rattle.moves.proofs.step.new_coordinate.Tie as tie
 
-mul-pixels : tie.Need-mul-pixels
-mul-pixels c = search needs
+-- a group with a pixel: what its mean asks
+asked : (c : tie.After-level-sum)
+    → (let pixels = c .before .before .pixels-of .result in
+    (0 < pixels) × (pixels ≤ mostPixels) × (c .level-sum .result ≤ mostLevel * pixels))
+asked c =
+    let p = c .before .before in
+    let s = p .before .before in
+    mean-asked (s .pre .0) (s .args .i % 3) (s .args .i / 3) (omega arith) (p .pixels-of .ensures)
+    (c .level-sum .ensures) (c .before .if1 .left)
 
-add-pixels : tie.Need-add-pixels
-add-pixels c = search needs
-
-mul-pixels-2 : tie.Need-mul-pixels-2
-mul-pixels-2 c = search needs
-
-element-copy-out-pixels : tie.Need-element-copy-out-pixels
-element-copy-out-pixels c = search needs
+pixels-of-requires : tie.Need-pixels-of-requires
+pixels-of-requires c κs = search needs
 
 mul-result : tie.Need-mul-result
 mul-result c = search needs
@@ -25,34 +29,35 @@ shared-slice-read-result : tie.Need-shared-slice-read-result
 shared-slice-read-result c = search needs
 
 returns : tie.Need-returns
-returns c = rw (eq-eqb _ 0 (c .before .if1 .taken))
+returns c =
+    let t = c .before in
+    rw (eq-eqb _ 0 (sym (t .before .pixels-of .ensures) ∙ t .if1 .taken))
 
-sum-in-requires : tie.Need-sum-in-requires
-sum-in-requires c κs = search needs
+level-sum-requires : tie.Need-level-sum-requires
+level-sum-requires c κs = search needs
+
+mul-rounded-mean : tie.Need-mul-rounded-mean
+mul-rounded-mean c = let m = asked c in omega (arith, m .1, m .2)
 
 rounded-mean-requires : tie.Need-rounded-mean-requires
-rounded-mean-requires c κs =
-    let st = c .before .before .before .before in
-    let i = st .args .i in
-    let sums = st .pre .0 in
-    rw (c .sum-in .ensures)
-    (omega arith, sums .few (i / 3) (omega arith), sums .low (i % 3) (i / 3) (omega arith))
+rounded-mean-requires c κs = let m = asked c in (m .0, m .1, omega (arith, m .2))
 
 returns-2 : tie.Need-returns-2
 returns-2 c =
-    rw (ne-eqb _ 0 (c .before .before .if1 .left), ← c .before .sum-in .ensures) (c .rounded-mean .ensures .0)
+    let e = c .before .before in
+    let p = e .before .pixels-of in
+    rw (ne-eqb _ 0 (λ z. e .if1 .left (p .ensures ∙ z)), ← c .before .level-sum .ensures, ← p .ensures)
+    (c .rounded-mean .ensures .0)
 
 pub new-coordinate-spec : {M : Type 1} → statement M
 new-coordinate-spec =
     tie.close
     (tie.spec
-    mul-pixels
-    add-pixels
-    mul-pixels-2
-    element-copy-out-pixels
+    pixels-of-requires
     mul-result
     shared-slice-read-result
     returns
-    sum-in-requires
+    level-sum-requires
+    mul-rounded-mean
     rounded-mean-requires
     returns-2)

@@ -1,9 +1,9 @@
--- `sum_in` answers the sum of the coordinate asked for, which is one of three.
+-- `level_sum` answers the sum of the channel asked for, which is one of three.
 use mathlib.Core.Path.{_≡_}
 use native.Mathlib.Omega.{arith}
 use borrow.Author.Needs.{needs}
-use Rattle.moves.proofs.read.sum_in.Statement.{statement}
-use Rattle.moves.proofs.read.sum_in.Tie as tie
+use Rattle.group_sums.proofs.read.level_sum.Statement.{statement}
+use Rattle.group_sums.proofs.read.level_sum.Tie as tie
 
 mul-a : tie.Need-mul-a
 mul-a c = search needs
@@ -49,8 +49,8 @@ returns-3 c =
     let e : c .before .before .before .before .args .axis ≡ 2 = omega arith in
     rw e (c .high2 .ensures)
 
-pub sum-in-spec : {M : Type 1} → statement M
-sum-in-spec =
+pub level-sum-spec : {M : Type 1} → statement M
+level-sum-spec =
     tie.close
     (tie.spec
     mul-a
