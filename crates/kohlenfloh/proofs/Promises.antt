@@ -1,7 +1,7 @@
 -- What is shown of the boundary, each theorem in full; its body names the proof.
 -- A contract here is that of the call beneath (AddCrosses, RoundCrosses and so on, specs/Crossing.antt): the number is
 -- the refusal of its outcome, and slices and arrays are those of its outcome. Which outcome that is, and what is shown
--- of it, stands in the promises of table, lloyd, palette, mapping and p6.
+-- of it, stands in the promises of table, lloyd, palette, palette_groups, mapping and p6.
 use Prim.Native.Nat.{ℕ, _+_, _-_, _*_, _≤_, _<_}
 use mathlib.Core.List.{List, [], _∷_}
 use mathlib.Core.Bool.{true}
@@ -16,6 +16,9 @@ use Rattle.figures.specs.{zeroFigure}
 use Rattle.table.specs.{Record, handsBack, addStrip}
 use Rattle.method.specs.{Bounded, State, stateOf, coloursOf, groupAt, groupCost}
 use Rattle.lloyd.specs.{plainRound, shortRound, runOf}
+use Rattle.palette.specs.{PaletteMeets}
+use Rattle.palette_groups.specs.{paletteFromGroups}
+use Rattle.palette_groups.proofs.Promises as groups
 use Rattle.mapping.specs.{mapStrip}
 use Rattle.p6_header.specs.{headerOf, offsetIn}
 use Rattle.p6.specs.{readPicture}
@@ -68,7 +71,14 @@ run-only s ks ws k limit ms ts a b = (
   a .answer-is ∙ sym (b .answer-is),
 )
 
--- Of kf_map_strip. That of kf_palette_from_shades is `palette-only` of palette: its contract is the one beneath.
+-- Of kf_palette_from_groups. That of kf_palette_from_shades is `palette-only` of palette: its contract is the one
+-- beneath.
+pub groups-only : (s ks ws cs ms d : List ℕ) {r r′ : ℕ} {x x′ : List ℕ}
+    → PaletteMeets (paletteFromGroups (recordIn s) ks ws (stateOf cs ms) d) r x
+    → PaletteMeets (paletteFromGroups (recordIn s) ks ws (stateOf cs ms) d) r′ x′ → (r ≡ r′) × (x ≡ x′)
+groups-only s ks ws cs ms d = groups.groups-only (recordIn s) ks ws (stateOf cs ms) d
+
+-- Of kf_map_strip.
 pub map-only : (strip p d : List ℕ) (first : ℕ) {r r′ : ℕ} {x x′ s s′ : List ℕ} {m m′ : List Float}
     → MapCrosses (mapStrip strip p d first) r x s m → MapCrosses (mapStrip strip p d first) r′ x′ s′ m′
     → (r ≡ r′) × (x ≡ x′) × (s ≡ s′) × (m ≡ m′)
@@ -120,6 +130,11 @@ pub run-refused : (rec : Record) (ks ws : List ℕ) (k limit : ℕ) (ms ts : Lis
     {ms′ ts′ shades s : List ℕ} → RunCrosses (runOf rec ks ws k limit ms ts) (numberOf n) ms′ ts′ shades s
     → (ms′ ≡ ms) × (ts′ ≡ ts) × (shades ≡ replicate mostCoordinates 0) × (s ≡ 0 ∷ 0 ∷ 0 ∷ 0 ∷ [])
 run-refused = refusing.run-refused
+
+-- A refused palette of groups leaves every byte as it came.
+pub groups-refused : (rec : Record) (ks ws : List ℕ) (a : State) (d : List ℕ) (n : Refusal) {x : List ℕ}
+    → PaletteMeets (paletteFromGroups rec ks ws a d) (numberOf n) x → x ≡ d
+groups-refused rec ks ws a d n h = h .palette-is ∙ groups.groups-refused-kept rec ks ws a d n (sym (h .answer))
 
 -- A refused mapping leaves zeros in answer and means, and the index picture as it came.
 pub map-refused : (strip p d : List ℕ) (first : ℕ) (n : Refusal) {x s : List ℕ} {m : List Float}

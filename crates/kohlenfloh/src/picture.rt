@@ -1,7 +1,10 @@
 // Palettes, index pictures and P6 pictures across the boundary.
+ghost use Rattle.method.specs.{stateOf};
 ghost use Rattle.palette.specs.{PaletteMeets, paletteFromShades};
+ghost use Rattle.palette_groups.specs.{paletteFromGroups};
 ghost use Rattle.mapping.specs.{mapStrip};
 ghost use Rattle.p6.specs.{readPicture};
+ghost use Rattle.arrays.specs.{recordIn};
 ghost use Rattle.kohlenfloh.specs.Crossing.{MapCrosses, PictureCrosses};
 
 // The palette of some shades: palette::palette_from_shades.
@@ -13,6 +16,28 @@ pub extern "C" fn kf_palette_from_shades(coordinates: &[u32], palette: &mut [u8]
         r (now (palette .exit)) ⌝ }
 {
     palette::palette_from_shades(coordinates, palette) as u32
+}
+
+// The palette of the groups that the members tell: palette_groups::palette_from_groups.
+// Refuses, in this order: 2 BAD TABLE, 4 BAD COUNT, 8 BAD CENTRE, 7 SHORT ROOM, 9 BAD MEMBER, with
+// the palette as it came.
+#[no_mangle]
+pub extern "C" fn kf_palette_from_groups(
+    rec: &[u64; 5],
+    keys: &[u32],
+    weights: &[u32],
+    coordinates: &[u32],
+    members: &[u32],
+    palette: &mut [u8],
+) -> u32
+    ensures { λ r. ⌜ PaletteMeets
+        (paletteFromGroups (recordIn (now (rec .entry))) (now (keys .entry))
+        (now (weights .entry)) (stateOf (now (coordinates .entry)) (now (members .entry)))
+        (now (palette .entry)))
+        r (now (palette .exit)) ⌝ }
+{
+    let table = arrays::record_in(rec);
+    palette_groups::palette_from_groups(table, keys, weights, coordinates, members, palette) as u32
 }
 
 // Maps a strip into its stretch of the index picture: mapping::map_strip. `answer` receives the

@@ -23,7 +23,7 @@ pub fn bad_palette(palette: &[u8]) -> bool
 }
 
 // The level of a coordinate: the nearest, a half goes up. Requires a coordinate of a shade.
-fn level_of(coordinate: u32) -> u8
+pub fn level_of(coordinate: u32) -> u8
     requires { ⌜ coordinate ≤ mostCoordinate ⌝ }
     ensures { λ r. ⌜ r ≡ levelOf coordinate ⌝ }
 {

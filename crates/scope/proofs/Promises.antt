@@ -10,6 +10,7 @@ use Rattle.method.specs.{State}
 use Rattle.lloyd_refusal.specs.{runRows}
 use Rattle.lloyd_rounds.specs.{plainRows, shortRows}
 use Rattle.palette.specs.{paletteRows}
+use Rattle.palette_groups.specs.{groupRows}
 use Rattle.mapping.specs.{mapRows}
 use Rattle.p6.specs.{pictureRows}
 use Rattle.sheets.specs.{allHold, exampleAt}
@@ -45,6 +46,11 @@ round-orders rec ks ws a = (refl, refl)
 -- Palette from shades: 4, 8, 7.
 pub palette-order : (s d : List ℕ) → orderOf (paletteRows s d) ≡ 4 ∷ 8 ∷ 7 ∷ []
 palette-order s d = refl
+
+-- Palette of groups: 2, 4, 8, 7, 9 (document 02).
+pub groups-order : (rec : Record) (ks ws : List ℕ) (a : State) (d : List ℕ)
+    → orderOf (groupRows rec ks ws a d) ≡ 2 ∷ 4 ∷ 8 ∷ 7 ∷ 9 ∷ []
+groups-order rec ks ws a d = refl
 
 -- Mapping: 1, 10, 11, 7.
 pub map-order : (s p d : List ℕ) (a : ℕ) → orderOf (mapRows s p d a) ≡ 1 ∷ 10 ∷ 11 ∷ 7 ∷ []

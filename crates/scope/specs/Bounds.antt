@@ -9,7 +9,9 @@ use Rattle.table_entries.specs.{entry, stops}
 use Rattle.table_test.specs.{Record, recordOf, badTable, roomOf}
 use Rattle.shades.specs.{badCoordinates, badCentre}
 use Rattle.lloyd_tests.specs.{badCount, fewColours, badLimit, shortMembers, shortTotals, badMember}
+use Rattle.method.specs.{stateOf}
 use Rattle.palette.specs.{badPalette, shortPalette}
+use Rattle.palette_groups.specs.{shortRooms}
 use Rattle.mapping.specs.{shortIndex}
 use Rattle.p6_header.specs.{Header, headerOf, headerNumber, headerValues}
 use Rattle.p6.specs.{badSide, badSize, badDepth, badRaster}
@@ -91,13 +93,15 @@ bounds =
     -- 6 BAD LIMIT
     ∷ lists (those badLimit (0 ∷ 1 ∷ 200 ∷ 201 ∷ [])) (201 ∷ [])
     -- 7 SHORT ROOM: members for 2 used entries; totals for the limits 0, 1, 20 and 200; palette bytes for 2 shades;
-    -- first places for 2 pixels in 5 index bytes
+    -- members, and palette bytes, where both are looked at (document 02); first places for 2 pixels in 5 index bytes
     ∷ lists (those (λ n. shortMembers (usedOnly 2) (zeros n)) (0 ∷ 1 ∷ 2 ∷ 3 ∷ [])) (0 ∷ 1 ∷ [])
     ∷ lists (those (λ n. shortTotals 0 (zeros n)) (0 ∷ 20 ∷ 99 ∷ 100 ∷ [])) (0 ∷ 20 ∷ 99 ∷ [])
     ∷ lists (those (λ n. shortTotals 1 (zeros n)) (0 ∷ 1 ∷ [])) (0 ∷ [])
     ∷ lists (those (λ n. shortTotals 20 (zeros n)) (19 ∷ 20 ∷ [])) (19 ∷ [])
     ∷ lists (those (λ n. shortTotals 200 (zeros n)) (199 ∷ 200 ∷ [])) (199 ∷ [])
     ∷ lists (those (λ n. shortPalette (zeros 6) (zeros n)) (5 ∷ 6 ∷ 7 ∷ [])) (5 ∷ [])
+    ∷ lists (those (λ n. shortRooms (usedOnly 2) (stateOf (zeros 6) (zeros n)) (zeros 6)) (1 ∷ 2 ∷ 3 ∷ [])) (1 ∷ [])
+    ∷ lists (those (λ n. shortRooms (usedOnly 2) (stateOf (zeros 6) (zeros 2)) (zeros n)) (5 ∷ 6 ∷ 7 ∷ [])) (5 ∷ [])
     ∷ lists (those (shortIndex (zeros 6) (zeros 5)) (0 ∷ 3 ∷ 4 ∷ [])) (4 ∷ [])
     -- 8 BAD CENTRE, by the last of three coordinates
     ∷ lists (those (λ c. badCentre (0 ∷ 0 ∷ c ∷ [])) (0 ∷ 4080 ∷ 4081 ∷ [])) (4081 ∷ [])

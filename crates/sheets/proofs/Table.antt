@@ -15,6 +15,7 @@ use Rattle.table.specs.{addStrip}
 use Rattle.method.specs.{startsFrom, over, after}
 use Rattle.lloyd.specs.{plainRound, shortRound, runOf}
 use Rattle.palette.specs.{paletteFromShades}
+use Rattle.palette_groups.specs.{paletteFromGroups}
 use Rattle.figures.specs.{figure}
 use Rattle.mapping.specs.{mapStrip}
 use Rattle.sheets.specs.Examples.{Example, sameNumbers, sameRows, allHold, exampleAt}
@@ -52,5 +53,5 @@ each-of-all (e ∷ es) h (suc i) l =
 -- The sheets pass the test: by computation.
 pub sheets-hold : allHold sheets ≡ true
 unfolding runOf after startsFrom over firstThat firstBest howMany sum fill fillFrom distance sq
-    addStrip shortRound plainRound paletteFromShades mapStrip figure div ofInt
+    addStrip shortRound plainRound paletteFromShades paletteFromGroups mapStrip figure div ofInt
 sheets-hold = refl

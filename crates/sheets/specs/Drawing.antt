@@ -59,6 +59,10 @@ keysH = 655360 ∷ 720896 ∷ []
 abbrev pub weightsH : List ℕ
 weightsH = 17 ∷ 15 ∷ []
 
+-- and its record: the red levels come to 335
+abbrev pub recordH : Record
+recordH = record { used = 2; pixels = 32; red = 335; green = 0; blue = 0 }
+
 -- members as they are lent: places past those that a call writes keep these values
 abbrev pub members : List ℕ
 members = 8 ∷ 8 ∷ 8 ∷ []

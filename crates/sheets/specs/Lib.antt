@@ -5,7 +5,7 @@
 --   whole n           an odd whole number, or 0, as a binary64 number
 --   weightsF, recordF          sheet F's weights on the same colours
 --   keysG, weightsG, recordG   sheet G's table
---   keysH, weightsH            sheet H's table
+--   keysH, weightsH, recordH   sheet H's table
 --   members, totals   what is lent to rounds and runs
 --   addSheet, roundSheet, runSheet, paletteSheet, mapSheet   the numbers of an outcome, in rows
 --   figureRow, meanRows   those of a figure and of a mean square error
@@ -34,6 +34,7 @@ unfoldable pub use Drawing.{
   recordG,
   keysH,
   weightsH,
+  recordH,
   members,
   totals,
 }

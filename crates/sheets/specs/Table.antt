@@ -7,6 +7,7 @@ use Rattle.table.specs.{emptyRecord, addStrip}
 use Rattle.method.specs.{coloursOf, leastOf, meanOf, toMean, stateOf, shortDistances, after, starts, flat, begin}
 use Rattle.lloyd.specs.{plainRound, shortRound, runOf}
 use Rattle.palette.specs.{paletteFromShades}
+use Rattle.palette_groups.specs.{paletteFromGroups}
 use Rattle.mapping.specs.{mapStrip}
 use Rattle.sheets.specs.Drawing.{
   drawing,
@@ -22,6 +23,7 @@ use Rattle.sheets.specs.Drawing.{
   recordG,
   keysH,
   weightsH,
+  recordH,
   members,
   totals,
 }
@@ -59,12 +61,17 @@ sheetB = record {
 }
 
 -- C. Its palette (3,0,0); mapping error 76; figure 19.
--- The error is all red. A byte past the palette and the index bytes around the stretch keep their values.
+-- The error is all red. A byte past the palette and the index bytes around the stretch keep their values. The palette
+-- of the groups (document 02) is the same: the mean is 2 and a half, and a half goes up.
 abbrev pub sheetC : Example
 sheetC = record {
   computed = paletteSheet (paletteFromShades (40 ∷ 0 ∷ 0 ∷ []) (replicate 4 9))
+      ++ paletteSheet
+      (paletteFromGroups recordA keysA weightsA (stateOf (40 ∷ 0 ∷ 0 ∷ []) (0 ∷ 0 ∷ 8 ∷ [])) (replicate 4 9))
       ++ mapSheet (mapStrip drawing paletteC (replicate 6 8) 1);
   written = (done ∷ [])
+      ∷ (paletteC ++ 9 ∷ [])
+      ∷ (done ∷ [])
       ∷ (paletteC ++ 9 ∷ [])
       ∷ (done ∷ 76 ∷ 76 ∷ 0 ∷ 0 ∷ [])
       ∷ (1 ∷ [])
@@ -133,11 +140,19 @@ sheetG = record {
 }
 
 -- H. 17 pixels (10,0,0) and 15 of (11,0,0): R mean 168, palette byte 11.
+-- That is the byte of the shade. The byte of its group is 10 (document 02): the exact mean is 10 and 15/32.
 abbrev pub sheetH : Example
 sheetH = record {
   computed = flat (meanOf (coloursOf 2 keysH weightsH))
-      ∷ paletteSheet (paletteFromShades (168 ∷ 0 ∷ 0 ∷ []) (replicate 3 9));
-  written = (168 ∷ 0 ∷ 0 ∷ []) ∷ (done ∷ []) ∷ (11 ∷ 0 ∷ 0 ∷ []) ∷ [];
+      ∷ paletteSheet (paletteFromShades (168 ∷ 0 ∷ 0 ∷ []) (replicate 3 9))
+      ++ paletteSheet
+      (paletteFromGroups recordH keysH weightsH (stateOf (168 ∷ 0 ∷ 0 ∷ []) (0 ∷ 0 ∷ [])) (replicate 3 9));
+  written = (168 ∷ 0 ∷ 0 ∷ [])
+      ∷ (done ∷ [])
+      ∷ (11 ∷ 0 ∷ 0 ∷ [])
+      ∷ (done ∷ [])
+      ∷ (10 ∷ 0 ∷ 0 ∷ [])
+      ∷ [];
 }
 
 -- I. A's table, shades (0,0,0) twice: both join 0, shade 1 stays.

@@ -65,6 +65,18 @@ pub fn kf_palette_from_shades(coordinates: &[u32], palette: &mut [u8]) -> u32 {
     kohlenfloh::kf_palette_from_shades(coordinates, palette)
 }
 
+// A palette of groups.
+pub fn kf_palette_from_groups(
+    rec: &[u64; 5],
+    keys: &[u32],
+    weights: &[u32],
+    coordinates: &[u32],
+    members: &[u32],
+    palette: &mut [u8],
+) -> u32 {
+    kohlenfloh::kf_palette_from_groups(rec, keys, weights, coordinates, members, palette)
+}
+
 // Mapping a strip.
 pub fn kf_map_strip(
     strip: &[u8],

@@ -1,9 +1,22 @@
-// The calls of the crates palette and mapping.
+// The calls of the crates palette, palette_groups and mapping.
 use mapping::Mapped;
+use table::Record;
 
 // A palette from shades.
 pub fn palette_from_shades(coordinates: &[u32], palette: &mut [u8]) -> u8 {
     palette::palette_from_shades(coordinates, palette)
+}
+
+// A palette of groups.
+pub fn palette_from_groups(
+    rec: Record,
+    keys: &[u32],
+    weights: &[u32],
+    coordinates: &[u32],
+    members: &[u32],
+    palette: &mut [u8],
+) -> u8 {
+    palette_groups::palette_from_groups(rec, keys, weights, coordinates, members, palette)
 }
 
 // The test of a palette.
