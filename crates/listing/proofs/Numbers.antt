@@ -23,7 +23,7 @@ use Rattle.listing_work.specs.{
   tableOf,
   runOn,
   runTests,
-  paletteBytes,
+  paletteOn,
   mappedRaster,
   summaryOf,
   workRun,
@@ -47,15 +47,15 @@ module _ (p : List ℕ) (count : ℕ) (small : firstOf (smallRows p) ≡ done) (
   abbrev told : Summary
   told =
       summaryOf (tableOf p .answer .rec) (runOn p count .answer)
-      (mappedRaster (rasterOf p) (runOn p count .answer) count .answer .error)
+      (mappedRaster (rasterOf p) (paletteOn p count .palette) count .answer .error)
 
   -- the palette of the shades
   abbrev palette : List ℕ
-  palette = take (3 * count) (paletteBytes (runOn p count .answer) count)
+  palette = take (3 * count) (paletteOn p count .palette)
 
   -- the index picture
   abbrev index : List ℕ
-  index = take (length (rasterOf p) / 3) (mappedRaster (rasterOf p) (runOn p count .answer) count .index)
+  index = take (length (rasterOf p) / 3) (mappedRaster (rasterOf p) (paletteOn p count .palette) count .index)
 
   -- there is a line for each shade, one before them and one behind
   lines-printed : length (listingLines p count) ≡ count + 2

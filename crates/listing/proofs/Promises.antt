@@ -6,18 +6,16 @@ use mathlib.Core.Bool.{false}
 use mathlib.Core.List.{List}
 use mathlib.Core.Logic.{_↔_, _⊎_}
 use mathlib.Core.Path.{_≡_, sym, _∙_}
-use lib.ListN.{length, take, replicate}
+use lib.ListN.{length}
 use Rattle.number.specs.{sum}
 use Rattle.refusal.specs.{Refusal, numberOf, done, firstOf, Given, NoneHolds, BAD-COUNT, FEW-COLOURS}
 use Rattle.colour.specs.{Bytes}
 use Rattle.grammar.specs.{mostDecimal}
-use Rattle.shades.specs.{mostCoordinates}
-use Rattle.palette.specs.{paletteFromShades}
 use Rattle.p6.specs.{readPicture, rasterOf}
 use Rattle.texts.specs.{linesOf}
 use Rattle.listing_lines.specs.{mostText, refusedText, fieldAt}
 use Rattle.listing_test.specs.{smallRows}
-use Rattle.listing_work.specs.{listedLimit, tableOf, runOn, runTests, mappedRaster}
+use Rattle.listing_work.specs.{listedLimit, tableOf, runOn, runTests, paletteOn, mappedRaster}
 use Rattle.listing_work.proofs.Accepted as accepted
 use Rattle.listing_work.proofs.Mapped as mapped
 use Rattle.listing.specs.Refusals.{badLine, CountLine, countIn, pictureIn, inputRows, listingRows}
@@ -111,12 +109,12 @@ pub run-refusals : (p : List ℕ) → firstOf (smallRows p) ≡ done → Bytes (
     → Given (runTests p count) n → (n ≡ BAD-COUNT) ⊎ (n ≡ FEW-COLOURS)
 run-refusals = accepted.run-refusals
 
--- Where that run is accepted, making the palette of its shades is accepted.
+-- Where that run is accepted, making the palette of its last groups is accepted.
 pub palette-accepted : (p : List ℕ) (count : ℕ) → firstOf (smallRows p) ≡ done → firstOf (runTests p count) ≡ done
-    → paletteFromShades (take (3 * count) (runOn p count .answer .shades)) (replicate mostCoordinates 0) .answer ≡ done
+    → paletteOn p count .answer ≡ done
 palette-accepted = mapped.palette-accepted
 
 -- And so is mapping the picture to it.
 pub mapping-accepted : (p : List ℕ) (count : ℕ) → firstOf (smallRows p) ≡ done → firstOf (runTests p count) ≡ done
-    → mappedRaster (rasterOf p) (runOn p count .answer) count .answer .refusal ≡ done
+    → mappedRaster (rasterOf p) (paletteOn p count .palette) count .answer .refusal ≡ done
 mapping-accepted = mapped.mapping-accepted

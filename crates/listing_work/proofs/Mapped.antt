@@ -13,24 +13,22 @@ use Rattle.number.proofs.Fills.{zeros-at}
 use Rattle.number.proofs.Parts.{take-at-most}
 use Rattle.refusal.specs.{done, firstOf}
 use Rattle.refusal.proofs.Promises.{done-exactly}
-use Rattle.colour.specs.{Bytes, mostLevel, mostCoordinate, mostPixels}
+use Rattle.colour.specs.{Bytes, mostLevel, mostPixels}
 use Rattle.table.specs.{emptyRecord}
 use Rattle.table.proofs.Promises.{accepted-pixels}
-use Rattle.shades.specs.{mostShades, mostCoordinates, badCoordinates, OnGrid}
-use Rattle.shades.proofs.Checks.{bad-coordinates-exactly, bad-centre-exactly}
-use Rattle.lloyd.specs.{Ran}
+use Rattle.shades.specs.{mostShades, mostCoordinates, badCoordinates}
+use Rattle.shades.proofs.Checks.{bad-coordinates-exactly}
+use Rattle.method.specs.{frontOf}
+use Rattle.lloyd.specs.{Ran, left}
 use Rattle.lloyd.proofs.Promises.{
   bad-count-exactly,
   limit-is,
-  shades-low,
-  shades-room,
   rounds-within,
   total-most,
   distances-most,
 }
-use Rattle.palette.specs.{paletteFromShades}
-use Rattle.palette.proofs.Meaning.{palette-bytes}
-use Rattle.palette.proofs.Promises.{palette-accepted-exactly}
+use Rattle.palette_groups.proofs.Meaning.{groups-bytes}
+use Rattle.palette_runs.proofs.Promises.{run-palette-accepted}
 use Rattle.mapping.proofs.Promises.{map-accepted-exactly, index-is-nearest, errors-below}
 use Rattle.p6.specs.{rasterOf}
 use Rattle.listing_lines.specs.{Summary, headFields}
@@ -43,12 +41,12 @@ use Rattle.listing_work.specs.Works.{
   tableOf,
   runOn,
   runTests,
-  paletteBytes,
+  paletteOn,
   mappedRaster,
   summaryOf,
 }
 use Rattle.listing_work.proofs.Accepted.{raster-whole, adding-accepted, few-entries}
-use Rattle.listing_work.proofs.Rooms.{zeros-length, palette-length, index-length}
+use Rattle.listing_work.proofs.Rooms.{zeros-length, picture-palette-length, index-length}
 use Rattle.listing_work.proofs.Works.{run-is}
 
 -- a test as a number is small
@@ -61,13 +59,9 @@ module _ (p : List ℕ) (count : ℕ) (small : firstOf (smallRows p) ≡ done) (
   abbrev ran : Ran
   ran = runOn p count .answer
 
-  -- the coordinates of its shades
-  abbrev coordinates : List ℕ
-  coordinates = take (3 * count) (ran .shades)
-
-  -- their palette
+  -- the entries of its shades
   abbrev palette : List ℕ
-  palette = take (3 * count) (paletteBytes ran count)
+  palette = take (3 * count) (paletteOn p count .palette)
 
   -- the pixels
   abbrev pixels : ℕ
@@ -85,29 +79,19 @@ module _ (p : List ℕ) (count : ℕ) (small : firstOf (smallRows p) ≡ done) (
 
   -- ---- the palette
 
-  -- the coordinates are on the grid
-  on-grid : OnGrid coordinates
-  on-grid = take-at-most (3 * count) mostCoordinate (ran .shades) (shades-low (run-is p count ok))
+  -- there are three bytes for each shade
+  palette-room : 3 * count ≤ length (replicate {A = ℕ} mostCoordinates 0)
+  palette-room = omega (arith, count-within .1, length-replicate {A = ℕ} mostCoordinates 0)
 
-  -- a palette from them is accepted
-  pub palette-accepted : paletteFromShades coordinates (replicate mostCoordinates 0) .answer ≡ done
-  palette-accepted =
-      let long = length-take-le (3 * count) (ran .shades) (shades-room (run-is p count ok)) in
-      let room : 3 * (length coordinates / 3) ≤ length (replicate {A = ℕ} mostCoordinates 0) =
-      omega (arith, long, count-within .1, length-replicate {A = ℕ} mostCoordinates 0) in
-      palette-accepted-exactly coordinates (replicate mostCoordinates 0) .1
-      (three-each coordinates long, (bad-centre-exactly coordinates .1 on-grid, (le-ltb _ _ room, tt)))
+  -- a palette of its groups is accepted
+  pub palette-accepted : paletteOn p count .answer ≡ done
+  palette-accepted = run-palette-accepted (run-is p count ok) (replicate mostCoordinates 0) palette-room
 
   -- it has three bytes for each shade
   palette-long : length palette ≡ 3 * count
   palette-long =
-      length-take-le (3 * count) (paletteBytes ran count)
-      (omega (
-        arith,
-        count-within .1,
-        palette-length coordinates (replicate mostCoordinates 0),
-        length-replicate {A = ℕ} mostCoordinates 0,
-      ))
+      length-take-le (3 * count) (paletteOn p count .palette)
+      (omega (arith, count-within .1, picture-palette-length p count))
 
   -- so it has an entry for each
   pub entries-count : length palette / 3 ≡ count
@@ -116,14 +100,15 @@ module _ (p : List ℕ) (count : ℕ) (small : firstOf (smallRows p) ≡ done) (
   -- they are bytes
   pub entries-bytes : Bytes palette
   entries-bytes i =
-      let each = palette-bytes coordinates (replicate mostCoordinates 0) on-grid
+      let each = groups-bytes (tableOf p .answer .rec) (tableOf p .keys) (tableOf p .weights)
+      (frontOf count (left ran (runOn p count .members))) (replicate mostCoordinates 0) palette-accepted
       (λ j. omega (arith, zeros-at mostCoordinates j)) in
-      omega (arith, take-at-most (3 * count) mostLevel (paletteBytes ran count) (λ j. omega (arith, each j)) i)
+      omega (arith, take-at-most (3 * count) mostLevel (paletteOn p count .palette) (λ j. omega (arith, each j)) i)
 
   -- ---- the mapping
 
   -- mapping the raster to it is accepted
-  pub mapping-accepted : mappedRaster (rasterOf p) ran count .answer .refusal ≡ done
+  pub mapping-accepted : mappedRaster (rasterOf p) (paletteOn p count .palette) count .answer .refusal ≡ done
   mapping-accepted =
       let few = small-raster p small in
       let room : 0 + pixels ≤ length listedZeros = omega (arith, zeros-length) in
@@ -132,17 +117,18 @@ module _ (p : List ℕ) (count : ℕ) (small : firstOf (smallRows p) ≡ done) (
       (raster-whole p small, (three-each palette palette-long, (le-ltb _ _ most, (le-ltb _ _ room, tt))))
 
   -- there is an index for each pixel
-  pub index-count : length (take pixels (mappedRaster (rasterOf p) ran count .index)) ≡ pixels
+  pub index-count : length (take pixels (mappedRaster (rasterOf p) (paletteOn p count .palette) count .index)) ≡ pixels
   index-count =
-      length-take-le pixels (mappedRaster (rasterOf p) ran count .index)
+      length-take-le pixels (mappedRaster (rasterOf p) (paletteOn p count .palette) count .index)
       (omega (arith, small-raster p small, index-length (rasterOf p) palette listedZeros 0, zeros-length))
 
   -- each is the number of a shade
-  pub index-below : (i : ℕ) → i < pixels → getD (take pixels (mappedRaster (rasterOf p) ran count .index)) i 0 < count
+  pub index-below : (i : ℕ) → i < pixels
+      → getD (take pixels (mappedRaster (rasterOf p) (paletteOn p count .palette) count .index)) i 0 < count
   index-below i h =
       let z : 0 + i ≡ i = omega arith in
       let near = index-is-nearest (rasterOf p) palette listedZeros 0 mapping-accepted i h in
-      rw (getD-take pixels (mappedRaster (rasterOf p) ran count .index) i 0 h)
+      rw (getD-take pixels (mappedRaster (rasterOf p) (paletteOn p count .palette) count .index) i 0 h)
       (omega (arith, rw z at (near .entry), entries-count))
 
   -- ---- the numbers that are told
@@ -158,7 +144,9 @@ module _ (p : List ℕ) (count : ℕ) (small : firstOf (smallRows p) ≡ done) (
 
   -- what is told besides the shades
   abbrev told : Summary
-  told = summaryOf (tableOf p .answer .rec) ran (mappedRaster (rasterOf p) ran count .answer .error)
+  told =
+      summaryOf (tableOf p .answer .rec) ran
+      (mappedRaster (rasterOf p) (paletteOn p count .palette) count .answer .error)
 
   module _ (bytes : Bytes (rasterOf p)) where
     -- the numbers of line 1 have at most 20 digits

@@ -2,7 +2,7 @@
 use Prim.Native.Nat.{ℕ, _*_, _/_, _≤_}
 use mathlib.Core.List.{List}
 use mathlib.Core.Logic.{inl, inr}
-use mathlib.Core.Path.{_≡_, refl}
+use mathlib.Core.Path.{_≡_, refl, _∙_}
 use native.Mathlib.Omega.{arith}
 use lib.ListN.{length, take, replicate, length-replicate}
 use Rattle.number.proofs.Fills.{fill-length}
@@ -11,17 +11,21 @@ use Rattle.refusal.specs.{numberOf, done, firstOf}
 use Rattle.refusal.proofs.Promises.{done-or-refusal}
 use Rattle.refusal.proofs.Outcomes.{refuses-all}
 use Rattle.shades.specs.{mostCoordinates}
-use Rattle.palette.specs.{paletteFromShades}
-use Rattle.palette.proofs.Meaning.{palette-refuses}
+use Rattle.method.specs.{State, frontOf}
+use Rattle.table.specs.{Record}
+use Rattle.lloyd.specs.{left}
+use Rattle.palette_groups.specs.{paletteFromGroups}
+use Rattle.palette_groups.proofs.Meaning.{groups-refuses}
 use Rattle.mapping.specs.{mapStrip}
 use Rattle.mapping.proofs.Meaning.{map-refuses}
 use Rattle.p6.specs.{rasterOf}
 use Rattle.listing_test.specs.{mostListed}
 use Rattle.listing_work.specs.Works.{
   listedZeros,
+  tableOf,
   runOn,
   runTests,
-  paletteBytes,
+  paletteOn,
   refusedWork,
   workRun,
   madeWork,
@@ -37,12 +41,20 @@ pub zeros-length : length listedZeros ≡ mostListed
 unfolding listedZeros
 zeros-length = length-replicate {A = ℕ} mostListed 0
 
--- the lent palette stays as long
-pub palette-length : (c d : List ℕ) → length (paletteFromShades c d .palette) ≡ length d
-palette-length c d =
-    refuses-all (palette-refuses c d) (λ o. length (o .palette) ≡ length d) (fill-length (length c) _ d) (λ n. refl)
+-- the lent palette of groups stays as long
+pub palette-length : (rec : Record) (ks ws : List ℕ) (a : State) (d : List ℕ)
+    → length (paletteFromGroups rec ks ws a d .palette) ≡ length d
+palette-length rec ks ws a d =
+    refuses-all (groups-refuses rec ks ws a d) (λ o. length (o .palette) ≡ length d) (fill-length _ _ d) (λ n. refl)
 
--- and so does the index picture
+-- so that of a picture has three bytes for each of 64 shades
+pub picture-palette-length : (p : List ℕ) (count : ℕ) → length (paletteOn p count .palette) ≡ mostCoordinates
+picture-palette-length p count =
+    palette-length (tableOf p .answer .rec) (tableOf p .keys) (tableOf p .weights)
+    (frontOf count (left (runOn p count .answer) (runOn p count .members))) (replicate mostCoordinates 0)
+    ∙ length-replicate {A = ℕ} mostCoordinates 0
+
+-- the index picture stays as long as it is lent
 pub index-length : (s p d : List ℕ) (a : ℕ) → length (mapStrip s p d a .index) ≡ length d
 index-length s p d a =
     refuses-all (map-refuses s p d a) (λ o. length (o .index) ≡ length d) (from-length a (length s / 3) _ d) (λ n. refl)
@@ -58,13 +70,12 @@ made-fits : (p : List ℕ) (count : ℕ) → firstOf (runTests p count) ≡ done
     → Fits (madeWork p count)
 unfolding workRun
 made-fits p count ok small =
-    let ran = runOn p count .answer in
     let few = run-count p count ok in
-    let bytes = palette-length (take (3 * count) (ran .shades)) (replicate mostCoordinates 0) in
-    let places = index-length (rasterOf p) (take (3 * count) (paletteBytes ran count)) listedZeros 0 in
+    let bytes = picture-palette-length p count in
+    let places = index-length (rasterOf p) (take (3 * count) (paletteOn p count .palette)) listedZeros 0 in
     record {
       few = few;
-      palette = omega (arith, few, bytes, length-replicate {A = ℕ} mostCoordinates 0);
+      palette = omega (arith, few, bytes);
       index = omega (arith, small, places, zeros-length);
     }
 

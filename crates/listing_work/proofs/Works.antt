@@ -2,19 +2,21 @@
 use Prim.Native.Nat.{ℕ, _*_, _/_, _≤_, _<_}
 use mathlib.Core.Bool.{true, false}
 use mathlib.Core.List.{List}
-use mathlib.Core.Path.{_≡_, refl, sym, ap, ap₂, _∙_}
+use mathlib.Core.Path.{_≡_, refl, sym, ap, _∙_}
 use lib.ListN.{length, take, replicate}
 use borrow.Author.Tests.{lt-ltb, le-ltb, ne-eqb}
 use Rattle.number.specs.{bit}
 use Rattle.refusal.specs.{Row, numberOf, done, firstOf, outcomeOf, Refuses, BAD-COUNT, BAD-SIZE}
 use Rattle.refusal.proofs.Promises.{done-exactly}
 use Rattle.refusal.proofs.Outcomes.{outcome-made, outcome-refused, refuses}
-use Rattle.table.specs.{Record, Added, AddMeets, emptyRecord, addStrip}
+use Rattle.table.specs.{Record, Added, Outcome, AddMeets, emptyRecord, addStrip}
 use Rattle.shades.specs.{mostShades}
-use Rattle.lloyd.specs.{Ran, RunMeets, AcceptedRun, runOf}
+use Rattle.lloyd.specs.{Ran, RunOutcome, RunMeets, AcceptedRun, runOf}
 use Rattle.lloyd.proofs.Promises.{bad-count-exactly, shades-room}
 use Rattle.lloyd.proofs.Wholes.{run-refuses}
-use Rattle.palette.specs.{PaletteMeets, paletteFromShades}
+use Rattle.method.specs.{stateOf}
+use Rattle.palette.specs.{PaletteMeets}
+use Rattle.palette_groups.specs.{paletteFromGroups}
 use Rattle.mapping.specs.{Mapped, MapMeets, mapStrip}
 use Rattle.p6.specs.{rasterOf}
 use Rattle.listing_work.specs.Works.{
@@ -39,8 +41,10 @@ left-of-number rows made n e some = rw (e, ne-eqb n done some)
 -- ---- of a run
 
 -- what palette and mapping answered is what is left of a run
-pub run-left : (raster : List ℕ) (rec : Record) (ran : Ran) (count : ℕ) {r flag : ℕ} {m : Mapped} {p i : List ℕ}
-    → PaletteMeets (paletteFromShades (take (3 * count) (ran .shades)) (replicate 192 0)) r p
+pub run-left : (raster : List ℕ) (rec : Record) (ks ws : List ℕ) (ran : Ran) (members : List ℕ) (count : ℕ)
+    {r flag : ℕ} {m : Mapped} {p i : List ℕ}
+    → PaletteMeets
+    (paletteFromGroups rec ks ws (stateOf (take (3 * count) (ran .shades)) members) (replicate 192 0)) r p
     → MapMeets (mapStrip raster (take (3 * count) p) (replicate 8192 0) 0) m i → flag ≡ bit (ran .settled)
     → _≡_ {A = Work}
     (record {
@@ -59,9 +63,9 @@ pub run-left : (raster : List ℕ) (rec : Record) (ran : Ran) (count : ℕ) {r f
       pixels = length raster / 3;
       index = i;
     })
-    (workRun raster rec ran count)
+    (workRun raster rec ks ws ran members count)
 unfolding listedZeros workRun
-run-left raster rec ran count made mapped flag-is =
+run-left raster rec ks ws ran members count made mapped flag-is =
     rw (mapped .answer, mapped .index-is, made .palette-is, flag-is)
 
 -- ---- of a picture
@@ -97,34 +101,38 @@ module _ (p : List ℕ) (count : ℕ) where
   run-room : firstOf (runTests p count) ≡ done → 3 * count ≤ length (runOn p count .answer .shades)
   run-room e = shades-room (run-is e)
 
--- what the calls answered is the table and the run of the picture
-pub record Ready (p : List ℕ) (count : ℕ) (rec : Record) (ran : Ran) : Type 0 where
+-- what the calls answered and left is the table and the run of the picture
+pub record Ready (p : List ℕ) (count : ℕ) (rec : Record) (ks ws : List ℕ) (ran : Ran) (members : List ℕ) : Type 0 where
   pub rec-is : rec ≡ tableOf p .answer .rec
+  pub keys-are : ks ≡ tableOf p .keys
+  pub weights-are : ws ≡ tableOf p .weights
   pub ran-is : ran ≡ runOn p count .answer
+  pub members-are : members ≡ runOn p count .members
 
 -- it is, once the raster is added and the run made
 pub ready : (p : List ℕ) (count : ℕ) {raster : List ℕ} {added : Added} {ks ws ms ts : List ℕ} {ran : Ran}
     → raster ≡ rasterOf p → AddMeets emptyRecord (replicate 8192 0) (replicate 8192 0) raster added ks ws
     → RunMeets (runOf (added .rec) ks ws count listedLimit (replicate 8192 0) listedTotals) ran ms ts
-    → Ready p count (added .rec) ran
+    → Ready p count (added .rec) ks ws ran ms
 unfolding listedZeros
 ready p count {raster} {added} {ks} {ws} {ran = ran} r a m =
-    let answer : added ≡ tableOf p .answer =
-    a .answer ∙ ap (λ s. addStrip emptyRecord listedZeros listedZeros s .answer) r in
-    let keys : ks ≡ tableOf p .keys = a .keys ∙ ap (λ s. addStrip emptyRecord listedZeros listedZeros s .keys) r in
-    let weights : ws ≡ tableOf p .weights =
-    a .weights ∙ ap (λ s. addStrip emptyRecord listedZeros listedZeros s .weights) r in
+    let sheet : List ℕ → Outcome = addStrip emptyRecord listedZeros listedZeros in
+    let rec-is : added .rec ≡ tableOf p .answer .rec =
+    ap (λ (x : Added). x .rec) (a .answer ∙ ap (λ s. sheet s .answer) r) in
+    let keys-are : ks ≡ tableOf p .keys = a .keys ∙ ap (λ s. sheet s .keys) r in
+    let weights-are : ws ≡ tableOf p .weights = a .weights ∙ ap (λ s. sheet s .weights) r in
+    let run-is : runOf (added .rec) ks ws count listedLimit listedZeros listedTotals ≡ runOn p count =
+    rw (rec-is, keys-are, weights-are) in
     record {
-      rec-is = ap (λ (x : Added). x .rec) answer;
-      ran-is = m .answer
-          ∙ ap (λ (x : Added). runOf (x .rec) ks ws count listedLimit listedZeros listedTotals .answer) answer
-          ∙ ap (λ k. runOf (tableOf p .answer .rec) k ws count listedLimit listedZeros listedTotals .answer) keys
-          ∙ ap
-          (λ w. runOf (tableOf p .answer .rec) (tableOf p .keys) w count listedLimit listedZeros listedTotals .answer)
-          weights;
+      rec-is = rec-is;
+      keys-are = keys-are;
+      weights-are = weights-are;
+      ran-is = m .answer ∙ ap (λ (o : RunOutcome). o .answer) run-is;
+      members-are = m .members-are ∙ ap (λ (o : RunOutcome). o .members) run-is;
     }
 
-module _ {p : List ℕ} {count : ℕ} {rec : Record} {ran : Ran} (w : Ready p count rec ran) where
+module _ {p : List ℕ} {count : ℕ} {rec : Record} {ks ws : List ℕ} {ran : Ran} {members : List ℕ}
+    (w : Ready p count rec ks ws ran members) where
   -- the run's number is that of the rows
   ready-number : ran .refusal ≡ firstOf (runTests p count)
   ready-number = ap (λ (x : Ran). x .refusal) (w .ran-is) ∙ run-number p count
@@ -145,10 +153,8 @@ module _ {p : List ℕ} {count : ℕ} {rec : Record} {ran : Ran} (w : Ready p co
       e ∙ sym (left-of-number (runTests p count) (madeWork p count) (ran .refusal) (sym ready-number) some)
 
   -- an accepted one what is made of it
-  pub ready-made : {left : Work} {raster : List ℕ} → left ≡ workRun raster rec ran count → raster ≡ rasterOf p
-      → ran .refusal ≡ done → left ≡ workPicture p count
+  pub ready-made : {left : Work} {raster : List ℕ} → left ≡ workRun raster rec ks ws ran members count
+      → raster ≡ rasterOf p → ran .refusal ≡ done → left ≡ workPicture p count
   ready-made e is ok =
-      e
-      ∙ ap (λ s. workRun s rec ran count) is
-      ∙ ap₂ (λ c r. workRun (rasterOf p) c r count) (w .rec-is) (w .ran-is)
-      ∙ sym (work-refuses p count .by-none (sym ready-number ∙ ok))
+      let made = work-refuses p count .by-none (sym ready-number ∙ ok) in
+      e ∙ rw (is, w .rec-is, w .keys-are, w .weights-are, w .ran-is, w .members-are) (sym made)

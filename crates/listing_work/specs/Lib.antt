@@ -4,7 +4,9 @@
 --   listedTotals         a zero for the total of each
 --   tableOf, runOn       the table of a picture, and the run on it
 --   runTests             the run's tests, in their order
---   paletteBytes, mappedRaster   the palette of a run's shades, and the raster mapped to it
+--   paletteOfRun         the palette of a run on a table, by its last groups
+--   paletteOn            that of the run on a picture
+--   mappedRaster         a raster mapped to the first entries of a palette
 --   Work                 what the calls leave: a refusal's number, or all that the lines tell
 --   summaryOf, refusedWork   what is told besides the shades, and what a refusal leaves
 --   workRun, madeWork    what is left of a run, and of a picture whose run is accepted
@@ -19,7 +21,8 @@ unfoldable pub use Works.{
   tableOf,
   runOn,
   runTests,
-  paletteBytes,
+  paletteOfRun,
+  paletteOn,
   mappedRaster,
   summaryOf,
   refusedWork,

@@ -7,7 +7,8 @@ use Rattle.refusal.specs.{Row, done, outcomeOf}
 use Rattle.table.specs.{Record, Outcome, emptyRecord, addStrip}
 use Rattle.shades.specs.{mostShades, mostCoordinates}
 use Rattle.lloyd.specs.{Ran, RunOutcome, runOf, runRows}
-use Rattle.palette.specs.{paletteFromShades}
+use Rattle.palette.specs.{PaletteOutcome}
+use Rattle.palette_runs.specs.{runPalette}
 use Rattle.mapping.specs.{MapOutcome, mapStrip}
 use Rattle.p6.specs.{rasterOf}
 use Rattle.listing_lines.specs.{Summary}
@@ -43,14 +44,19 @@ abbrev pub runTests : List ℕ → ℕ → List Row
 runTests p count =
     runRows (tableOf p .answer .rec) (tableOf p .keys) (tableOf p .weights) count listedLimit listedZeros listedTotals
 
--- the palette of the first shades of a run, zeros behind it
-abbrev pub paletteBytes : Ran → ℕ → List ℕ
-paletteBytes ran count =
-    paletteFromShades (take (3 * count) (ran .shades)) (replicate mostCoordinates 0) .palette
+-- the palette of a run on a table, by its last groups, zeros behind it
+abbrev pub paletteOfRun : Record → List ℕ → List ℕ → Ran → List ℕ → ℕ → PaletteOutcome
+paletteOfRun rec ks ws ran members count = runPalette rec ks ws count ran members (replicate mostCoordinates 0)
 
--- a raster mapped to it
-abbrev pub mappedRaster : List ℕ → Ran → ℕ → MapOutcome
-mappedRaster raster ran count = mapStrip raster (take (3 * count) (paletteBytes ran count)) listedZeros 0
+-- that of the run on a picture
+abbrev pub paletteOn : List ℕ → ℕ → PaletteOutcome
+paletteOn p count =
+    paletteOfRun (tableOf p .answer .rec) (tableOf p .keys) (tableOf p .weights) (runOn p count .answer)
+    (runOn p count .members) count
+
+-- a raster mapped to the first entries of a palette
+abbrev pub mappedRaster : List ℕ → List ℕ → ℕ → MapOutcome
+mappedRaster raster palette count = mapStrip raster (take (3 * count) palette) listedZeros 0
 
 -- ---- what they leave
 
@@ -77,20 +83,24 @@ refusedWork n = record {
   index = listedZeros;
 }
 
--- what is left of a raster, its table and a run on it
-unfoldable pub workRun : List ℕ → Record → Ran → ℕ → Work
-workRun raster rec ran count = record {
-  refusal = done;
-  summary = summaryOf rec ran (mappedRaster raster ran count .answer .error);
-  shades = count;
-  palette = paletteBytes ran count;
-  pixels = length raster / 3;
-  index = mappedRaster raster ran count .index;
-}
+-- what is left of a raster, its table, and what a run on it answers and leaves
+unfoldable pub workRun : List ℕ → Record → List ℕ → List ℕ → Ran → List ℕ → ℕ → Work
+workRun raster rec ks ws ran members count =
+    let palette = paletteOfRun rec ks ws ran members count .palette in
+    record {
+      refusal = done;
+      summary = summaryOf rec ran (mappedRaster raster palette count .answer .error);
+      shades = count;
+      palette = palette;
+      pixels = length raster / 3;
+      index = mappedRaster raster palette count .index;
+    }
 
 -- of a picture whose run is accepted
 abbrev pub madeWork : List ℕ → ℕ → Work
-madeWork p count = workRun (rasterOf p) (tableOf p .answer .rec) (runOn p count .answer) count
+madeWork p count =
+    workRun (rasterOf p) (tableOf p .answer .rec) (tableOf p .keys) (tableOf p .weights) (runOn p count .answer)
+    (runOn p count .members) count
 
 -- of a picture that is accepted: that, or the run's refusal
 unfoldable pub workPicture : List ℕ → ℕ → Work

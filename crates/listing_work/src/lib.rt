@@ -1,4 +1,4 @@
-// The calls on a picture that is listed: its table, the run, the palette of its shades, and the
+// The calls on a picture that is listed: its table, the run, the palette of its groups, and the
 // mapping.
 //
 // Calls; none requires anything of its caller

@@ -1,4 +1,4 @@
-// The calls on a picture: its table, the run, the palette of its shades, and the mapping.
+// The calls on a picture: its table, the run, the palette of its groups, and the mapping.
 ghost use mathlib.Core.Path.{_≡_};
 ghost use Prim.Native.Nat.{_*_, _≤_};
 ghost use lib.ListN.{length};
@@ -8,6 +8,7 @@ use super::LISTED_LIMIT;
 use super::Work;
 use listing_lines::Summary;
 use lloyd::Ran;
+use palette_groups::palette_from_groups;
 use refusal::DONE;
 use table::Record;
 
@@ -34,16 +35,25 @@ pub fn refused(number: u8) -> Work
     }
 }
 
-// The palette of `count` shades of a run, the raster mapped to it, and what is told of both and of
-// the table. Requires at most 64 shades, and their coordinates.
-fn work_run(raster: &[u8], rec: Record, ran: Ran, count: usize) -> Work
+// The palette of the groups that a run on a table leaves in its members, the raster mapped to it,
+// and what is told of both and of the table. Requires at most 64 shades, and their coordinates.
+fn work_run(
+    raster: &[u8],
+    rec: Record,
+    keys: &[u32],
+    weights: &[u32],
+    ran: Ran,
+    members: &[u32],
+    count: usize,
+) -> Work
     requires { ⌜ (count ≤ mostShades) × (3 * count ≤ length (ran .shades)) ⌝ }
-    ensures { λ r. ⌜ r ≡ workRun (now (raster .entry)) rec ran count ⌝ }
+    ensures { λ r. ⌜ r ≡ workRun (now (raster .entry)) rec (now (keys .entry))
+        (now (weights .entry)) ran (now (members .entry)) count ⌝ }
 {
     let shades = ran.shades;
     let n = 3 * count;
     let mut palette = [0u8; 192];
-    palette::palette_from_shades(&shades[..n], &mut palette);
+    palette_from_groups(rec, keys, weights, &shades[..n], members, &mut palette);
     let mut index = [0u8; 8192];
     let mapped = mapping::map_strip(raster, &palette[..n], &mut index, 0);
     let summary = Summary {
@@ -65,8 +75,8 @@ fn work_run(raster: &[u8], rec: Record, ran: Ran, count: usize) -> Work
     }
 }
 
-// Makes the calls on a picture: its table is filled, a run of at most 20 rounds made, and its
-// shades mapped. Refuses what the run refuses.
+// Makes the calls on a picture: its table is filled, a run of at most 20 rounds made, and the
+// picture mapped to the palette of its last groups. Refuses what the run refuses.
 pub fn work_picture(picture: &[u8], count: usize) -> Work
     ensures { λ r. ⌜ r ≡ workPicture (now (picture .entry)) count ⌝ }
 {
@@ -97,5 +107,5 @@ pub fn work_picture(picture: &[u8], count: usize) -> Work
     if number != DONE {
         return refused(number);
     }
-    work_run(raster, rec, ran, count)
+    work_run(raster, rec, &keys, &weights, ran, &members, count)
 }

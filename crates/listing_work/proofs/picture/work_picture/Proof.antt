@@ -5,7 +5,7 @@ use mathlib.Core.Path.{_≡_}
 use denote.Ref.{now}
 use borrow.Author.Needs.{needs}
 use Rattle.p6.specs.{rasterOf}
-use Rattle.listing_work.proofs.Works.{Ready, ready, ready-count, ready-room, ready-refused, ready-made}
+use Rattle.listing_work.proofs.Works.{ready, ready-count, ready-room, ready-refused, ready-made}
 use Rattle.listing_work.proofs.picture.work_picture.Statement.{statement}
 use Rattle.listing_work.proofs.picture.work_picture.Tie as tie
 
@@ -29,6 +29,10 @@ ran-refused c = c .before .before .before
 abbrev ran : tie.Else1 → tie.After-run
 ran c = c .before .before .before
 
+-- where the run is accepted, from where table and members are lent on
+abbrev shared : tie.After-members3 → tie.Else1
+shared c = c .before .before .before
+
 -- the picture
 abbrev p : tie.After-run → List ℕ
 p c = now (st (told (added c)) .args .picture)
@@ -40,10 +44,6 @@ k c = st (told (added c)) .args .count
 -- the raster is the picture's
 raster-is : (c : tie.After-run) → now (told (added c) .raster-of .result) ≡ rasterOf (p c)
 raster-is c = told (added c) .raster-of .ensures
-
--- what the calls answered is the table and the run of the picture
-worked : (c : tie.After-run) → Ready (p c) (k c) (added c .add-strip .result .rec) (c .run .result)
-worked c = ready (p c) (k c) (raster-is c) (added c .add-strip .ensures) (c .run .ensures)
 
 raster-of-requires : tie.Need-raster-of-requires
 raster-of-requires c κs = search needs
@@ -78,17 +78,32 @@ refused-requires c κs = search needs
 returns : tie.Need-returns
 returns c =
     let t = c .before in
-    ready-refused (worked (ran-refused t)) (c .refused .ensures) (t .if1 .taken)
+    let r = ran-refused t in
+    let w = ready (p r) (k r) (raster-is r) (added r .add-strip .ensures) (r .run .ensures) in
+    ready-refused w (c .refused .ensures) (t .if1 .taken)
+
+slice-aggregate-work-run : tie.Need-slice-aggregate-work-run
+slice-aggregate-work-run c = search needs
+
+slice-aggregate-work-run-2 : tie.Need-slice-aggregate-work-run-2
+slice-aggregate-work-run-2 c = search needs
+
+slice-aggregate-work-run-3 : tie.Need-slice-aggregate-work-run-3
+slice-aggregate-work-run-3 c = search needs
 
 work-run-requires : tie.Need-work-run-requires
 work-run-requires c κs =
-    let w = worked (ran c) in
-    (ready-count w (c .if1 .left), ready-room w (c .if1 .left))
+    let e = shared c in
+    let r = ran e in
+    let w = ready (p r) (k r) (raster-is r) (added r .add-strip .ensures) (r .run .ensures) in
+    (ready-count w (e .if1 .left), ready-room w (e .if1 .left))
 
 returns-2 : tie.Need-returns-2
 returns-2 c =
-    let e = c .before in
-    ready-made (worked (ran e)) (c .work-run .ensures) (raster-is (ran e)) (e .if1 .left)
+    let e = shared (c .before) in
+    let r = ran e in
+    let w = ready (p r) (k r) (raster-is r) (added r .add-strip .ensures) (r .run .ensures) in
+    ready-made w (c .work-run .ensures) (raster-is r) (e .if1 .left)
 
 pub work-picture-spec : {M : Type 1} → statement M
 work-picture-spec =
@@ -105,5 +120,8 @@ work-picture-spec =
     run-requires
     refused-requires
     returns
+    slice-aggregate-work-run
+    slice-aggregate-work-run-2
+    slice-aggregate-work-run-3
     work-run-requires
     returns-2)

@@ -11,27 +11,27 @@ use Rattle.listing_work.proofs.picture.work_run.Statement.{statement}
 use Rattle.listing_work.proofs.picture.work_run.Tie as tie
 
 -- where the function begins
-abbrev st : tie.After-palette-from-shades → tie.Start
-st c = c .before .before .before .before .before
+abbrev st : tie.After-palette-from-groups → tie.Start
+st c = c .before .before .before .before .before .before .before .before
 
 -- where the palette is made
-abbrev made : tie.After-map-strip → tie.After-palette-from-shades
+abbrev made : tie.After-map-strip → tie.After-palette-from-groups
 made c = c .before .before .before .before
 
 mul-n : tie.Need-mul-n
 mul-n c = search needs
 
 array-share-prefix-shades : tie.Need-array-share-prefix-shades
-array-share-prefix-shades c = c .before .before .pre .1
+array-share-prefix-shades c = c .before .before .before .before .before .pre .1
 
-slice-aggregate-palette-from-shades : tie.Need-slice-aggregate-palette-from-shades
-slice-aggregate-palette-from-shades c = sym (length-take-le _ _ (c .before .before .before .pre .1))
+slice-aggregate-palette-from-groups : tie.Need-slice-aggregate-palette-from-groups
+slice-aggregate-palette-from-groups c = sym (length-take-le _ _ (c .before .before .before .before .before .before .pre .1))
 
-slice-aggregate-palette-from-shades-2 : tie.Need-slice-aggregate-palette-from-shades-2
-slice-aggregate-palette-from-shades-2 c = search needs
+slice-aggregate-palette-from-groups-2 : tie.Need-slice-aggregate-palette-from-groups-2
+slice-aggregate-palette-from-groups-2 c = search needs
 
-palette-from-shades-requires : tie.Need-palette-from-shades-requires
-palette-from-shades-requires c κs = search needs
+palette-from-groups-requires : tie.Need-palette-from-groups-requires
+palette-from-groups-requires c κs = search needs
 
 array-share-prefix-palette : tie.Need-array-share-prefix-palette
 array-share-prefix-palette c = search needs
@@ -39,7 +39,7 @@ array-share-prefix-palette c = search needs
 slice-aggregate-map-strip : tie.Need-slice-aggregate-map-strip
 slice-aggregate-map-strip c =
     let m = c .before .before in
-    let long = m .palette-from-shades .kept .1 .0 ∙ length-replicate {A = ℕ} 192 0 in
+    let long = m .palette-from-groups .kept .1 .1 .1 .1 .1 .0 ∙ length-replicate {A = ℕ} 192 0 in
     sym (length-take-le _ _ (omega (arith, long, st m .pre .0)))
 
 slice-aggregate-map-strip-2 : tie.Need-slice-aggregate-map-strip-2
@@ -51,15 +51,15 @@ map-strip-requires c κs = search needs
 bit-requires : tie.Need-bit-requires
 bit-requires c κs = search needs
 
-cast-t23 : tie.Need-cast-t23
-cast-t23 c = search needs
+cast-t26 : tie.Need-cast-t26
+cast-t26 c = search needs
 
 returns : tie.Need-returns
 returns c =
     let m = c .before .before in
     let a = st (made m) .args in
-    run-left (now (a .raster)) (a .rec) (a .ran) (a .count) (made m .palette-from-shades .ensures)
-    (m .map-strip .ensures) (c .bit .ensures .0)
+    run-left (now (a .raster)) (a .rec) (now (a .keys)) (now (a .weights)) (a .ran) (now (a .members)) (a .count)
+    (made m .palette-from-groups .ensures) (m .map-strip .ensures) (c .bit .ensures .0)
 
 pub work-run-spec : {M : Type 1} → statement M
 work-run-spec =
@@ -67,13 +67,13 @@ work-run-spec =
     (tie.spec
     mul-n
     array-share-prefix-shades
-    slice-aggregate-palette-from-shades
-    slice-aggregate-palette-from-shades-2
-    palette-from-shades-requires
+    slice-aggregate-palette-from-groups
+    slice-aggregate-palette-from-groups-2
+    palette-from-groups-requires
     array-share-prefix-palette
     slice-aggregate-map-strip
     slice-aggregate-map-strip-2
     map-strip-requires
     bit-requires
-    cast-t23
+    cast-t26
     returns)
