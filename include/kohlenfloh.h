@@ -42,7 +42,7 @@ extern "C" {
 #endif
 
 /* The version of the library that this header belongs to. */
-#define KF_VERSION "0.4.0"
+#define KF_VERSION "0.5.0"
 
 /* The refusals. */
 enum kf_refusal {
@@ -58,7 +58,7 @@ enum kf_refusal {
     KF_SHORT_ROOM = 7,   /* members fewer than the used entries; totals fewer than the round limit (100 for 0); palette
                             bytes fewer than 3 for each shade; or the stretch past the end of the index picture */
     KF_BAD_CENTRE = 8,   /* a coordinate above 4080 */
-    KF_BAD_MEMBER = 9,   /* a used entry's former shade number not below the count */
+    KF_BAD_MEMBER = 9,   /* a used entry's shade number not below the count */
     KF_BAD_PALETTE = 10, /* palette bytes not 3 to 192 or not a multiple of 3 */
     KF_MANY_PIXELS = 11, /* mapping over 16,777,216 pixels */
     KF_BAD_HEADER = 12,  /* a byte of the header cannot stand where it does, or the input ends early */
@@ -104,8 +104,8 @@ static inline const char *kf_refusal_sentence(uint32_t number)
                "isn't that of the used entries";
     case KF_FULL: return "the next pixel meets a total of 16,777,216, or is a new colour with no room";
     case KF_BAD_COUNT:
-        return "shades not 1 to 64; for a single round or a palette from shades, coordinates not 3 to 192 or not a "
-               "multiple of 3";
+        return "shades not 1 to 64; for a single round or a palette from shades or groups, coordinates not 3 to 192 or "
+               "not a multiple of 3";
     case KF_FEW_COLOURS: return "a run wants more shades than used entries";
     case KF_BAD_LIMIT: return "round limit above 200";
     case KF_SHORT_ROOM:
@@ -113,7 +113,7 @@ static inline const char *kf_refusal_sentence(uint32_t number)
                "fewer than 3 for each shade; or the stretch's first place plus the strip's pixels above the index "
                "length";
     case KF_BAD_CENTRE: return "a coordinate above 4080";
-    case KF_BAD_MEMBER: return "a used entry's former shade number not below the count";
+    case KF_BAD_MEMBER: return "a used entry's shade number not below the count";
     case KF_BAD_PALETTE: return "palette bytes not 3 to 192 or not a multiple of 3";
     case KF_MANY_PIXELS: return "mapping over 16,777,216 pixels";
     case KF_BAD_HEADER:
@@ -199,10 +199,27 @@ uint32_t kf_run(const uint64_t record[KF_RECORD_PLACES], const uint32_t *keys, s
                 size_t weights_len, size_t count, size_t limit, uint32_t *members, size_t members_len, uint64_t *totals,
                 size_t totals_len, uint32_t shades[KF_MOST_COORDINATES], uint64_t answer[KF_RUN_PLACES]);
 
-/* The palette of some shades: three bytes each, in whole levels. The count is a third of coordinates_len; of a run's
- * shades lend the first 3 * count coordinates. Palette bytes past the last shade's stay.
+/* The palette of some shades: three bytes each, in whole levels, (coordinate + 8) / 16. The count is a third of
+ * coordinates_len; of a run's shades lend the first 3 * count coordinates. Palette bytes past the last shade's stay.
+ * After a run kf_palette_from_groups is the one to use: the run has rounded its means to sixteenths, and to round these
+ * again can leave a level one too high.
  * Refuses, in this order: KF_BAD_COUNT, KF_BAD_CENTRE, KF_SHORT_ROOM. */
 uint32_t kf_palette_from_shades(const uint32_t *coordinates, size_t coordinates_len, uint8_t *palette,
+                                size_t palette_len);
+
+/* The palette of a run, rounded once: three bytes a shade, in each channel the level nearest to the exact mean of the
+ * shade's group, halves up. The group of shade q is the used entries whose member is q; with W the sum of their weights
+ * and S that of weight times level, the byte is (2 S + W) / (2 W). A shade with no group has (coordinate + 8) / 16, as
+ * by kf_palette_from_shades.
+ * Lend table, members and shades as the run left them, of the shades the first 3 * count coordinates: the count is a
+ * third of coordinates_len. The members are taken as they are, whichever round or caller they come from; those past the
+ * used entries are not looked at. Reads record, keys, weights, coordinates, members. Writes palette; its bytes past the
+ * last shade's stay.
+ * Refuses, in this order: KF_BAD_TABLE, KF_BAD_COUNT, KF_BAD_CENTRE (also where the shade has a group), KF_SHORT_ROOM
+ * (members fewer than the used entries, or palette bytes fewer than 3 for each shade), KF_BAD_MEMBER. */
+uint32_t kf_palette_from_groups(const uint64_t record[KF_RECORD_PLACES], const uint32_t *keys, size_t keys_len,
+                                const uint32_t *weights, size_t weights_len, const uint32_t *coordinates,
+                                size_t coordinates_len, const uint32_t *members, size_t members_len, uint8_t *palette,
                                 size_t palette_len);
 
 /* The places of the answer of kf_map_strip. */

@@ -59,6 +59,10 @@ static void short_round(void) {
 
 static void palette_from_shades(void) { refusal = kf_palette_from_shades(shades, 192, palette, 192); }
 
+static void palette_from_groups(void) {
+    refusal = kf_palette_from_groups(record, keys, PIXELS, weights, PIXELS, shades, 192, members, PIXELS, palette, 192);
+}
+
 static void map_strip(void) {
     uint64_t answer[KF_MAP_STRIP_PLACES];
     double means[KF_MAP_STRIP_MEAN_PLACES];
@@ -97,6 +101,7 @@ int main(void) {
         {"kf_plain_round", plain_round},
         {"kf_short_round", short_round},
         {"kf_palette_from_shades", palette_from_shades},
+        {"kf_palette_from_groups", palette_from_groups},
         {"kf_map_strip", map_strip},
     };
     size_t idle, i;

@@ -18,7 +18,7 @@
 //! assert_eq!((ran.rounds, ran.settled, ran.shades[3]), (2, true, 160));
 //!
 //! let (mut palette, mut index) = ([0; 6], [0; 4]);
-//! calls::palette_from_shades(&ran.shades[..6], &mut palette)?;
+//! calls::palette_from_groups(record, &keys, &weights, &ran.shades[..6], &members, &mut palette)?;
 //! assert_eq!(calls::map_strip(&strip, &palette, &mut index, 0)?.error, 0);
 //! assert_eq!(index, [0, 0, 0, 1]);
 //! # Ok(())
@@ -209,7 +209,8 @@ pub fn run(
     })
 }
 
-/// The palette of some shades, three bytes each; bytes past the last shade's stay.
+/// The palette of some shades, three bytes each; bytes past the last shade's stay. After a run, [`palette_from_groups`]
+/// is the one to use, as it rounds once.
 ///
 /// # Refusals
 /// BAD COUNT, BAD CENTRE, SHORT ROOM.
@@ -218,6 +219,61 @@ pub fn palette_from_shades(coordinates: &[u32], palette: &mut [u8]) -> Result<()
     // SAFETY: each pointer and length is that of a slice of this call, and the palette is exclusive.
     let number =
         unsafe { kf_palette_from_shades(coordinates.as_ptr(), coordinates.len(), palette.as_mut_ptr(), palette.len()) };
+    answer_to(number, 0)
+}
+
+/// The palette of a run, three bytes a shade, each the level nearest to the exact mean of the shade's group, halves up;
+/// bytes past the last shade's stay. The group of a shade is the used entries whose member is its number. A shade with
+/// no group is rounded from its coordinates, as by [`palette_from_shades`]. The members are taken as they are, and those
+/// past the used entries are not looked at.
+///
+/// ```
+/// use kohlenfloh::{calls, Record, RunOptions};
+///
+/// # fn main() -> Result<(), kohlenfloh::Refusal> {
+/// // 17 pixels (10,0,0) and 15 pixels (11,0,0): the mean is 10 and 15/32.
+/// let (record, keys, weights) = (Record::new(2, 32, [335, 0, 0]), [655_360, 720_896], [17, 15]);
+/// let (mut members, mut totals) = ([0; 2], [0; RunOptions::USUAL_LIMIT]);
+/// let ran = calls::run(record, &keys, &weights, 1, 0, &mut members, &mut totals)?;
+/// assert_eq!(ran.shades[..3], [168, 0, 0]);
+///
+/// let mut palette = [9; 4];
+/// calls::palette_from_groups(record, &keys, &weights, &ran.shades[..3], &members, &mut palette)?;
+/// assert_eq!(palette, [10, 0, 0, 9]);
+/// calls::palette_from_shades(&ran.shades[..3], &mut palette)?;
+/// assert_eq!(palette, [11, 0, 0, 9]);
+/// # Ok(())
+/// # }
+/// ```
+///
+/// # Refusals
+/// BAD TABLE; BAD COUNT; BAD CENTRE, also where the shade has a group; SHORT ROOM, for members fewer than the used
+/// entries or palette bytes fewer than 3 for each shade; BAD MEMBER.
+#[inline]
+pub fn palette_from_groups(
+    record: Record,
+    keys: &[u32],
+    weights: &[u32],
+    coordinates: &[u32],
+    members: &[u32],
+    palette: &mut [u8],
+) -> Result<(), Refusal> {
+    // SAFETY: each pointer and length is that of a slice or array of this call, and the palette is exclusive.
+    let number = unsafe {
+        kf_palette_from_groups(
+            &record.to_array(),
+            keys.as_ptr(),
+            keys.len(),
+            weights.as_ptr(),
+            weights.len(),
+            coordinates.as_ptr(),
+            coordinates.len(),
+            members.as_ptr(),
+            members.len(),
+            palette.as_mut_ptr(),
+            palette.len(),
+        )
+    };
     answer_to(number, 0)
 }
 

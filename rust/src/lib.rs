@@ -29,8 +29,11 @@
 //! assert!(run.settled);
 //! assert_eq!((run.rounds, run.distances, run.total), (2, 5, 0));
 //!
-//! // One shade is (40,0,0) in sixteenths of a level. Its palette is (3,0,0), in whole levels.
-//! let palette = table.run(RunOptions::shades(1))?.shades.palette()?;
+//! // One shade is (40,0,0) in sixteenths of a level. Its palette is (3,0,0): in each channel the whole level nearest to
+//! // the mean of its group, halves up.
+//! let run = table.run(RunOptions::shades(1))?;
+//! assert_eq!(run.shades.coordinates(), [40, 0, 0]);
+//! let palette = table.palette_from_groups(&run.shades, &run.members)?;
 //! assert_eq!(palette.bytes(), [3, 0, 0]);
 //!
 //! // Each pixel gets the number of its nearest palette entry; the error is the sum of squared level differences.
@@ -58,6 +61,7 @@
 //! | [`Table::run`] | 4 BAD COUNT, 5 FEW COLOURS, 6 BAD LIMIT |
 //! | [`Table::plain_round`] | 7 SHORT ROOM |
 //! | [`Table::short_round`] | 7 SHORT ROOM, 9 BAD MEMBER |
+//! | [`Table::palette_from_groups`] | 7 SHORT ROOM, 9 BAD MEMBER |
 //! | [`Shades::palette`] | none |
 //! | [`Palette::map`] | 1 BAD STRIP, 11 MANY PIXELS |
 //! | [`Palette::map_into`] | 1 BAD STRIP, 11 MANY PIXELS, 7 SHORT ROOM |

@@ -1,10 +1,13 @@
 //! The palette: the shades in whole levels, to which pixels are mapped.
+use crate::calls;
 use crate::refusal::Refusal;
+use crate::shades::Shades;
+use crate::table::Table;
 
 /// A palette of 1 to 64 entries, three bytes R, G, B each.
 ///
-/// [`Shades::palette`](crate::Shades::palette) makes it from shades, [`Palette::from_bytes`] from bytes that were
-/// stored. Equal entries are allowed; a pixel then gets the lower number.
+/// [`Table::palette_from_groups`] makes it from what a run leaves, [`Shades::palette`] from shades alone, and
+/// [`Palette::from_bytes`] from bytes that were stored. Equal entries are allowed; a pixel then gets the lower number.
 ///
 /// ```
 /// use kohlenfloh::Palette;
@@ -74,5 +77,37 @@ impl Palette {
     /// A palette whose bytes are known to be good, or are about to be tested.
     pub(crate) fn held(bytes: Vec<u8>) -> Palette {
         Palette { bytes }
+    }
+}
+
+impl Table {
+    /// The palette of a run of this table: each shade in whole levels, in each channel the level nearest to the exact
+    /// mean of the shade's group, halves up. The group of a shade is the entries whose member is its number. A shade
+    /// with no group is rounded from its coordinates, as by [`Shades::palette`].
+    ///
+    /// Shades and members are those that the run left. They are taken as they are: nothing tests that they belong
+    /// together. Members past the used entries are not looked at.
+    ///
+    /// ```
+    /// use kohlenfloh::{RunOptions, Table};
+    ///
+    /// // 17 pixels (10,0,0) and 15 pixels (11,0,0): the mean is 10 and 15/32, nearer to 10 than to 11. The nearest
+    /// // sixteenth is 168, as near to 11 as to 10.
+    /// let mut table = Table::with_room(2);
+    /// table.add(&[[10, 0, 0].repeat(17), [11, 0, 0].repeat(15)].concat())?;
+    /// let run = table.run(RunOptions::shades(1))?;
+    /// assert_eq!(run.shades.coordinates(), [168, 0, 0]);
+    /// assert_eq!(table.palette_from_groups(&run.shades, &run.members)?.bytes(), [10, 0, 0]);
+    /// assert_eq!(run.shades.palette()?.bytes(), [11, 0, 0]);
+    /// # Ok::<(), kohlenfloh::Refusal>(())
+    /// ```
+    ///
+    /// # Refusals
+    /// SHORT ROOM, for members fewer than the used entries; BAD MEMBER.
+    pub fn palette_from_groups(&self, shades: &Shades, members: &[u32]) -> Result<Palette, Refusal> {
+        let coordinates = shades.coordinates();
+        let mut bytes = vec![0; coordinates.len()];
+        calls::palette_from_groups(self.record(), self.keys(), self.weights(), coordinates, members, &mut bytes)?;
+        Ok(Palette::held(bytes))
     }
 }

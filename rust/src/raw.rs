@@ -141,6 +141,21 @@ extern "C" {
         palette_len: usize,
     ) -> u32;
 
+    /// The palette of a run, three bytes a shade, each rounded once from the shade's group.
+    pub fn kf_palette_from_groups(
+        record: *const [u64; KF_RECORD_PLACES],
+        keys: *const u32,
+        keys_len: usize,
+        weights: *const u32,
+        weights_len: usize,
+        coordinates: *const u32,
+        coordinates_len: usize,
+        members: *const u32,
+        members_len: usize,
+        palette: *mut u8,
+        palette_len: usize,
+    ) -> u32;
+
     /// Maps a strip into its stretch of the index picture.
     pub fn kf_map_strip(
         strip: *const u8,

@@ -70,7 +70,7 @@ pub struct Round {
 #[derive(Clone, Debug, PartialEq, Eq)]
 #[non_exhaustive]
 pub struct Run {
-    /// The shades as the last round left them.
+    /// The shades as the last round left them. [`Table::palette_from_groups`] gives them in whole levels.
     pub shades: Shades,
     /// The number of the shade that each used entry joined in the last round.
     pub members: Vec<u32>,

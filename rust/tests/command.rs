@@ -106,7 +106,8 @@ fn a_picture_of_several_strips_is_mapped_as_a_whole() {
     let input = [b"P6 1999 1501 255\n".as_slice(), &raster].concat();
     let mut table = Table::with_room(raster.len() / 3);
     table.add(&raster).unwrap();
-    let mapped = table.run(RunOptions::shades(5)).unwrap().shades.palette().unwrap().map(&raster).unwrap();
+    let found = table.run(RunOptions::shades(5)).unwrap();
+    let mapped = table.palette_from_groups(&found.shades, &found.members).unwrap().map(&raster).unwrap();
 
     let output = run(&["shades", "5", "--index", &folder.path("index.pgm")], &input);
     assert!(printed(&output).contains(&format!("\ncolours            {}\n", table.used())));
@@ -124,7 +125,7 @@ fn the_average_colour_is_the_nearest_level_halves_up() {
         (&[0, 254, 7, 0, 255, 8, 0, 255, 8, 1, 255, 7], "0  255  8  #00ff08"),
         (&[255, 255, 255], "255  255  255  #ffffff"),
         (&[0, 0, 0, 0, 0, 0, 0, 0, 0, 10, 0, 0], "3  0  0  #030000"),
-        // Rounded to sixteenths and then to levels it would be 11, as the one shade is.
+        // Rounded to sixteenths and then to levels it would be 11.
         (&sheet_h, "10  0  0  #0a0000"),
     ];
     for (raster, average) in cases {
@@ -133,7 +134,7 @@ fn the_average_colour_is_the_nearest_level_halves_up() {
         assert!(printed(&output).contains(&format!("\naverage colour     {average}\n")), "{}", printed(&output));
     }
     let picture = [b"P6 32 1 255 ".as_slice(), &sheet_h].concat();
-    assert!(printed(&run(&["shades", "1"], &picture)).contains("\n    0   11    0    0  #0b0000        32   100.00\n"));
+    assert!(printed(&run(&["shades", "1"], &picture)).contains("\n    0   10    0    0  #0a0000        32   100.00\n"));
 }
 
 #[test]

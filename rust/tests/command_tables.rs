@@ -184,6 +184,7 @@ fn the_help_tells_of_every_option_and_of_what_is_refused() {
         "shade,red,green,blue,hex,pixels,share,used",
         "picture, width, height, pixels, colours, average (an object with red, green, blue and hex), shades, in_use",
         "the average colour is that of the picture: in each channel the level nearest to the mean of all pixels",
+        "The levels of a shade are rounded alike, once, from the mean of the pixels whose colours the last round put",
         "rounds, settled, distances",
         "final_total, error, mean_square_error",
         "version, toolchain, proof and sources",

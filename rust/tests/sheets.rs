@@ -37,8 +37,11 @@ fn sheet_b_one_shade() {
 
 #[test]
 fn sheet_c_its_palette_and_figures() {
-    let palette = table_of(&RASTER).run(RunOptions::shades(1)).unwrap().shades.palette().unwrap();
+    let table = table_of(&RASTER);
+    let run = table.run(RunOptions::shades(1)).unwrap();
+    let palette = table.palette_from_groups(&run.shades, &run.members).unwrap();
     assert_eq!(palette.bytes(), [3, 0, 0]);
+    assert_eq!(run.shades.palette(), Ok(palette.clone()));
     let mapped = palette.map(&RASTER).unwrap();
     assert_eq!(mapped.index, [0; 4]);
     assert_eq!(mapped.figures.error, 76);
@@ -92,12 +95,18 @@ fn sheet_g_a_distance_of_exactly_four_times() {
 }
 
 #[test]
-fn sheet_h_a_mean_that_is_rounded_twice() {
-    let table = table_of(&pixels_of((17, [10, 0, 0]), (15, [11, 0, 0])));
+fn sheet_h_a_mean_that_is_rounded_twice_and_once() {
+    let raster = pixels_of((17, [10, 0, 0]), (15, [11, 0, 0]));
+    let table = table_of(&raster);
     let run = table.run(RunOptions::shades(1)).unwrap();
     assert_eq!(run.shades.shade(0), Some([168, 0, 0]));
-    assert_eq!(run.shades.palette().unwrap().entry(0), Some([11, 0, 0]));
-    // The average is rounded once, from 335 / 32.
+    let twice = run.shades.palette().unwrap();
+    assert_eq!(twice.entry(0), Some([11, 0, 0]));
+    assert_eq!(twice.map(&raster).unwrap().figures.error, 17);
+    // Once, from 335 / 32; the average is rounded so too.
+    let once = table.palette_from_groups(&run.shades, &run.members).unwrap();
+    assert_eq!(once.entry(0), Some([10, 0, 0]));
+    assert_eq!(once.map(&raster).unwrap().figures.error, 15);
     assert_eq!(table.average(), Some([10, 0, 0]));
 }
 

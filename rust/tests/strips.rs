@@ -32,6 +32,12 @@ fn run_of(raster: &[u8]) -> Run {
     table_in_strips(raster, raster.len()).run(RunOptions::shades(17).limit(40)).unwrap()
 }
 
+/// The palette of that run.
+fn palette_of(raster: &[u8]) -> Palette {
+    let (table, run) = (table_in_strips(raster, raster.len()), run_of(raster));
+    table.palette_from_groups(&run.shades, &run.members).unwrap()
+}
+
 #[test]
 fn a_table_in_strips_equals_the_whole() {
     let raster = raster_of(20_000);
@@ -62,7 +68,7 @@ fn the_sums_are_those_of_the_pixels_however_they_are_cut() {
 #[test]
 fn a_mapping_in_strips_equals_the_whole() {
     let raster = raster_of(20_000);
-    let palette = run_of(&raster).shades.palette().unwrap();
+    let palette = palette_of(&raster);
     let whole = palette.map(&raster).unwrap();
     for pixels in [1, 777, 4096, 19_999] {
         let (index, error) = mapped_in_strips(&palette, &raster, pixels);
@@ -86,7 +92,7 @@ fn a_stored_table_is_the_table() {
 
 #[test]
 fn a_palette_maps_its_own_bytes_without_error() {
-    let palette = run_of(&raster_of(5000)).shades.palette().unwrap();
+    let palette = palette_of(&raster_of(5000));
     let mapped = palette.map(palette.bytes()).unwrap();
     assert_eq!(mapped.figures.error, 0);
     assert!(mapped.index.into_iter().map(|number| palette.entry(number.into()).unwrap()).eq(palette.entries()));

@@ -105,11 +105,13 @@ used being true or false; and made, which holds version, toolchain, proof and
 sources.
 
 On the order sheet, the average colour is that of the picture: in each channel
-the level nearest to the mean of all pixels, halves up. \"settled\" means that
-the last round moved no shade. The error is the sum of squared level differences
-between the picture and its shades, and the mean square error is the error
-divided by the pixels. Shares and the mean square error are rounded to two
-digits by whole-number arithmetic, halves up.
+the level nearest to the mean of all pixels, halves up. The levels of a shade
+are rounded alike, once, from the mean of the pixels whose colours the last
+round put in its group. \"settled\" means that the last round moved no shade.
+The error is the sum of squared level differences between the picture and its
+shades, and the mean square error is the error divided by the pixels. Shares
+and the mean square error are rounded to two digits by whole-number arithmetic,
+halves up.
 
 Exit status
    0  done

@@ -47,7 +47,7 @@ pub fn find(table: &Table, wanted: usize, limit: usize, tell: impl Fn(usize)) ->
             Err(refusal) if unmet.tried.is_empty() => return Err(refusal.into()),
             Err(_) => return Err(Failed::Unmet(unmet)),
         };
-        let in_use = in_use(&run.shades.palette()?, &colours)?;
+        let in_use = in_use(&table.palette_from_groups(&run.shades, &run.members)?, &colours)?;
         if in_use == wanted {
             return Ok(run);
         }

@@ -54,7 +54,7 @@ fn make<'a>(table: &mut Table, input: &'a [u8], options: &Options) -> Result<Wor
     }
     let average = table.average().expect("a picture has a pixel");
     let run = run_of(table, options, &progress)?;
-    let palette = run.shades.palette()?;
+    let palette = table.palette_from_groups(&run.shades, &run.members)?;
     let mut index = vec![0; picture.pixels()];
     let mut error = 0;
     for (number, strip) in strips.clone().enumerate() {
