@@ -1,6 +1,6 @@
 //! How the proved library's costs grow: each job at three sizes of what it grows with.
 use crate::jobs::rounds::{self, Kind, State};
-use crate::jobs::{mapping, tables, ACCEPTED};
+use crate::jobs::{mapping, palettes, tables, ACCEPTED};
 use crate::pictures::{self, Picture};
 use crate::race::{figure, race, timed, Pace};
 use crate::table::Table;
@@ -46,6 +46,11 @@ fn round(pace: Pace, kind: Kind, table: &Table, before: &State) -> f64 {
     best(pace, &mut || rounds::one(before, |shades, members| rounds::proved_round(table, kind, shades, members)).0)
 }
 
+/// The palette from the groups of a state.
+fn from_groups(pace: Pace, table: &Table, after: &State) -> f64 {
+    best(pace, &mut || palettes::once(palettes::proved, table, after).0)
+}
+
 /// Mapping a strip to a palette.
 fn map(pace: Pace, strip: &[u8], palette: &[u8]) -> f64 {
     let mut index = vec![1; strip.len() / 3];
@@ -62,7 +67,7 @@ fn with_pixels(pace: Pace, sides: [usize; 3]) {
         let all = sides.map(|side| paint(side / part));
         let name = &all[0].name;
         row("table, one strip", &format!("pixels of a {name}"), "pixel", [0, 1, 2].map(|size| fill(pace, &all[size])));
-        let palette = rounds::palette(&tables::table_of(&all[0]), 16);
+        let palette = palettes::palette(&tables::table_of(&all[0]), 16);
         let mapped = |picture: &Picture| (picture.pixels() as f64, map(pace, &picture.raster, &palette));
         row("mapping, k = 16", &format!("pixels of a {name}"), "pixel", [0, 1, 2].map(|size| mapped(&all[size])));
     }
@@ -81,6 +86,8 @@ fn with_colours(pace: Pace, sides: [usize; 3]) {
     row("plain round, k = 16", "colours", "colour", at(Kind::Plain, 10));
     row("short round 1, k = 16", "colours", "colour", at(Kind::First, 0));
     row("late short round, k = 16", "colours", "colour", at(Kind::Late, 10));
+    let made = sized(&|table| from_groups(pace, table, &rounds::state(table, 16, 10)));
+    row("palette from groups, k = 16", "colours", "colour", made);
 }
 
 /// The jobs that grow with shades.
@@ -95,7 +102,9 @@ fn with_shades(pace: Pace, side: usize) {
         row("plain round", &colours, "shade", at(Kind::Plain, 10));
         row("short round 1", &colours, "shade", at(Kind::First, 0));
         row("late short round", &colours, "shade", at(Kind::Late, 10));
-        let palette = |count: usize| rounds::palette(&table, count);
+        let made = sized(&|count| from_groups(pace, &table, &rounds::state(&table, count, 10)));
+        row("palette from groups", &colours, "shade", made);
+        let palette = |count: usize| palettes::palette(&table, count);
         let pixels = format!("entries, a {}", picture.name);
         row("mapping", &pixels, "entry", sized(&|count| map(pace, &picture.raster, &palette(count))));
     }

@@ -13,12 +13,12 @@ mod race;
 mod table;
 
 use jobs::rounds::Kind;
-use jobs::{mapping, rounds, tables};
+use jobs::{mapping, palettes, rounds, tables};
 use pictures::Picture;
 use race::Pace;
 use table::Table;
 
-/// The counts of shades of runs and of mapping.
+/// The counts of shades of runs, of palettes and of mapping.
 const COUNTS: [usize; 3] = [8, 16, 64];
 
 /// The heading of the table of jobs.
@@ -83,7 +83,10 @@ fn every_job(pace: Pace, picture: &Picture) {
         rounds::whole(pace, picture, &table, count, 20);
     }
     for count in COUNTS {
-        mapping::whole(pace, picture, &rounds::palette(&table, count));
+        palettes::from_groups(pace, picture, &table, count);
+    }
+    for count in COUNTS {
+        mapping::whole(pace, picture, &palettes::palette(&table, count));
     }
     mapping::read(pace, picture);
 }
@@ -105,7 +108,7 @@ fn write_all(pictures: &[Picture], folder: &str) -> std::io::Result<()> {
                 rounds::starts(&table, count).chunks(3).map(|s| format!("{} {} {}\n", s[0], s[1], s[2])).collect();
             std::fs::write(format!("{folder}/{}-{count}.starts", picture.name), starts)?;
             let mut bytes = format!("P6\n{count} 1\n255\n").into_bytes();
-            bytes.extend(rounds::palette(&table, count));
+            bytes.extend(palettes::palette(&table, count));
             std::fs::write(format!("{folder}/{}-{count}.ppm", picture.name), bytes)?;
         }
     }

@@ -68,6 +68,15 @@ pub struct Palette {
     pub palette: Vec<u8>,
 }
 
+/// A palette from groups.
+#[derive(Clone, Debug)]
+pub struct PaletteFromGroups {
+    pub table: Table,
+    pub coordinates: Vec<u32>,
+    pub members: Vec<u32>,
+    pub palette: Vec<u8>,
+}
+
 /// Mapping a strip into its stretch of the index picture.
 #[derive(Clone, Debug)]
 pub struct Map {

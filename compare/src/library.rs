@@ -2,7 +2,7 @@
 #![allow(unsafe_code)]
 use kohlenfloh::raw;
 
-use crate::ask::{Add, Map, Palette, Picture, Round, Run, Search, Table};
+use crate::ask::{Add, Map, Palette, PaletteFromGroups, Picture, Round, Run, Search, Table};
 use crate::guarded::Guarded;
 use crate::outcome::{Difference, Outcome, Values};
 
@@ -140,6 +140,34 @@ pub fn palette(ask: &Palette) -> Seen {
         raw::kf_palette_from_shades(coordinates.begin(), coordinates.len(), palette.begin_mut(), palette.len())
     };
     coordinates.as_before(&ask.coordinates)?;
+    Ok(Outcome { refusal, fields: vec![("palette", Values::Bytes(palette.taken_back()?))] })
+}
+
+/// `kf_palette_from_groups`.
+pub fn palette_from_groups(ask: &PaletteFromGroups) -> Seen {
+    let (record, keys, weights) = lent(&ask.table);
+    let coordinates = Guarded::new("coordinates", &ask.coordinates, WORD);
+    let members = Guarded::new("members", &ask.members, WORD);
+    let mut palette = Guarded::new("palette", &ask.palette, BYTE);
+    // SAFETY: the pointers are those of live, apart buffers of the lengths told.
+    let refusal = unsafe {
+        raw::kf_palette_from_groups(
+            record.begin().cast(),
+            keys.begin(),
+            keys.len(),
+            weights.begin(),
+            weights.len(),
+            coordinates.begin(),
+            coordinates.len(),
+            members.begin(),
+            members.len(),
+            palette.begin_mut(),
+            palette.len(),
+        )
+    };
+    kept(&ask.table, (record, keys, weights))?;
+    coordinates.as_before(&ask.coordinates)?;
+    members.as_before(&ask.members)?;
     Ok(Outcome { refusal, fields: vec![("palette", Values::Bytes(palette.taken_back()?))] })
 }
 

@@ -3,7 +3,7 @@
 use std::fs;
 use std::path::Path;
 
-use compare::make::listing::{inputs, settling_in_thirty, stored};
+use compare::make::listing::{inputs, settling_in_thirty, sheet_h, stored};
 use compare::model::slip::{ListingSlip, LISTING_SLIPS};
 use compare::model::Model;
 
@@ -35,6 +35,9 @@ fn the_stored_listings_are_the_models() {
         "a tie",
         "an empty group",
         "other pixels mapped than grouped",
+        "a mean that is a level higher where it is rounded twice",
+        "a group's mean at a half",
+        "a shade with no group",
         "a malformed count line",
         "a malformed count line on a long input",
         "a long input",
@@ -65,6 +68,16 @@ fn every_slip_of_the_listing_shows_in_a_stored_one() {
     for slip in LISTING_SLIPS {
         assert!(printed(&mut Model::default(), Some(slip)) != stored, "{slip:?}");
     }
+}
+
+#[test]
+fn sheet_h_is_listed_as_level_10_with_an_error_of_15() {
+    let due = Model::default().listing(&sheet_h(), None);
+    assert_eq!(String::from_utf8_lossy(&due), "2 32 1 1 2048 2\n0 10 0 0 32\n15\n");
+    let twice = Model::default().listing(&sheet_h(), Some(ListingSlip::TakesThePaletteFromShades));
+    assert!(twice.ends_with(b"\n0 11 0 0 32\n17\n"), "{}", String::from_utf8_lossy(&twice));
+    let after = Model::default().listing(&settling_in_thirty(), None);
+    assert!(file("listing_many", "stdout").ends_with(&[due, after].concat()));
 }
 
 #[test]

@@ -26,15 +26,21 @@ fn due_in(slip: Slip) -> &'static [&'static str] {
         Slip::LeavesWeightsOutOfShadeZero => &["run"],
         Slip::TakesALimitOfZeroAsTwenty | Slip::TakesALimitOfZeroAsNinetyNine => &["run"],
         Slip::ReadsShadeZeroWithoutHalvesUp => &["run"],
-        Slip::TakesAnyRedSum => &["add", "rounds", "run", "tables"],
-        Slip::SwapsGreenAndBlueSums | Slip::LeavesWeightsOutOfTheSums => &["add", "rounds", "run", "strips", "tables"],
+        Slip::TakesAnyRedSum => &["add", "rounds", "run", "groups", "tables"],
+        Slip::SwapsGreenAndBlueSums | Slip::LeavesWeightsOutOfTheSums => {
+            &["add", "rounds", "run", "groups", "strips", "tables"]
+        }
         Slip::SumsPixelsThatWereNotTaken | Slip::KeepsTheSumsOfTheRecordBefore => &["add", "strips", "tables"],
         Slip::TakesTheHighestNumberAtATie => &["rounds", "run", "map", "strips"],
-        Slip::CutsPaletteBytes => &["palette"],
+        Slip::CutsPaletteBytes => &["palette", "groups"],
         Slip::PutsTheOffsetOneTooFar => &["picture"],
         Slip::EndsACommentAtLfAlone | Slip::TakesACommentAfterTheDepth => &["picture"],
         Slip::TellsAnUnendedCommentAtItsHash | Slip::TakesAHashBeforeTheLetters => &["picture"],
         Slip::AsksForAWhiteByteBeforeAComment | Slip::SkipsTheByteAfterAComment => &["picture"],
+        Slip::RoundsALevelTwice | Slip::CutsAMean | Slip::LeavesWeightsOutOfALevel => &["groups"],
+        Slip::TakesTheNearestColoursForAGroup | Slip::KeepsTheOldRuleForEveryShade => &["groups"],
+        Slip::AcceptsAMemberAtTheCount | Slip::LooksAtMembersPastTheUsedOnes => &["groups"],
+        Slip::TestsNoCentreOfAShadeWithAGroup | Slip::TestsTheRoomBeforeTheCentres => &["groups"],
     }
 }
 

@@ -1,4 +1,5 @@
-//! The sums of the groups, and the move of the shades to their groups' rounded means.
+//! The sums of the groups, the move of the shades to their groups' rounded means, and these in whole levels.
+use super::palette::level_of;
 use super::Point;
 
 /// Some shades, with their count.
@@ -60,15 +61,26 @@ impl Groups {
         sums[1] -= weight * ((key as u64 & 255) << 32 | 1);
     }
 
+    /// The pixels of a group and its sums of R, G and B.
+    fn sums_of(&self, number: usize) -> (u64, [u64; 3]) {
+        let [first, second] = self.sums[number];
+        (second & 0xffff_ffff, [first >> 32, first & 0xffff_ffff, second >> 32])
+    }
+
+    /// The levels nearest to a group's mean; none for an empty group.
+    pub fn levels(&self, number: usize) -> Option<[u8; 3]> {
+        let (pixels, sums) = self.sums_of(number);
+        (pixels > 0).then(|| sums.map(|sum| level_of(sum, pixels)))
+    }
+
     /// Moves each shade with a group to its rounded mean: how many moved.
     pub fn move_shades(&self, shades: &mut Shades) -> u64 {
         let count = shades.count;
         let mut moved = 0;
-        for (sums, shade) in self.sums.iter().zip(&mut shades.at[..count]) {
-            let pixels = sums[1] & 0xffff_ffff;
+        for (number, shade) in shades.at[..count].iter_mut().enumerate() {
+            let (pixels, sums) = self.sums_of(number);
             if pixels > 0 {
-                let levels = [sums[0] >> 32, sums[0] & 0xffff_ffff, sums[1] >> 32];
-                let mean = levels.map(|sum| ((32 * sum + pixels) / (2 * pixels)) as i32);
+                let mean = sums.map(|sum| ((32 * sum + pixels) / (2 * pixels)) as i32);
                 moved += (mean != *shade) as u64;
                 *shade = mean;
             }

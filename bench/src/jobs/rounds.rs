@@ -46,11 +46,11 @@ pub fn proved_round(table: &Table, kind: Kind, coordinates: &mut [u32], members:
     [round.total, round.moved, round.distances]
 }
 
-/// What stands before a round: the shades' coordinates, and the members.
+/// What stands before a round, or after a run: the shades' coordinates, and the members.
 #[derive(Clone)]
 pub struct State {
-    coordinates: Vec<u32>,
-    members: Vec<u32>,
+    pub coordinates: Vec<u32>,
+    pub members: Vec<u32>,
 }
 
 /// The state after so many rounds of a run; after none, starting shades and every colour in shade 0.
@@ -128,12 +128,4 @@ pub fn whole(pace: Pace, picture: &Picture, table: &Table, count: usize, limit: 
     let [rounds, ..] = proved().1.answer;
     let unit = ("colour and round", table.used() as f64 * rounds as f64);
     row(&format!("run, limit {limit}, k = {count}"), &picture.name, unit, &times, "first round in blocks, sums go on");
-}
-
-/// The palette of a run at limit 20.
-pub fn palette(table: &Table, count: usize) -> Vec<u8> {
-    let (_, done) = proved_run(table, count, 20);
-    let mut palette = vec![0; 3 * count];
-    calls::palette_from_shades(&done.shades[..3 * count], &mut palette).expect(ACCEPTED);
-    palette
 }

@@ -74,13 +74,20 @@ fn long(count: &str, bytes: usize) -> Vec<u8> {
     [&short[..place], &blanks, &short[place..]].concat()
 }
 
-/// The inputs that are stored: the scope's example first, the run that would go on to a thirtieth round last.
+/// Sheet H: 17 pixels (10,0,0) and 15 of (11,0,0), listed as one shade.
+pub fn sheet_h() -> Vec<u8> {
+    input("1", (32, 1), &[[10, 0, 0].repeat(17), [11, 0, 0].repeat(15)].concat())
+}
+
+/// The inputs that are stored: the scope's example first; sheet H, and the run that would go on to a thirtieth round,
+/// last.
 pub fn inputs() -> Vec<Vec<u8>> {
     let example = input("2", (2, 2), &[0, 0, 0, 0, 0, 0, 0, 0, 0, 10, 0, 0]);
     let long_and_malformed = long("2x", MOST_INPUT + 1);
     let mut inputs =
         vec![example, unsettled(9, 24), unsettled(16, 20), long_and_malformed, long("1", MOST_INPUT + 1), Vec::new()];
     inputs.extend((0..300).map(|case| by_chance(&mut Chance::of_case(11, case))));
+    inputs.push(sheet_h());
     inputs.push(settling_in_thirty());
     inputs
 }

@@ -4,7 +4,7 @@ use kohlenfloh::Record;
 use super::run::limit_meant;
 use super::slip::ListingSlip;
 use super::{when, Model, BAD_COUNT, BAD_SIZE};
-use crate::ask::{Add, Map, Palette, Run, Table};
+use crate::ask::{Add, Map, Palette, PaletteFromGroups, Run, Table};
 use crate::outcome::Outcome;
 
 /// "an input over 65,536 bytes is BAD SIZE"
@@ -82,13 +82,23 @@ impl Model {
         Ok(Table::left_by(&added))
     }
 
+    /// "The listing program takes this palette" (document 02), the one from groups.
+    fn palette_to_list(&mut self, run: &Run, ran: &Outcome, slip: Option<ListingSlip>) -> Result<Vec<u8>, u32> {
+        let coordinates = ran.words("shades")[..3 * run.count].to_vec();
+        let (members, palette) = (ran.words("members").to_vec(), vec![0; coordinates.len()]);
+        let made = if slip == Some(ListingSlip::TakesThePaletteFromShades) {
+            self.palette(&Palette { coordinates, palette })
+        } else {
+            self.palette_from_groups(&PaletteFromGroups { table: run.table.clone(), coordinates, members, palette })
+        };
+        Ok(accepted(made)?.bytes("palette").to_vec())
+    }
+
     /// "line 1 gives table colours, pixels, rounds, settled as 1 or 0, final total, distances; one line a shade gives
     /// number, R, G, B, pixels mapped to it; the last line is the mapping error."
     fn tell(&mut self, raster: &[u8], run: &Run, ran: &Outcome, slip: Option<ListingSlip>) -> Result<String, u32> {
         let slips = |one| slip == Some(one);
-        let coordinates = ran.words("shades")[..3 * run.count].to_vec();
-        let made = accepted(self.palette(&Palette { palette: vec![0; coordinates.len()], coordinates }))?;
-        let palette = made.bytes("palette").to_vec();
+        let palette = self.palette_to_list(run, ran, slip)?;
         let index = vec![0; raster.len() / 3];
         let mapped = accepted(self.map(&Map { strip: raster.to_vec(), palette: palette.clone(), index, first: 0 }))?;
         let answer = ran.longs("rounds, settled, distances, final total");

@@ -16,8 +16,14 @@ pub fn bad_palette(palette: &[u8]) -> Option<&'static str> {
 }
 
 impl Model {
-    /// "Palette from shades: 4, 8, 7." "Palette byte: the whole part of (coordinate + 8) / 16. Lent bytes past the last
-    /// shade's stay."
+    /// "Palette byte: the whole part of (coordinate + 8) / 16."
+    pub fn level_of(&mut self, coordinate: u32) -> u8 {
+        self.meet_if(coordinate % 16 == 8, "a coordinate half-way between levels");
+        let rounding = if self.slips(Slip::CutsPaletteBytes) { 0 } else { 8 };
+        ((coordinate + rounding) / 16) as u8
+    }
+
+    /// "Palette from shades: 4, 8, 7." "Lent bytes past the last shade's stay."
     pub fn palette(&mut self, ask: &Palette) -> Outcome {
         // "palette bytes fewer than 3 for each shade"
         let short = when(ask.palette.len() < ask.coordinates.len(), "palette bytes fewer than 3 a shade");
@@ -28,10 +34,8 @@ impl Model {
         ]);
         let mut palette = ask.palette.clone();
         if refusal == 0 {
-            let rounding = if self.slips(Slip::CutsPaletteBytes) { 0 } else { 8 };
-            for (byte, coordinate) in palette.iter_mut().zip(&ask.coordinates) {
-                *byte = ((coordinate + rounding) / 16) as u8;
-                self.meet_if(coordinate % 16 == 8, "a coordinate half-way between levels");
+            for (byte, &coordinate) in palette.iter_mut().zip(&ask.coordinates) {
+                *byte = self.level_of(coordinate);
             }
         }
         Outcome { refusal, fields: vec![("palette", Values::Bytes(palette))] }

@@ -40,7 +40,8 @@ pub fn coordinates_of(shades: &[Point]) -> Vec<u32> {
     shades.iter().flatten().map(|&coordinate| coordinate as u32).collect()
 }
 
-/// BAD COUNT: "for a single round or a palette from shades, coordinates not 3 to 192 or not a multiple of 3".
+/// BAD COUNT: "for a single round or a palette from shades, coordinates not 3 to 192 or not a multiple of 3"; for a
+/// palette from groups too, as it "refuses as a single round does" (document 02).
 pub fn bad_coordinates(coordinates: &[u32]) -> Option<&'static str> {
     match coordinates.len() {
         below if below < 3 => Some("fewer than 3 coordinates"),

@@ -26,10 +26,19 @@ pub enum Slip {
     TakesAHashBeforeTheLetters,
     AsksForAWhiteByteBeforeAComment,
     SkipsTheByteAfterAComment,
+    RoundsALevelTwice,
+    CutsAMean,
+    LeavesWeightsOutOfALevel,
+    TakesTheNearestColoursForAGroup,
+    KeepsTheOldRuleForEveryShade,
+    AcceptsAMemberAtTheCount,
+    LooksAtMembersPastTheUsedOnes,
+    TestsNoCentreOfAShadeWithAGroup,
+    TestsTheRoomBeforeTheCentres,
 }
 
 /// Every slip.
-pub const SLIPS: [Slip; 23] = [
+pub const SLIPS: [Slip; 32] = [
     Slip::SkipsAShadeAtExactlyFourD,
     Slip::RoundsMeansDown,
     Slip::RecordsTheTotalAfterTheMove,
@@ -53,6 +62,15 @@ pub const SLIPS: [Slip; 23] = [
     Slip::TakesAHashBeforeTheLetters,
     Slip::AsksForAWhiteByteBeforeAComment,
     Slip::SkipsTheByteAfterAComment,
+    Slip::RoundsALevelTwice,
+    Slip::CutsAMean,
+    Slip::LeavesWeightsOutOfALevel,
+    Slip::TakesTheNearestColoursForAGroup,
+    Slip::KeepsTheOldRuleForEveryShade,
+    Slip::AcceptsAMemberAtTheCount,
+    Slip::LooksAtMembersPastTheUsedOnes,
+    Slip::TestsNoCentreOfAShadeWithAGroup,
+    Slip::TestsTheRoomBeforeTheCentres,
 ];
 
 /// Slips of the listing program, which the calls of the library do not show.
@@ -64,14 +82,16 @@ pub enum ListingSlip {
     TestsTheLengthBeforeTheCountLine,
     ReadsNoByteMoreThanAnInputMayHave,
     TakesTheRunsGroupsForTheMappedPixels,
+    TakesThePaletteFromShades,
 }
 
 /// Every slip of the listing program.
-pub const LISTING_SLIPS: [ListingSlip; 6] = [
+pub const LISTING_SLIPS: [ListingSlip; 7] = [
     ListingSlip::RunsWithALimitOfTwo,
     ListingSlip::ListsByTheUsualLimit,
     ListingSlip::PrintsEveryRunAsSettled,
     ListingSlip::TestsTheLengthBeforeTheCountLine,
     ListingSlip::ReadsNoByteMoreThanAnInputMayHave,
     ListingSlip::TakesTheRunsGroupsForTheMappedPixels,
+    ListingSlip::TakesThePaletteFromShades,
 ];

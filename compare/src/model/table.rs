@@ -15,7 +15,7 @@ pub fn room(table: &Table) -> u128 {
 }
 
 /// R, G and B of a key, in whole levels.
-fn levels_of_key(key: u32) -> [u128; 3] {
+pub fn levels_of_key(key: u32) -> [u128; 3] {
     [key / 65536, key / 256 % 256, key % 256].map(u128::from)
 }
 
@@ -196,7 +196,7 @@ fn ways_untrue(told: [u128; 3], due: [u128; 3]) -> [(bool, &'static str); 9] {
 }
 
 /// The used entries of a good table: key and weight.
-fn used_entries(table: &Table) -> impl Iterator<Item = (u32, u32)> + '_ {
+pub fn used_entries(table: &Table) -> impl Iterator<Item = (u32, u32)> + '_ {
     let both = table.keys.iter().copied().zip(table.weights.iter().copied());
     both.take(table.used())
 }

@@ -3,13 +3,16 @@
 use kohlenfloh::Record;
 
 use super::Subject;
-use crate::ask::{Add, Map, Palette, Picture, Round, Run, Search, Table};
+use crate::ask::{Add, Map, Palette, PaletteFromGroups, Picture, Round, Run, Search, Table};
 use crate::bench::Bench;
 use crate::chance::Chance;
 use crate::library;
 use crate::make::shades;
 use crate::make::table::record_of;
-use crate::model::{Model, BAD_COUNT, BAD_LIMIT, BAD_SIZE, BAD_TABLE, FULL, MANY_PIXELS, MOST_SHADES, SHORT_ROOM};
+use crate::model::{
+    Model, BAD_CENTRE, BAD_COUNT, BAD_LIMIT, BAD_MEMBER, BAD_SIZE, BAD_TABLE, FULL, MANY_PIXELS, MOST_SHADES,
+    SHORT_ROOM,
+};
 use crate::outcome::{Difference, Outcome};
 
 const ENTRIES: usize = 1_048_576;
@@ -19,8 +22,17 @@ pub const SUBJECT: Subject = Subject {
     name: "boundaries",
     cases: 1,
     one_case,
-    meets: &["FULL by room", "FULL by pixels", "FULL with pixels taken", "mapping over 16,777,216 pixels"],
-    refuses: &[3, 4, 6, 7, 8, 11, 13, 15],
+    meets: &[
+        "FULL by room",
+        "FULL by pixels",
+        "FULL with pixels taken",
+        "mapping over 16,777,216 pixels",
+        "a group of 16,777,216 pixels",
+        "a group's mean at a half",
+        "a group's mean just below a half",
+        "a group's mean just above a half",
+    ],
+    refuses: &[3, 4, 6, 7, 8, 9, 11, 13, 15],
 };
 
 /// Every boundary once.
@@ -30,6 +42,9 @@ fn one_case(bench: &mut Bench, chance: &mut Chance) -> Result<(), Difference> {
     greatest_weights(bench)?;
     most_pixels(bench)?;
     greatest_sums(bench)?;
+    greatest_groups(bench)?;
+    halves_of_most_pixels(bench)?;
+    room_for_a_palette(bench)?;
     numbers_of_shades(bench, chance)?;
     numbers_of_rounds(bench, chance)?;
     rounds_past_the_usual_limit(bench)?;
@@ -87,10 +102,23 @@ fn on_most_entries(bench: &mut Bench, chance: &mut Chance, table: Table) -> Resu
         round.search = search;
         refused_by(0, bench.compare(&round, library::round, Model::round)?)?;
     }
+    let (coordinates, members) = (round.coordinates, round.members);
+    let mut ask = PaletteFromGroups { table: table.clone(), coordinates, members, palette: chance.bytes(192) };
+    palette(bench, 0, &ask)?;
+    *ask.members.last_mut().expect("there are members") = MOST_SHADES as u32;
+    palette(bench, BAD_MEMBER, &ask)?;
+    ask.members.pop();
+    palette(bench, SHORT_ROOM, &ask)?;
     let mut run = Run { table, count: 4, limit: 3, members: chance.words(ENTRIES), totals: vec![7; 3] };
     refused_by(0, bench.compare(&run, library::run, Model::run)?)?;
     run.members.pop();
     refused_by(SHORT_ROOM, bench.compare(&run, library::run, Model::run)?).map(drop)
+}
+
+/// A palette from groups that answers this number: its bytes then.
+fn palette(bench: &mut Bench, number: u32, ask: &PaletteFromGroups) -> Result<Vec<u8>, Difference> {
+    let seen = bench.compare(ask, library::palette_from_groups, Model::palette_from_groups)?;
+    Ok(refused_by(number, seen)?.bytes("palette").to_vec())
 }
 
 /// A table is bad for every call that takes one.
@@ -102,6 +130,13 @@ fn bad_for_all(bench: &mut Bench, table: &Table) -> Result<(), Difference> {
         let round = Round { search, table: table.clone(), coordinates, members };
         refused_by(BAD_TABLE, bench.compare(&round, library::round, Model::round)?)?;
     }
+    let of_groups = PaletteFromGroups {
+        table: table.clone(),
+        coordinates: vec![16; 6],
+        members: members.clone(),
+        palette: vec![5; 6],
+    };
+    palette(bench, BAD_TABLE, &of_groups)?;
     let run = Run { table: table.clone(), count: 2, limit: 1, members, totals: vec![7; 1] };
     refused_by(BAD_TABLE, bench.compare(&run, library::run, Model::run)?).map(drop)
 }
@@ -147,6 +182,64 @@ fn greatest_sums(bench: &mut Bench) -> Result<(), Difference> {
     Difference::unless_equal("greatest sums by one pixel", table.record.green, greatest)
 }
 
+/// A table of these entries, each a key and a weight.
+fn table_of(entries: impl Iterator<Item = (u32, u32)>) -> Table {
+    let (keys, weights): (Vec<u32>, Vec<u32>) = entries.unzip();
+    Table { record: record_of(&keys, &weights), keys, weights }
+}
+
+/// 16,777,216 pixels of level 255 in one group, by one entry and by many: the level is 255, and that of a shade with no
+/// group is its own.
+fn greatest_groups(bench: &mut Bench) -> Result<(), Difference> {
+    let one = table_of([(16_777_215, PIXELS as u32)].into_iter());
+    // All colours with R at 255, 65,536 of them; G and B have the mean 127 and a half.
+    let many = table_of((255 << 16..1 << 24).map(|key| (key, 256)));
+    for (table, levels) in [(one, [255; 3]), (many, [255, 128, 128])] {
+        for number in [0, 1, 63] {
+            let (coordinates, members) = (vec![40; 192], vec![number; table.used()]);
+            let ask = PaletteFromGroups { table: table.clone(), coordinates, members, palette: vec![9; 193] };
+            let mut due = [vec![3; 192], vec![9]].concat();
+            due[3 * number as usize..][..3].copy_from_slice(&levels);
+            Difference::unless_equal("the palette of one group", palette(bench, 0, &ask)?, due)?;
+        }
+    }
+    Ok(())
+}
+
+/// 16,777,216 pixels of two levels, as many of the one as of the other, and one more of either: a mean at a half goes up,
+/// and one that is just below it does not.
+fn halves_of_most_pixels(bench: &mut Bench) -> Result<(), Difference> {
+    let half = PIXELS as u32 / 2;
+    for (lower, level) in [(half - 1, 255), (half, 255), (half + 1, 254)] {
+        let table = table_of([(0xFE_FEFE, lower), (0xFF_FFFF, PIXELS as u32 - lower)].into_iter());
+        let ask = PaletteFromGroups { table, coordinates: vec![0; 3], members: vec![0; 2], palette: vec![7; 3] };
+        Difference::unless_equal("a level about a half", palette(bench, 0, &ask)?, vec![level; 3])?;
+    }
+    Ok(())
+}
+
+/// Members as many as used entries and one fewer, bytes 3 a shade and one fewer, a member at the count and below it, a
+/// coordinate of 4081: which refusal comes first of any that hold.
+fn room_for_a_palette(bench: &mut Bench) -> Result<(), Difference> {
+    for case in 0..16 {
+        let [short_members, short_bytes, at_count, high] = [1, 2, 4, 8].map(|bit| case & bit != 0);
+        let mut ask =
+            PaletteFromGroups { table: colours(9), coordinates: vec![16; 6], members: vec![1; 9], palette: vec![7; 6] };
+        ask.members[0] += u32::from(at_count);
+        ask.coordinates[5] = if high { 4081 } else { 4080 };
+        ask.members.truncate(9 - usize::from(short_members));
+        ask.palette.truncate(6 - usize::from(short_bytes));
+        let number = match (high, short_members || short_bytes, at_count) {
+            (true, _, _) => BAD_CENTRE,
+            (false, true, _) => SHORT_ROOM,
+            (false, false, true) => BAD_MEMBER,
+            (false, false, false) => 0,
+        };
+        palette(bench, number, &ask)?;
+    }
+    Ok(())
+}
+
 /// 16,777,216 pixels, all but a few of them in one strip: one more is not taken, none more is.
 fn most_pixels(bench: &mut Bench) -> Result<(), Difference> {
     let table = Table { record: record_of(&[9], &[2]), keys: vec![9, 0, 0, 8], weights: vec![2, 0, 0, 8] };
@@ -169,15 +262,22 @@ fn colours(count: usize) -> Table {
     Table { record: record_of(&keys, &weights), keys, weights }
 }
 
-/// 64 shades are accepted and 65 are not, by the run, by both rounds and by the palette.
+/// 64 shades are accepted and 65 are not, by the run, by both rounds and by both palettes.
 fn numbers_of_shades(bench: &mut Bench, chance: &mut Chance) -> Result<(), Difference> {
     for (count, number) in [(64, 0), (65, BAD_COUNT)] {
         let table = colours(100);
         let run = Run { table: table.clone(), count, limit: 0, members: chance.words(100), totals: vec![7; 100] };
         refused_by(number, bench.compare(&run, library::run, Model::run)?)?;
         let coordinates = shades::coordinates(chance, &[1, 2, 3], count);
-        let palette = Palette { coordinates: coordinates.clone(), palette: chance.bytes(195) };
-        refused_by(number, bench.compare(&palette, library::palette, Model::palette)?)?;
+        let of_shades = Palette { coordinates: coordinates.clone(), palette: chance.bytes(195) };
+        refused_by(number, bench.compare(&of_shades, library::palette, Model::palette)?)?;
+        let of_groups = PaletteFromGroups {
+            table: table.clone(),
+            coordinates: coordinates.clone(),
+            members: vec![count as u32 - 1; 100],
+            palette: chance.bytes(195),
+        };
+        palette(bench, number, &of_groups)?;
         for search in [Search::Plain, Search::Shortened] {
             let coordinates = coordinates.clone();
             let round = Round { search, table: table.clone(), coordinates, members: vec![count as u32 - 1; 100] };
@@ -227,10 +327,19 @@ fn most_coordinate(bench: &mut Bench) -> Result<(), Difference> {
         for coordinate in [4080, 4081] {
             let mut coordinates = vec![4080; 9];
             coordinates[place] = coordinate;
-            let palette = Palette { coordinates: coordinates.clone(), palette: vec![3; 9] };
-            bench.compare(&palette, library::palette, Model::palette)?;
+            let number = if coordinate > 4080 { BAD_CENTRE } else { 0 };
+            let of_shades = Palette { coordinates: coordinates.clone(), palette: vec![3; 9] };
+            refused_by(number, bench.compare(&of_shades, library::palette, Model::palette)?)?;
+            let of_groups = PaletteFromGroups {
+                table: colours(9),
+                coordinates: coordinates.clone(),
+                // Shades 0 and 2 have a group, and shade 1 has none.
+                members: vec![0, 2, 0, 2, 0, 2, 0, 2, 0],
+                palette: vec![3; 9],
+            };
+            palette(bench, number, &of_groups)?;
             let round = Round { search: Search::Plain, table: colours(9), coordinates, members: vec![0; 9] };
-            bench.compare(&round, library::round, Model::round)?;
+            refused_by(number, bench.compare(&round, library::round, Model::round)?)?;
         }
     }
     Ok(())

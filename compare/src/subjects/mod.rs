@@ -2,6 +2,7 @@
 //! meet on the way.
 mod add;
 mod boundaries;
+mod groups;
 mod map;
 mod netpbm;
 mod palette;
@@ -26,11 +27,12 @@ pub struct Subject {
 }
 
 /// Every subject.
-pub const SUBJECTS: [Subject; 10] = [
+pub const SUBJECTS: [Subject; 11] = [
     add::SUBJECT,
     rounds::SUBJECT,
     run::SUBJECT,
     palette::SUBJECT,
+    groups::SUBJECT,
     map::SUBJECT,
     picture::SUBJECT,
     strips::SUBJECT,

@@ -8,7 +8,7 @@ use std::process::{self, Command};
 use kohlenfloh::Record;
 
 use super::Subject;
-use crate::ask::{Add, Map, Palette, Picture, Run, Table};
+use crate::ask::{Add, Map, PaletteFromGroups, Picture, Run, Table};
 use crate::bench::Bench;
 use crate::chance::Chance;
 use crate::library;
@@ -137,14 +137,15 @@ fn listed(lines: &[u8]) -> Vec<(u32, u32)> {
     listed
 }
 
-/// The palette of a run's shades.
+/// The palette of a run's groups.
 fn palette_of(bench: &mut Bench, table: Table, count: usize) -> Result<Vec<u8>, Difference> {
     let members = vec![0; table.used()];
     let ask = Run { table, count, limit: 0, members, totals: vec![0; USUAL_LIMIT] };
     let run = bench.compare(&ask, library::run, Model::run)?;
-    let coordinates = run.words("shades")[..3 * count].to_vec();
-    let ask = Palette { coordinates, palette: vec![0; 3 * count] };
-    Ok(bench.compare(&ask, library::palette, Model::palette)?.bytes("palette").to_vec())
+    let (coordinates, members) = (run.words("shades")[..3 * count].to_vec(), run.words("members").to_vec());
+    let ask = PaletteFromGroups { table: ask.table, coordinates, members, palette: vec![0; 3 * count] };
+    let seen = bench.compare(&ask, library::palette_from_groups, Model::palette_from_groups)?;
+    Ok(seen.bytes("palette").to_vec())
 }
 
 /// The sum of squared differences of two rasters.

@@ -1,7 +1,7 @@
 //! Bad tables, their sums among what is bad, handed to every call that takes one: each refuses them before it tests
 //! anything else, but that a bad strip comes first. And the sums that adding leaves, beside those of the bytes taken.
 use super::Subject;
-use crate::ask::{Add, Round, Run, Search, Table};
+use crate::ask::{Add, PaletteFromGroups, Round, Run, Search, Table};
 use crate::bench::Bench;
 use crate::chance::Chance;
 use crate::library;
@@ -31,6 +31,7 @@ fn one_case(bench: &mut Bench, chance: &mut Chance) -> Result<(), Difference> {
     let strip = strip(chance, &levels, pixels);
     refused_by_adding(bench, chance, &bad, &strip)?;
     refused_by_rounds(bench, chance, &bad, &levels)?;
+    refused_by_a_palette(bench, chance, &bad, &levels)?;
     refused_by_a_run(bench, chance, bad)?;
     sums_of_bytes(bench, good, strip)
 }
@@ -66,6 +67,21 @@ fn refused_by_rounds(bench: &mut Bench, chance: &mut Chance, bad: &Table, levels
         refused(BAD_TABLE, bench.compare(&ask, library::round, Model::round)?)?;
     }
     Ok(())
+}
+
+/// A palette from groups, at times with bad coordinates, members or room too.
+fn refused_by_a_palette(bench: &mut Bench, chance: &mut Chance, bad: &Table, levels: &[u8]) -> Result<(), Difference> {
+    let count = shades::count(chance);
+    let mut coordinates = shades::coordinates(chance, levels, count);
+    let mut members = vec![chance.below(count + 1) as u32; bad.keys.len()];
+    let short = chance.below(2);
+    let palette = chance.bytes(3 * count - short);
+    if chance.one_in(3) {
+        shades::damage(chance, &mut coordinates);
+        members.pop();
+    }
+    let ask = PaletteFromGroups { table: bad.clone(), coordinates, members, palette };
+    refused(BAD_TABLE, bench.compare(&ask, library::palette_from_groups, Model::palette_from_groups)?)
 }
 
 /// A run, at times with a bad count, limit or room too.
