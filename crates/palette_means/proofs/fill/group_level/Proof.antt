@@ -4,8 +4,10 @@ use mathlib.Core.Path.{sym, _∙_}
 use native.Mathlib.Omega.{arith}
 use borrow.Author.Tests.{lt-ltb, le-ltb, eq-eqb, ne-eqb}
 use borrow.Author.Needs.{needs}
+use denote.Ref.{now}
 use Rattle.number.proofs.Means.{mean-below}
 use Rattle.colour.specs.{mostLevel, mostPixels}
+use Rattle.group_sums.specs.{groupPixels}
 use Rattle.group_sums.proofs.Parts.{mean-asked}
 use Rattle.palette_means.proofs.fill.group_level.Statement.{statement}
 use Rattle.palette_means.proofs.fill.group_level.Tie as tie
@@ -18,7 +20,7 @@ asked c =
     let p = c .before .before in
     let s = p .before .before .before in
     mean-asked (s .pre .0) (s .args .i % 3) (s .args .i / 3) (omega arith) (p .pixels-of .ensures)
-    (c .level-sum .ensures) (c .before .if2 .left)
+    (c .level-sum .ensures) (λ z. omega (arith, z, c .before .if2 .left))
 
 mul-level-of : tie.Need-mul-level-of
 mul-level-of c = search needs
@@ -66,7 +68,9 @@ returns-3 : tie.Need-returns-3
 returns-3 c =
     let e = c .before .before in
     let p = e .before in
-    let some = ne-eqb _ 0 (λ z. e .if2 .left (p .pixels-of .ensures ∙ z)) in
+    let s = p .before .before .before in
+    let pixels = groupPixels (now (s .args .sums)) (s .args .i / 3) in
+    let some = ne-eqb pixels 0 (λ z. omega (arith, z, p .pixels-of .ensures, asked (c .before) .0)) in
     rw (le-ltb _ _ (p .before .if1 .left), some, ← c .before .level-sum .ensures, ← p .pixels-of .ensures)
     (c .rounded-mean .ensures .0)
 

@@ -2,7 +2,9 @@
 use Prim.Native.Nat.{_-_, _≤_}
 use mathlib.Core.Path.{_≡_}
 use native.Mathlib.Omega.{arith}
+use lib.ListN.{getD}
 use denote.Ref.{now}
+use Rattle.colour.specs.{mostPixels}
 use Rattle.level_sums.proofs.Bounds.{weight-at-most}
 use Rattle.group_sums.specs.{Summed, memberAt}
 use Rattle.group_sums.proofs.Bounds.{raises-fit}
@@ -28,6 +30,11 @@ first c = c .before
 abbrev turn : tie.After-red-green Inv-loop μ-loop → tie.In-loop Inv-loop μ-loop
 turn c = c .before .before .before
 
+-- the weight of its entry is that of some pixels of a table
+weight-low : (c : tie.In-loop Inv-loop μ-loop)
+    → getD (now (st (c .before) .args .weights)) (c .before .loop .i) 0 ≤ mostPixels
+weight-low c = weight-at-most _ _ _ (st (c .before) .pre .0) _ (c .loop-test .taken)
+
 loop-holds : tie.Need-loop-holds Inv-loop μ-loop
 loop-holds c = (omega arith, rw (c .before .before .before .pre .2) (summed-none _ _ _))
 
@@ -44,14 +51,10 @@ shared-slice-read-key : tie.Need-shared-slice-read-key Inv-loop μ-loop
 shared-slice-read-key c = omega (arith, st (c .before .before .before) .pre .0 .keys-room)
 
 red-green-requires : tie.Need-red-green-requires Inv-loop μ-loop
-red-green-requires c κs =
-    let t = c .before .before in
-    weight-at-most _ _ _ (st (t .before) .pre .0) _ (t .loop-test .taken)
+red-green-requires c κs = omega (arith, weight-low (c .before .before))
 
 blue-pixels-requires : tie.Need-blue-pixels-requires Inv-loop μ-loop
-blue-pixels-requires c κs =
-    let t = turn c in
-    weight-at-most _ _ _ (st (t .before) .pre .0) _ (t .loop-test .taken)
+blue-pixels-requires c κs = omega (arith, weight-low (turn c))
 
 mul-raise : tie.Need-mul-raise Inv-loop μ-loop
 mul-raise c = omega arith
