@@ -15,7 +15,7 @@ use Rattle.p6.specs.{readPicture, rasterOf}
 use Rattle.texts.specs.{linesOf}
 use Rattle.listing_lines.specs.{mostText, refusedText, fieldAt}
 use Rattle.listing_test.specs.{smallRows}
-use Rattle.listing_work.specs.{listedLimit, tableOf, runOn, runTests, paletteOn, mappedRaster}
+use Rattle.listing_work.specs.{listedLimit, tableOf, runTests, paletteOn, mappedRaster}
 use Rattle.listing_work.proofs.Accepted as accepted
 use Rattle.listing_work.proofs.Mapped as mapped
 use Rattle.listing.specs.Refusals.{badLine, CountLine, countIn, pictureIn, inputRows, listingRows}

@@ -1,14 +1,13 @@
 -- What the calls leave of a picture: by what the tests said, and from what the calls answered.
-use Prim.Native.Nat.{ℕ, _*_, _/_, _≤_, _<_}
-use mathlib.Core.Bool.{true, false}
+use Prim.Native.Nat.{ℕ, _*_, _/_, _≤_}
 use mathlib.Core.List.{List}
 use mathlib.Core.Path.{_≡_, refl, sym, ap, _∙_}
 use lib.ListN.{length, take, replicate}
-use borrow.Author.Tests.{lt-ltb, le-ltb, ne-eqb}
+use borrow.Author.Tests.{ne-eqb}
 use Rattle.number.specs.{bit}
-use Rattle.refusal.specs.{Row, numberOf, done, firstOf, outcomeOf, Refuses, BAD-COUNT, BAD-SIZE}
+use Rattle.refusal.specs.{Row, done, firstOf, outcomeOf, Refuses}
 use Rattle.refusal.proofs.Promises.{done-exactly}
-use Rattle.refusal.proofs.Outcomes.{outcome-made, outcome-refused, refuses}
+use Rattle.refusal.proofs.Outcomes.{refuses}
 use Rattle.table.specs.{Record, Added, Outcome, AddMeets, emptyRecord, addStrip}
 use Rattle.shades.specs.{mostShades}
 use Rattle.lloyd.specs.{Ran, RunOutcome, RunMeets, AcceptedRun, runOf}

@@ -3,26 +3,16 @@ use Prim.Native.Nat.{ℕ, _-_, _≤_}
 use mathlib.Core.List.{List}
 use mathlib.Core.Path.{_≡_, ap, _∙_}
 use native.Mathlib.Omega.{arith}
-use lib.ListN.{length, getD}
+use lib.ListN.{length}
 use borrow.Rule.Slice.PartMut.{midOf, putMid, mid-len}
 use Rattle.number.specs.{fill, fillFrom}
 use Rattle.number.proofs.Fills.{fill-same}
 use Rattle.number.proofs.Parts.{stretch-filled}
-use Rattle.colour.specs.{Within, mostCoordinate}
-use Rattle.colour.proofs.Promises.{levels-most}
+use Rattle.colour.specs.{mostCoordinate}
 use Rattle.shades.specs.{levelsAt, packedNearest}
+use Rattle.shades.proofs.Laying.{levels-within}
 use Rattle.search_all.specs.{pointAt, PointsOnGrid, RoomFor}
 use Rattle.search_all.proofs.Layouts.{LaidOut, laid-out-ready}
-
--- the levels read from a key are those of a point on the grid
-levels-on-grid : (keys : List ℕ) (q : ℕ) → Within mostCoordinate (levelsAt keys q)
-levels-on-grid keys q =
-    let l = levels-most (getD keys q 0) in
-    record {
-      r-low = omega (arith, l .red-low);
-      g-low = omega (arith, l .green-low);
-      b-low = omega (arith, l .blue-low);
-    }
 
 -- keys laid out are what a search asks, into the first m places of d: it has room, and the colours are on the grid
 pub keys-ready : (keys : List ℕ) {reds greens blues : List ℕ} {m : ℕ} → LaidOut (levelsAt keys) m reds greens blues
@@ -30,7 +20,8 @@ pub keys-ready : (keys : List ℕ) {reds greens blues : List ℕ} {m : ℕ} → 
     → RoomFor (length (midOf 0 (m - 0) d)) reds greens blues
     × PointsOnGrid (length (midOf 0 (m - 0) d)) (pointAt reds greens blues)
 keys-ready keys {m = m} laid d h =
-    laid-out-ready laid (λ q l. levels-on-grid keys q) (length (midOf 0 (m - 0) d)) (omega (arith, mid-len 0 m d h))
+    laid-out-ready laid (λ q l. levels-within mostCoordinate (omega arith) keys q) (length (midOf 0 (m - 0) d))
+    (omega (arith, mid-len 0 m d h))
 
 -- the first m places of d, lent and filled with what a search of these colours finds, hold the nearest to the keys
 pub keys-searched : (s : List ℕ) (k : ℕ) (keys : List ℕ) {reds greens blues : List ℕ} {m : ℕ}

@@ -3,7 +3,7 @@
 use Prim.Native.Nat.{ℕ, _+_, _-_, _*_, _≤_}
 use mathlib.Core.Bool.{cond}
 use mathlib.Core.List.{List}
-use lib.ListN.{getD, length}
+use lib.ListN.{getD}
 use lib.Dec.{eqb}
 use Rattle.number.specs.{sum, Group, S, Q, roundedMean}
 use Rattle.colour.specs.{Point, Within, distance, mostCoordinate, mostPixels}

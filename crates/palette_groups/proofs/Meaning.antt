@@ -12,7 +12,7 @@ use Rattle.number.proofs.Cases.{neither, either-exactly}
 use Rattle.number.proofs.Fills.{fill-at, fill-kept, fill-at-most}
 use Rattle.number.proofs.Promises.{rounded-mean-is-nearest, nearest-only, rounded-mean-best}
 use Rattle.refusal.specs.{Refusal, numberOf, done, Refuses}
-use Rattle.refusal.proofs.Outcomes.{refuses, refuses-all}
+use Rattle.refusal.proofs.Outcomes.{refuses}
 use Rattle.colour.specs.{Point, Bytes, mostLevel}
 use Rattle.table_test.specs.{Record, badTable}
 use Rattle.shades.specs.{axis, coordinateOf, OnGrid}

@@ -77,7 +77,7 @@ module _ (rec : Record) (ks ws : List ℕ) (a : State) (d : List ℕ)
   groups-kept = meaning.groups-kept rec ks ws a d ok
 
   module _ (q e : ℕ) (few : q < length (a .coordinates) / 3) (channel : e < 3) where
-    -- Of a shade with no group, the byte of each channel is the level of its coordinate: the old rule.
+    -- Of a shade with no group, the byte of each channel is the level of its coordinate, as by a palette from shades.
     pub byte-of-none : W (channelGroup rec ks ws a q e) ≡ 0
         → getD (paletteFromGroups rec ks ws a d .palette) (3 * q + e) 0 ≡ levelOf (getD (a .coordinates) (3 * q + e) 0)
     byte-of-none = meaning.byte-of-none rec ks ws a d ok q e few channel

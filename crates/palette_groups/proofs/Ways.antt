@@ -1,13 +1,12 @@
 -- The ways out of the call: where it is refused and where the palette is made, it meets its contract.
-use Prim.Native.Nat.{ℕ, _*_, _/_, _≤_, _<_}
-use mathlib.Core.Bool.{true, false}
+use Prim.Native.Nat.{ℕ, _*_, _/_, _≤_}
+use mathlib.Core.Bool.{false}
 use mathlib.Core.List.{List}
 use mathlib.Core.Path.{_≡_, refl}
 use native.Mathlib.Omega.{arith}
 use lib.ListN.{length}
-use borrow.Author.Tests.{le-ltb, ltb-false}
-use Rattle.number.proofs.Cases.{neither}
-use Rattle.refusal.specs.{Refusal, numberOf, done, firstOf, NoneHolds}
+use borrow.Author.Tests.{ltb-false}
+use Rattle.refusal.specs.{Refusal, numberOf, done, firstOf}
 use Rattle.table_test.specs.{Record, badTable}
 use Rattle.table_entries.specs.{Tabled, mostEntries}
 use Rattle.shades.specs.{mostCoordinates, OnGrid, badCoordinates, badCentre}

@@ -9,10 +9,10 @@ use lib.ListN.{getD, length}
 use borrow.Author.Tests.{le-ltb}
 use Rattle.number.specs.{fill, S, roundedMean}
 use Rattle.number.proofs.Fills.{fill-same}
-use Rattle.colour.specs.{Point, Within, mostLevel}
+use Rattle.colour.specs.{Within, mostLevel}
 use Rattle.table_entries.specs.{Tabled}
-use Rattle.shades.specs.{mostShades, mostCoordinates, shadeAt, levelsAt, axis, coordinateOf, OnGrid}
-use Rattle.shades.proofs.Laying.{coordinate-read, coordinate-at}
+use Rattle.shades.specs.{mostShades, mostCoordinates, shadeAt, axis, coordinateOf, OnGrid}
+use Rattle.shades.proofs.Laying.{levels-within, coordinate-read, coordinate-at}
 use Rattle.method.specs.{Colours, State, levelColours, on, pixelsIn, groupAt, toMean}
 use Rattle.method.proofs.Axes.{choice-axis, to-mean-axis, mean-axis, sum-axis}
 use Rattle.method.proofs.Costs.{to-mean-moves, to-mean-stays, to-mean-within}
@@ -42,10 +42,6 @@ own-within s low q = record {
   g-low = level-most _ (low (3 * q + 1));
   b-low = level-most _ (low (3 * q + 2));
 }
-
--- and so are the levels of a colour
-levels-within : (ks : List ℕ) (i : ℕ) → Within mostLevel (levelsAt ks i)
-levels-within ks i = record { r-low = omega arith; g-low = omega arith; b-low = omega arith }
 
 -- ---- the entries
 
@@ -87,7 +83,9 @@ module _ (f used : ℕ) (ks ws : List ℕ) (a : State) where
       go : (b : Bool) → Within mostLevel (cond b (shadeLevels (a .coordinates) q)
           (toMean q (group q) (shadeLevels (a .coordinates) q)))
       go true = own
-      go false = to-mean-within mostLevel q (group q) (shadeLevels (a .coordinates) q) (levels-within ks) own
+      go false =
+          to-mean-within mostLevel q (group q) (shadeLevels (a .coordinates) q)
+          (levels-within mostLevel (omega arith) ks) own
 
   -- ---- by the sums of the groups
 

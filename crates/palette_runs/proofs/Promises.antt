@@ -29,11 +29,12 @@ module _ {rec : Record} {ks ws : List ℕ} {k limit : ℕ} {ms ts : List ℕ} {r
 
   -- No other level gives that group a smaller sum of squared level differences on this channel.
   pub run-byte-is-best : (q e : ℕ) → q < k → e < 3 → 0 < W (channelGroup rec ks ws (left r members) q e) → (z : ℕ)
-      → cost (channelGroup rec ks ws (left r members) q e) (getD (runPalette rec ks ws k r members d .palette) (3 * q + e) 0)
+      → cost (channelGroup rec ks ws (left r members) q e)
+      (getD (runPalette rec ks ws k r members d .palette) (3 * q + e) 0)
       ≤ cost (channelGroup rec ks ws (left r members) q e) z
   run-byte-is-best = runs.run-byte-best h d room
 
-  -- A shade with no group keeps the old rule.
+  -- A shade with no group has the level of its coordinate, as by a palette from shades.
   pub run-byte-of-none : (q e : ℕ) → q < k → e < 3 → W (channelGroup rec ks ws (left r members) q e) ≡ 0
       → getD (runPalette rec ks ws k r members d .palette) (3 * q + e) 0 ≡ levelOf (getD (r .shades) (3 * q + e) 0)
   run-byte-of-none = runs.run-byte-of-none h d room

@@ -48,7 +48,8 @@ module _ {rec : Record} {ks ws : List ℕ} {k limit : ℕ} {ms ts : List ℕ} {r
 
       -- no other level gives that group a smaller sum of squared differences
       pub run-byte-best : 0 < W (channelGroup rec ks ws (left r members) q e) → (z : ℕ)
-          → cost (channelGroup rec ks ws (left r members) q e) (getD (runPalette rec ks ws k r members d .palette) (3 * q + e) 0)
+          → cost (channelGroup rec ks ws (left r members) q e)
+          (getD (runPalette rec ks ws k r members d .palette) (3 * q + e) 0)
           ≤ cost (channelGroup rec ks ws (left r members) q e) z
       run-byte-best = byte-is-best rec ks ws (frontOf k (left r members)) d run-accepted q e third channel
 

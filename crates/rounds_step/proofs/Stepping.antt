@@ -15,7 +15,7 @@ use Rattle.group_sums.proofs.Parts.{measured}
 use Rattle.group_join.specs.{Grouped}
 use Rattle.moves.specs.{goes, stays}
 use Rattle.moves.proofs.Moving.{moves-laid, movers-are}
-use Rattle.rounds_step.specs.Meeting.{Steppable, Walkable, StepMeets}
+use Rattle.rounds_step.specs.Meeting.{Steppable, StepMeets}
 
 module _ {used : ℕ} {ks ws s : List ℕ} {k : ℕ} {before after t : List ℕ} {total : ℕ}
     (p : Steppable used ks ws k (stateOf s before)) (g : Grouped used ks ws s k before after total t) where

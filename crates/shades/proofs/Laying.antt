@@ -12,9 +12,10 @@ use borrow.Author.Tests.{eqb-true, eq-eqb}
 use Rattle.number.proofs.Cases.{both}
 use Rattle.number.proofs.Fills.{fill-at, fill-at-most, fill-length}
 use Rattle.number.proofs.Parts.{take-at-most}
-use Rattle.colour.specs.{Point, Within, mostCoordinate, mostDistance}
+use Rattle.colour.specs.{Point, Within, mostLevel, mostCoordinate, mostDistance}
 use Rattle.colour.proofs.Distances.{distance-most}
-use Rattle.shades.specs.Places.{shadeAt, axis, coordinateOf, laid, samePlace, OnGrid}
+use Rattle.colour.proofs.Promises.{levels-most}
+use Rattle.shades.specs.Places.{shadeAt, levelsAt, axis, coordinateOf, laid, samePlace, OnGrid}
 use Rattle.shades.specs.Distances.{toShade}
 
 -- a shade of coordinates on the grid is on the grid
@@ -24,6 +25,16 @@ shade-within s q low = record { r-low = low (3 * q); g-low = low (3 * q + 1); b-
 -- and no farther than the greatest distance from any point of the grid
 pub to-shade-most : (s : List ℕ) (c : Point) (q : ℕ) → OnGrid s → Within mostCoordinate c → toShade s c q ≤ mostDistance
 to-shade-most s c q low w = distance-most c (shadeAt s q) w (shade-within s q low)
+
+-- the levels of a colour are at most what 255 is
+pub levels-within : (m : ℕ) → mostLevel ≤ m → (ks : List ℕ) (i : ℕ) → Within m (levelsAt ks i)
+levels-within m h ks i =
+    let l = levels-most (getD ks i 0) in
+    record {
+      r-low = omega (arith, l .red-low);
+      g-low = omega (arith, l .green-low);
+      b-low = omega (arith, l .blue-low);
+    }
 
 -- each coordinate of a point is at most what all are
 pub axis-within : (m e : ℕ) (p : Point) → Within m p → axis e p ≤ m

@@ -25,7 +25,8 @@ array-share-prefix-shades : tie.Need-array-share-prefix-shades
 array-share-prefix-shades c = c .before .before .before .before .before .pre .1
 
 slice-aggregate-palette-from-groups : tie.Need-slice-aggregate-palette-from-groups
-slice-aggregate-palette-from-groups c = sym (length-take-le _ _ (c .before .before .before .before .before .before .pre .1))
+slice-aggregate-palette-from-groups c =
+    sym (length-take-le _ _ (c .before .before .before .before .before .before .pre .1))
 
 slice-aggregate-palette-from-groups-2 : tie.Need-slice-aggregate-palette-from-groups-2
 slice-aggregate-palette-from-groups-2 c = search needs
