@@ -7,8 +7,8 @@ use mathlib.Core.List.{List, [], _∷_}
 use mathlib.Core.Bool.{true}
 use mathlib.Core.Path.{_≡_, sym, _∙_}
 use lib.Ieee.{Float}
-use lib.ListN.{getD, length, replicate}
-use Rattle.number.specs.{sum}
+use lib.ListN.{getD, length, take, replicate}
+use Rattle.number.specs.{sum, W, S, Nearest}
 use Rattle.refusal.specs.{Refusal, numberOf, done}
 use Rattle.colour.specs.{Point, distance}
 use Rattle.shades.specs.{mostCoordinates, colourAt}
@@ -17,7 +17,7 @@ use Rattle.table.specs.{Record, handsBack, addStrip}
 use Rattle.method.specs.{Bounded, State, stateOf, coloursOf, groupAt, groupCost}
 use Rattle.lloyd.specs.{plainRound, shortRound, runOf}
 use Rattle.palette.specs.{PaletteMeets}
-use Rattle.palette_groups.specs.{paletteFromGroups}
+use Rattle.palette_groups.specs.{channelGroup, paletteFromGroups}
 use Rattle.palette_groups.proofs.Promises as groups
 use Rattle.mapping.specs.{mapStrip}
 use Rattle.p6_header.specs.{headerOf, offsetIn}
@@ -173,3 +173,18 @@ module _ (s ks ws : List ℕ) (k limit : ℕ) (ms ts : List ℕ) {members totals
       → Bounded (groupAt (coloursOf (recordIn s .used) ks ws) (stateOf shades members) q)
       (groupCost (coloursOf (recordIn s .used) ks ws) (stateOf shades members) q)
   group-bounded = runs.group-bounded s ks ws k limit ms ts h
+
+  -- The palette of what it leaves: kf_palette_from_groups on the same table, the first 3k of the coordinates and the
+  -- members, with three bytes for each shade.
+  module _ (d : List ℕ) {r : ℕ} {x : List ℕ} (room : 3 * k ≤ length d)
+      (p : PaletteMeets (paletteFromGroups (recordIn s) ks ws (stateOf (take (3 * k) shades) members) d) r x) where
+    -- It is never refused.
+    pub palette-accepted : r ≡ done
+    palette-accepted = runs.palette-accepted s ks ws k limit ms ts h d room p
+
+    -- In each channel of a shade with a group it has the level nearest to the exact mean of the group, a half going up.
+    pub palette-is-nearest : (q e : ℕ) → q < k → e < 3
+        → 0 < W (channelGroup (recordIn s) ks ws (stateOf shades members) q e)
+        → Nearest (W (channelGroup (recordIn s) ks ws (stateOf shades members) q e))
+        (S (channelGroup (recordIn s) ks ws (stateOf shades members) q e)) (getD x (3 * q + e) 0)
+    palette-is-nearest = runs.palette-is-nearest s ks ws k limit ms ts h d room p

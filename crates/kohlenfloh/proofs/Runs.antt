@@ -2,15 +2,18 @@
 -- array, where the rounds stand at place 0 and the final total at place 3.
 use Prim.Native.Nat.{ℕ, _+_, _-_, _*_, _≤_, _<_}
 use mathlib.Core.List.{List}
-use mathlib.Core.Path.{_≡_, refl, sym, ap}
-use lib.ListN.{getD}
-use Rattle.number.specs.{sum}
+use mathlib.Core.Path.{_≡_, refl, sym, ap, _∙_}
+use lib.ListN.{getD, length, take}
+use Rattle.number.specs.{sum, W, S, Nearest}
 use Rattle.refusal.specs.{done}
 use Rattle.colour.specs.{Point, distance}
 use Rattle.shades.specs.{colourAt}
 use Rattle.method.specs.{Bounded, coloursOf, stateOf, groupAt, groupCost}
 use Rattle.lloyd.specs.{Ran, AcceptedRun, runOf}
 use Rattle.lloyd.proofs.Promises as lloyd
+use Rattle.palette.specs.{PaletteMeets}
+use Rattle.palette_groups.specs.{channelGroup, paletteFromGroups}
+use Rattle.palette_runs.proofs.Promises.{run-palette-accepted, run-byte-is-nearest}
 use Rattle.arrays.specs.{recordIn}
 use Rattle.kohlenfloh.specs.Crossing.{RunCrosses}
 
@@ -53,3 +56,19 @@ module _ (s ks ws : List ℕ) (k limit : ℕ) (ms ts : List ℕ) {members totals
       → Bounded (groupAt (coloursOf (recordIn s .used) ks ws) (stateOf shades members) q)
       (groupCost (coloursOf (recordIn s .used) ks ws) (stateOf shades members) q)
   group-bounded q = rw (h .shades-are) (lloyd.group-bounded accepted q)
+
+  -- ---- its palette
+
+  module _ (d : List ℕ) {r : ℕ} {x : List ℕ} (room : 3 * k ≤ length d)
+      (p : PaletteMeets (paletteFromGroups (recordIn s) ks ws (stateOf (take (3 * k) shades) members) d) r x) where
+    -- it is not refused
+    pub palette-accepted : r ≡ done
+    palette-accepted = p .answer ∙ rw (h .shades-are) (run-palette-accepted accepted d room)
+
+    -- a shade with a group has the levels nearest to its exact mean
+    pub palette-is-nearest : (q e : ℕ) → q < k → e < 3
+        → 0 < W (channelGroup (recordIn s) ks ws (stateOf shades members) q e)
+        → Nearest (W (channelGroup (recordIn s) ks ws (stateOf shades members) q e))
+        (S (channelGroup (recordIn s) ks ws (stateOf shades members) q e)) (getD x (3 * q + e) 0)
+    palette-is-nearest q e few channel some =
+        rw (p .palette-is, h .shades-are) (run-byte-is-nearest accepted d room q e few channel some)
