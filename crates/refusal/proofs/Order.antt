@@ -2,7 +2,7 @@
 use mathlib.Core.Path.{_≡_, refl, sym, _∙_}
 use mathlib.Core.List.{List, [], _∷_, _++_}
 use mathlib.Core.Logic.{_↔_, _⊎_, inl, inr, ⊎-elim}
-use Rattle.number.proofs.Cases.{bool}
+use Rattle.number.proofs.Cases.{bool, never}
 use Rattle.refusal.specs.Numbers.{Refusal, numberOf, done}
 use Rattle.refusal.specs.Order.{Row, firstOf, Given, NoneHolds}
 use Rattle.refusal.proofs.Numbers.{number-only, number-not-done}
@@ -69,6 +69,17 @@ given-split (r ∷ rows) more n (inr (t, g)) = elim (given-split rows more n g) 
   | inl f ↦ inl (inr (t, f))
   | inr f ↦ inr ((t, f .0), f .1)
 ]
+
+-- behind rows of which none holds, what is given is given by the others
+pub given-behind : (rows more : List Row) (n : Refusal) → NoneHolds rows → Given (rows ++ more) n ↔ Given more n
+given-behind [] more n g = (λ h. h, λ h. h)
+given-behind (r ∷ rows) more n (t, g) = (
+  λ h. elim h [
+    | inl f ↦ never (sym (f .0) ∙ t)
+    | inr f ↦ given-behind rows more n g .0 (f .1)
+  ],
+  λ h. inr (t, given-behind rows more n g .1 h),
+)
 
 -- ---- one of the two
 

@@ -2,9 +2,9 @@
 -- made. Stated once for outcomes of any kind, with the place of the number in them.
 use Prim.Native.Nat.{ℕ}
 use mathlib.Core.Bool.{Bool, true, false, cond}
-use mathlib.Core.List.{List}
+use mathlib.Core.List.{List, [], _∷_, _++_}
 use mathlib.Core.Logic.{inl, inr}
-use mathlib.Core.Path.{_≡_, sym, _∙_}
+use mathlib.Core.Path.{_≡_, refl, sym, _∙_}
 use lib.Dec.{eqb}
 use borrow.Author.Tests.{eqb-true, ne-eqb}
 use Rattle.number.proofs.Cases.{bool}
@@ -50,6 +50,15 @@ module _ {A : Type 0} (rows : List Row) (made : A) (refused : ℕ → A) where
       by-refusal = outcome-refused;
       by-none = outcome-made;
     }
+
+-- rows and then more rows: the outcome by the first ones, where what is made is the outcome by the others
+pub outcome-joined : {A : Type 0} (rows more : List Row) (made : A) (left : ℕ → A)
+    → outcomeOf (rows ++ more) made left ≡ outcomeOf rows (outcomeOf more made left) left
+outcome-joined [] more made left = refl
+outcome-joined (r ∷ rows) more made left = elim (bool (r .when)) [
+  | inl t ↦ rw (t, ne-eqb (numberOf (r .gives)) done (number-not-done (r .gives)))
+  | inr t ↦ rw t (outcome-joined rows more made left)
+]
 
 -- whatever holds of what is made and of everything left holds of the outcome of a call that refuses by an order
 pub refuses-all : {A : Type 0} {rows : List Row} {outcome : A} {number : A → ℕ} {made : A} {left : ℕ → A}

@@ -18,8 +18,8 @@ number-only = numbers.number-only
 pub number-not-done : (a : Refusal) → ¬ (numberOf a ≡ done)
 number-not-done = numbers.number-not-done
 
--- The numbers go up to 15.
-pub number-most : (a : Refusal) → numberOf a ≤ 15
+-- The numbers go up to 18.
+pub number-most : (a : Refusal) → numberOf a ≤ 18
 number-most = numbers.number-most
 
 -- A refusal's number is answered exactly when its row is the first whose test holds.

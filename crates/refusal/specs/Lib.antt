@@ -1,5 +1,5 @@
 -- Glossary.
---   Refusal            the refusals by name: BAD-STRIP, BAD-TABLE, .., BAD-RASTER
+--   Refusal            the refusals by name: BAD-STRIP, BAD-TABLE, .., BAD-RASTER, TWIN-SHADE
 --   numberOf refusal   its number, from 1 on
 --   done               0, the answer where nothing is refused
 --   Row, row t r       a row of an order: the test t, and the refusal r given where it holds
@@ -29,6 +29,7 @@ pub use Numbers.{
   BAD-SIZE,
   BAD-DEPTH,
   BAD-RASTER,
+  TWIN-SHADE,
 }
 unfoldable pub use Order.{row, firstOf, outcomeOf, Given, NoneHolds}
 pub use Order.{Row}

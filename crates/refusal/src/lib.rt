@@ -1,7 +1,7 @@
 // The refusals by number and name, and "the first test that holds".
 // A call answers the number of the first row of its order whose test holds; DONE where none does.
 //
-//    1 BAD STRIP       6 BAD LIMIT      11 MANY PIXELS
+//    1 BAD STRIP       6 BAD LIMIT      11 MANY PIXELS    18 TWIN SHADE
 //    2 BAD TABLE       7 SHORT ROOM     12 BAD HEADER
 //    3 FULL            8 BAD CENTRE     13 BAD SIZE
 //    4 BAD COUNT       9 BAD MEMBER     14 BAD DEPTH
@@ -43,3 +43,5 @@ pub const BAD_SIZE: u8 = 13;
 pub const BAD_DEPTH: u8 = 14;
 
 pub const BAD_RASTER: u8 = 15;
+
+pub const TWIN_SHADE: u8 = 18;
