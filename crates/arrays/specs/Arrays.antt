@@ -9,6 +9,7 @@ use Rattle.lloyd.specs.{Rounded, Ran}
 use Rattle.figures.specs.declared.Mean.{Mean}
 use Rattle.figures.specs.declared.Mean.the-variants.{NoPixels, Value}
 use Rattle.figures.specs.{zeroFigure, meanNumber}
+use Rattle.palette_twins.specs.{Twins}
 use Rattle.mapping.specs.{Mapped}
 use Rattle.p6.specs.{Picture}
 
@@ -34,9 +35,16 @@ roundNumbers r = r .total ∷ r .moved ∷ r .distances ∷ []
 abbrev pub runNumbers : Ran → List ℕ
 runNumbers r = r .rounds ∷ bit (r .settled) ∷ r .distances ∷ r .total ∷ []
 
--- the errors of a mapping: the whole, R, G, B; then 1 where there is a mean, 0 for "no pixels"
+-- the errors of a mapping: the whole, R, G, B; then 1 where there is a mean, 0 for "no pixels"; then the lower and the
+-- higher number of the twins
 abbrev pub mapNumbers : Mapped → List ℕ
-mapNumbers r = r .error ∷ r .errors .red ∷ r .errors .green ∷ r .errors .blue ∷ meanNumber (r .mean) ∷ []
+mapNumbers r =
+    r .error ∷ r .errors .red ∷ r .errors .green ∷ r .errors .blue ∷ meanNumber (r .mean) ∷ r .twins .lower
+    ∷ r .twins .higher ∷ []
+
+-- the twins in that answer
+abbrev pub twinsIn : List ℕ → Twins
+twinsIn s = record { lower = getD s 5 0; higher = getD s 6 0 }
 
 -- a mean's figure, zero for "no pixels"
 abbrev pub figureIn : Mean → Float

@@ -5,7 +5,8 @@
 //   record_left       the record that an add leaves, as an array
 //   round_numbers     the answer of a round                                round.rt
 //   run_numbers       that of a run, its shades apart
-//   map_numbers       the errors of a mapping, and whether it has a mean   picture.rt
+//   map_numbers       the errors of a mapping, whether it has a mean, and  picture.rt
+//                     the twins
 //   map_figures       its figures: the mean, and those of R, G and B
 //   picture_numbers   the answer of a reading
 //

@@ -26,18 +26,22 @@ fn figure_in(mean: Mean) -> f64
     }
 }
 
-// The errors of a mapping: the whole, that of R, of G and of B; then 1 where there is a mean.
-pub fn map_numbers(a: Mapped) -> [u64; 5]
+// The errors of a mapping: the whole, that of R, of G and of B; then 1 where there is a mean, and
+// the lower and the higher number of the twins.
+pub fn map_numbers(a: Mapped) -> [u64; 7]
     ensures { λ r. ⌜ r ≡ mapNumbers a ⌝ }
 {
     let mean = a.mean;
     let errors = a.errors;
+    let twins = a.twins;
     [
         a.error,
         errors.red,
         errors.green,
         errors.blue,
         has_mean(mean),
+        twins.lower as u64,
+        twins.higher as u64,
     ]
 }
 

@@ -1,7 +1,7 @@
 -- What is shown of the boundary, each theorem in full; its body names the proof.
 -- A contract here is that of the call beneath (AddCrosses, RoundCrosses and so on, specs/Crossing.antt): the number is
 -- the refusal of its outcome, and slices and arrays are those of its outcome. Which outcome that is, and what is shown
--- of it, stands in the promises of table, lloyd, palette, palette_groups, mapping and p6.
+-- of it, stands in the promises of table, lloyd, palette, palette_groups, palette_twins, mapping and p6.
 use Prim.Native.Nat.{ℕ, _+_, _-_, _*_, _≤_, _<_}
 use mathlib.Core.List.{List, [], _∷_}
 use mathlib.Core.Bool.{true}
@@ -9,7 +9,7 @@ use mathlib.Core.Path.{_≡_, sym, _∙_}
 use lib.Ieee.{Float}
 use lib.ListN.{getD, length, take, replicate}
 use Rattle.number.specs.{sum, W, S, Nearest}
-use Rattle.refusal.specs.{Refusal, numberOf, done}
+use Rattle.refusal.specs.{Refusal, numberOf, done, TWIN-SHADE}
 use Rattle.colour.specs.{Point, distance}
 use Rattle.shades.specs.{mostCoordinates, colourAt}
 use Rattle.figures.specs.{zeroFigure}
@@ -19,10 +19,11 @@ use Rattle.lloyd.specs.{plainRound, shortRound, runOf}
 use Rattle.palette.specs.{PaletteMeets}
 use Rattle.palette_groups.specs.{channelGroup, paletteFromGroups}
 use Rattle.palette_groups.proofs.Promises as groups
-use Rattle.mapping.specs.{mapStrip}
+use Rattle.palette_twins.specs.{noTwins, AreTwins, AllDiffer}
+use Rattle.mapping.specs.{twinsTold, mapStrip}
 use Rattle.p6_header.specs.{headerOf, offsetIn}
 use Rattle.p6.specs.{readPicture}
-use Rattle.arrays.specs.{recordIn, recordNumbers}
+use Rattle.arrays.specs.{recordIn, recordNumbers, twinsIn}
 use Rattle.arrays.proofs.Records as records
 use Rattle.kohlenfloh.specs.Crossing.{AddCrosses, RoundCrosses, RunCrosses, MapCrosses, PictureCrosses}
 use Rattle.kohlenfloh.proofs.Arrays as arrays
@@ -136,12 +137,28 @@ pub groups-refused : (rec : Record) (ks ws : List ℕ) (a : State) (d : List ℕ
     → PaletteMeets (paletteFromGroups rec ks ws a d) (numberOf n) x → x ≡ d
 groups-refused rec ks ws a d n h = h .palette-is ∙ groups.groups-refused-kept rec ks ws a d n (sym (h .answer))
 
--- A refused mapping leaves zeros in answer and means, and the index picture as it came.
+-- A refused mapping leaves zeros in answer and means, but for the twins told, and the index picture as it came.
 pub map-refused : (strip p d : List ℕ) (first : ℕ) (n : Refusal) {x s : List ℕ} {m : List Float}
     → MapCrosses (mapStrip strip p d first) (numberOf n) x s m
-    → (x ≡ d) × (s ≡ 0 ∷ 0 ∷ 0 ∷ 0 ∷ 0 ∷ [])
+    → (x ≡ d)
+    × (s ≡ 0 ∷ 0 ∷ 0 ∷ 0 ∷ 0 ∷ twinsTold p (numberOf n) .lower ∷ twinsTold p (numberOf n) .higher ∷ [])
     × (m ≡ zeroFigure ∷ zeroFigure ∷ zeroFigure ∷ zeroFigure ∷ [])
 map-refused = refusing.map-refused
+
+-- With TWIN SHADE the two last numbers of the answer are the pair with the smallest higher number.
+pub map-twins : (strip p d : List ℕ) (first : ℕ) {x s : List ℕ} {m : List Float}
+    → MapCrosses (mapStrip strip p d first) (numberOf TWIN-SHADE) x s m → AreTwins p (twinsIn s)
+map-twins = refusing.map-twins
+
+-- With any other refusal they are 0 and 0.
+pub map-no-twins : (strip p d : List ℕ) (first : ℕ) {x s : List ℕ} {m : List Float} (n : Refusal) → ¬ (n ≡ TWIN-SHADE)
+    → MapCrosses (mapStrip strip p d first) (numberOf n) x s m → twinsIn s ≡ noTwins
+map-no-twins = refusing.map-no-twins
+
+-- And in an accepted mapping, whose palette's entries all differ.
+pub map-accepted : (strip p d : List ℕ) (first : ℕ) {x s : List ℕ} {m : List Float}
+    → MapCrosses (mapStrip strip p d first) done x s m → (twinsIn s ≡ noTwins) × AllDiffer p
+map-accepted = refusing.map-accepted
 
 -- A refused picture leaves zeros in the answer, but for its offset, which is 0 for a header that is read.
 pub picture-refused : (input : List ℕ) (n : Refusal) {s : List ℕ}

@@ -2,10 +2,10 @@
 use Prim.Native.Nat.{ℕ}
 use mathlib.Core.List.{List, [], _∷_}
 use mathlib.Core.Bool.{true}
-use mathlib.Core.Path.{_≡_, ap, sym, _∙_}
+use mathlib.Core.Path.{_≡_, ap, sym, _∙_, subst}
 use lib.Ieee.{Float}
 use lib.ListN.{length, replicate}
-use Rattle.refusal.specs.{Refusal, numberOf}
+use Rattle.refusal.specs.{Refusal, numberOf, done, TWIN-SHADE}
 use Rattle.shades.specs.{mostCoordinates}
 use Rattle.figures.specs.{zeroFigure}
 use Rattle.table.specs.{Record, handsBack, addStrip}
@@ -13,7 +13,8 @@ use Rattle.table.proofs.Promises as table
 use Rattle.method.specs.{State}
 use Rattle.lloyd.specs.{RoundOutcome, keptRound, plainRound, shortRound, runOf}
 use Rattle.lloyd.proofs.Promises as lloyd
-use Rattle.mapping.specs.{mapStrip}
+use Rattle.palette_twins.specs.{noTwins, AreTwins, AllDiffer}
+use Rattle.mapping.specs.{MapOutcome, twinsTold, mapStrip}
 use Rattle.mapping.proofs.Promises as mapping
 use Rattle.p6_header.specs.{headerOf, offsetIn}
 use Rattle.p6.specs.{readPicture}
@@ -24,6 +25,7 @@ use Rattle.arrays.specs.{
   roundNumbers,
   runNumbers,
   mapNumbers,
+  twinsIn,
   mapFigures,
   pictureNumbers,
 }
@@ -86,13 +88,36 @@ run-refused rec ks ws k limit ms ts n c =
 -- a mapping
 pub map-refused : (strip p d : List ℕ) (first : ℕ) (n : Refusal) {x s : List ℕ} {m : List Float}
     → MapCrosses (mapStrip strip p d first) (numberOf n) x s m
-    → (x ≡ d) × (s ≡ 0 ∷ 0 ∷ 0 ∷ 0 ∷ 0 ∷ []) × (m ≡ zeroFigure ∷ zeroFigure ∷ zeroFigure ∷ zeroFigure ∷ [])
+    → (x ≡ d)
+    × (s ≡ 0 ∷ 0 ∷ 0 ∷ 0 ∷ 0 ∷ twinsTold p (numberOf n) .lower ∷ twinsTold p (numberOf n) .higher ∷ [])
+    × (m ≡ zeroFigure ∷ zeroFigure ∷ zeroFigure ∷ zeroFigure ∷ [])
 map-refused strip p d first n c =
     let e = mapping.map-refused-kept strip p d first n (sym (c .number)) in (
       c .index-is ∙ ap (λ o. o .index) e,
       c .answer-is ∙ ap (λ o. mapNumbers (o .answer)) e,
       c .means-are ∙ ap (λ o. mapFigures (o .answer)) e,
     )
+
+-- the twins that a mapping tells
+twins-cross : {o : MapOutcome} {r : ℕ} {x s : List ℕ} {m : List Float} → MapCrosses o r x s m
+    → twinsIn s ≡ o .answer .twins
+twins-cross c = ap twinsIn (c .answer-is)
+
+module _ (strip p d : List ℕ) (first : ℕ) {x s : List ℕ} {m : List Float} where
+  -- with TWIN SHADE
+  pub map-twins : MapCrosses (mapStrip strip p d first) (numberOf TWIN-SHADE) x s m → AreTwins p (twinsIn s)
+  map-twins c = subst (AreTwins p) (sym (twins-cross c)) (mapping.twins-told strip p d first (sym (c .number)))
+
+  -- with another refusal
+  pub map-no-twins : (n : Refusal) → ¬ (n ≡ TWIN-SHADE) → MapCrosses (mapStrip strip p d first) (numberOf n) x s m
+      → twinsIn s ≡ noTwins
+  map-no-twins n other c = twins-cross c ∙ mapping.no-twins-refused strip p d first n (sym (c .number)) other
+
+  -- and with none, where all entries differ
+  pub map-accepted : MapCrosses (mapStrip strip p d first) done x s m → (twinsIn s ≡ noTwins) × AllDiffer p
+  map-accepted c =
+      let ok = sym (c .number) in
+      (twins-cross c ∙ mapping.no-twins-accepted strip p d first ok, mapping.entries-differ strip p d first ok)
 
 -- a picture
 pub picture-refused : (input : List ℕ) (n : Refusal) {s : List ℕ}

@@ -7,7 +7,7 @@
 //   kf_run                  lloyd::run                            refuses 2, 4, 5, 6, 7
 //   kf_palette_from_shades  palette::palette_from_shades          refuses 4, 8, 7        picture.rt
 //   kf_palette_from_groups  palette_groups::palette_from_groups   refuses 2, 4, 8, 7, 9
-//   kf_map_strip            mapping::map_strip                    refuses 1, 10, 11, 7
+//   kf_map_strip            mapping::map_strip                    refuses 1, 10, 18, 11, 7
 //   kf_read_picture         p6::read_picture                      refuses 12, 13, 14, 15
 // A call's name is kf_ and that of the call beneath it. Only numbers, slices (a pointer and a
 // length) and arrays of a fixed length (a pointer) cross. Each call has the contract of the one

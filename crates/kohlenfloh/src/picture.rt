@@ -41,17 +41,17 @@ pub extern "C" fn kf_palette_from_groups(
 }
 
 // Maps a strip into its stretch of the index picture: mapping::map_strip. `answer` receives the
-// error, that of R, of G and of B, and 1 where there is a mean; `means` the mean and those of R, G
-// and B.
-// Refuses, in this order: 1 BAD STRIP, 10 BAD PALETTE, 11 MANY PIXELS, 7 SHORT ROOM, with zeros in
-// answer and means and the index picture as it came.
+// error, that of R, of G and of B, 1 where there is a mean, and the lower and the higher number of
+// the twins; `means` the mean and those of R, G and B.
+// Refuses, in this order: 1 BAD STRIP, 10 BAD PALETTE, 18 TWIN SHADE, 11 MANY PIXELS, 7 SHORT ROOM,
+// with zeros in answer and means, but for the twins of 18, and the index picture as it came.
 #[no_mangle]
 pub extern "C" fn kf_map_strip(
     strip: &[u8],
     palette: &[u8],
     index: &mut [u8],
     first: usize,
-    answer: &mut [u64; 5],
+    answer: &mut [u64; 7],
     means: &mut [f64; 4],
 ) -> u32
     ensures { λ r. ⌜ MapCrosses

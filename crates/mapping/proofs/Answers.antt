@@ -51,7 +51,7 @@ module _ (s p d : List ℕ) (a : ℕ) where
   pub channels-add : r .errors .red + r .errors .green + r .errors .blue ≡ r .error
   unfolding mapStrip
   channels-add =
-      outcome-all (mapRows s p d a) (madeMap s p d a) (keptMap d)
+      outcome-all (mapRows s p d a) (madeMap s p d a) (keptMap p d)
       (λ (o : MapOutcome).
       o .answer .errors .red + o .answer .errors .green + o .answer .errors .blue ≡ o .answer .error)
       (strips.channels-add p s (pixelCount s)) (λ n. refl)
@@ -106,7 +106,9 @@ module _ (s p d : List ℕ) (a : ℕ) where
 
     -- an accepted strip has at most 16,777,216 pixels
     few : pixelCount s ≤ mostPixels
-    few = let none = map-refuses s p d a .accepted-exactly .0 ok in ltb-false mostPixels (pixelCount s) (none .1 .1 .0)
+    few =
+        let none = map-refuses s p d a .accepted-exactly .0 ok in
+        ltb-false mostPixels (pixelCount s) (none .1 .1 .1 .0)
 
     -- so each of the four errors is converted without loss
     errors-convert : Bytes s → Bytes p → (F : ℕ → Type 0) → ((e : ℕ) → e < mostExact → F e) → OfEachError r F

@@ -12,6 +12,7 @@ use Rattle.refusal.specs.{done}
 use Rattle.colour.specs.{badStrip, joinedStrips, EachWhole, mostPixels}
 use Rattle.colour.proofs.Strips.{whole-exactly, whole-behind}
 use Rattle.palette.specs.{badPalette}
+use Rattle.palette_twins.specs.{twinShade}
 use Rattle.map_errors.specs.{plusErrors}
 use Rattle.map_blocks.specs.{pixelCount, entryFor, errorOf, errorsOf}
 use Rattle.map_blocks.proofs.Totals.{entry-first, entry-second, error-joined, errors-joined}
@@ -30,10 +31,11 @@ whole-length s h = let z = whole-exactly s .0 h in omega arith
 module _ (s t p d : List ℕ) (a : ℕ) (whole : badStrip s ≡ false)
     (ok : mapStrip (s ++ t) p d a .answer .refusal ≡ done) where
   -- the tests of the whole
-  none : (badStrip (s ++ t) ≡ false) × (badPalette p ≡ false) × (pixelCount (s ++ t) ≤ mostPixels)
+  none : (badStrip (s ++ t) ≡ false) × (badPalette p ≡ false) × (twinShade p ≡ false)
+      × (pixelCount (s ++ t) ≤ mostPixels)
   none =
       let n = map-refuses (s ++ t) p d a .accepted-exactly .0 ok in
-      (n .0, n .1 .0, ltb-false mostPixels (pixelCount (s ++ t)) (n .1 .1 .0))
+      (n .0, n .1 .0, n .1 .1 .0, ltb-false mostPixels (pixelCount (s ++ t)) (n .1 .1 .1 .0))
 
   -- its pixels are those of both
   pixels-joined : pixelCount (s ++ t) ≡ pixelCount s + pixelCount t
@@ -46,15 +48,15 @@ module _ (s t p d : List ℕ) (a : ℕ) (whole : badStrip s ≡ false)
   -- the first is accepted
   first-accepted : mapStrip s p d a .answer .refusal ≡ done
   first-accepted =
-      let few : pixelCount s ≤ mostPixels = omega (arith, none .2, pixels-joined) in
+      let few : pixelCount s ≤ mostPixels = omega (arith, none .3, pixels-joined) in
       let room : a + pixelCount s ≤ length d = omega (arith, stretch-within (s ++ t) p d a ok, pixels-joined) in
-      map-refuses s p d a .accepted-exactly .1 (whole, (none .1, (le-ltb _ _ few, (le-ltb _ _ room, tt))))
+      map-refuses s p d a .accepted-exactly .1 (whole, (none .1, (none .2, (le-ltb _ _ few, (le-ltb _ _ room, tt)))))
 
   -- and so is the second, behind it
   second-accepted : mapStrip t p (mapStrip s p d a .index) (a + pixelCount s) .answer .refusal ≡ done
   second-accepted =
       let e = mapStrip s p d a .index in
-      let few : pixelCount t ≤ mostPixels = omega (arith, none .2, pixels-joined) in
+      let few : pixelCount t ≤ mostPixels = omega (arith, none .3, pixels-joined) in
       let room : a + pixelCount s + pixelCount t ≤ length e =
       omega (
         arith,
@@ -63,7 +65,7 @@ module _ (s t p d : List ℕ) (a : ℕ) (whole : badStrip s ≡ false)
         index-length s p d a first-accepted,
       ) in
       map-refuses t p e (a + pixelCount s) .accepted-exactly .1
-      (second-whole, (none .1, (le-ltb _ _ few, (le-ltb _ _ room, tt))))
+      (second-whole, (none .1, (none .2, (le-ltb _ _ few, (le-ltb _ _ room, tt)))))
 
   -- the index picture after both is that of the whole
   index-joined : mapStrip t p (mapStrip s p d a .index) (a + pixelCount s) .index ≡ mapStrip (s ++ t) p d a .index

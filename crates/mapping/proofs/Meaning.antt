@@ -28,8 +28,10 @@ short-index-exactly s d a = (ltb-true _ _, lt-ltb _ _)
 module _ (s p d : List ℕ) (a : ℕ) where
   -- ---- refusals
 
-  -- mapping refuses by its rows: it is made, or its number, zeros and "no pixels", and the index picture stays
-  pub map-refuses : Refuses (mapRows s p d a) (mapStrip s p d a) (λ o. o .answer .refusal) (madeMap s p d a) (keptMap d)
+  -- mapping refuses by its rows: it is made, or its number, zeros, "no pixels" and the twins told, and the index
+  -- picture stays
+  pub map-refuses : Refuses (mapRows s p d a) (mapStrip s p d a) (λ o. o .answer .refusal) (madeMap s p d a)
+      (keptMap p d)
   unfolding mapStrip
   map-refuses = refuses _ _ _ _ refl (λ n. refl)
 
@@ -44,7 +46,7 @@ module _ (s p d : List ℕ) (a : ℕ) where
     pub stretch-within : a + pixelCount s ≤ length d
     stretch-within =
         let none = map-refuses .accepted-exactly .0 ok in
-        ltb-false (length d) (a + pixelCount s) (none .1 .1 .1 .0)
+        ltb-false (length d) (a + pixelCount s) (none .1 .1 .1 .1 .0)
 
     -- each pixel's byte is the number of its entry
     pub index-at : (i : ℕ) → i < pixelCount s → getD (mapStrip s p d a .index) (a + i) 0 ≡ entryFor p s i

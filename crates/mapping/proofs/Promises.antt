@@ -9,8 +9,10 @@ use mathlib.Core.Logic.{_↔_}
 use mathlib.Core.Path.{_≡_, sym, _∙_}
 use lib.ListN.{length, getD}
 use lib.Ieee.Exact.{HasValue}
-use Rattle.refusal.specs.{Refusal, numberOf, done, Given, NoneHolds}
-use Rattle.colour.specs.{joinedStrips, EachWhole, Bytes, mostPixels}
+use Rattle.refusal.specs.{Refusal, numberOf, done, Given, NoneHolds, TWIN-SHADE}
+use Rattle.colour.specs.{badStrip, joinedStrips, EachWhole, Bytes, mostPixels}
+use Rattle.palette.specs.{badPalette}
+use Rattle.palette_twins.specs.{noTwins, TwoEqual, AreTwins, AllDiffer}
 use Rattle.figures.specs.{mostExact, figure, meanValues, NearestTo, zeroFigure}
 use Rattle.map_blocks.specs.{pixelCount, NearestEntry, errorOf, errorsOf}
 use Rattle.mapping.specs.Outcomes.{
@@ -27,6 +29,7 @@ use Rattle.mapping.specs.Outcomes.{
 use Rattle.mapping.specs.Pieces.{leftBy, inStrips, EachAccepted}
 use Rattle.mapping.specs.declared.Mapped.{Mapped}
 use Rattle.mapping.proofs.Meaning as meaning
+use Rattle.mapping.proofs.Twins as twins
 use Rattle.mapping.proofs.Answers as answers
 use Rattle.mapping.proofs.Joins as joins
 
@@ -39,12 +42,12 @@ map-only s p d a m n = (m .answer ∙ sym (n .answer), m .index-is ∙ sym (n .i
 
 -- ---- refusals
 
--- A refusal is given exactly when its row is the first of 1, 10, 11, 7 whose test holds.
+-- A refusal is given exactly when its row is the first of 1, 10, 18, 11, 7 whose test holds.
 pub map-refused-exactly : (s p d : List ℕ) (a : ℕ) (n : Refusal)
     → (mapStrip s p d a .answer .refusal ≡ numberOf n) ↔ Given (mapRows s p d a) n
 map-refused-exactly s p d a = meaning.map-refuses s p d a .refused-exactly
 
--- A strip is mapped exactly when none of the four tests holds.
+-- A strip is mapped exactly when none of the five tests holds.
 pub map-accepted-exactly : (s p d : List ℕ) (a : ℕ)
     → (mapStrip s p d a .answer .refusal ≡ done) ↔ NoneHolds (mapRows s p d a)
 map-accepted-exactly s p d a = meaning.map-refuses s p d a .accepted-exactly
@@ -58,10 +61,39 @@ many-pixels-exactly = meaning.many-pixels-exactly
 pub short-index-exactly : (s d : List ℕ) (a : ℕ) → (shortIndex s d a ≡ true) ↔ (length d < a + pixelCount s)
 short-index-exactly = meaning.short-index-exactly
 
--- A refusal answers its number, zeros and "no pixels", and leaves every index byte as it came.
+-- A refusal answers its number, zeros, "no pixels" and the twins told, and leaves every index byte as it came.
 pub map-refused-kept : (s p d : List ℕ) (a : ℕ) (n : Refusal) → mapStrip s p d a .answer .refusal ≡ numberOf n
-    → mapStrip s p d a ≡ keptMap d (numberOf n)
+    → mapStrip s p d a ≡ keptMap p d (numberOf n)
 map-refused-kept s p d a = meaning.map-refuses s p d a .refused-is
+
+-- ---- twins
+
+-- TWIN SHADE is given exactly when two entries are equal, of a strip of whole pixels and a palette of 1 to 64 entries;
+-- pixels and room are not looked at.
+pub twins-refused-exactly : (s p d : List ℕ) (a : ℕ)
+    → (mapStrip s p d a .answer .refusal ≡ numberOf TWIN-SHADE)
+    ↔ ((badStrip s ≡ false) × (badPalette p ≡ false) × TwoEqual p)
+twins-refused-exactly = twins.twins-refused-exactly
+
+-- It tells the lower and the higher number of two equal entries, the smallest higher number first: by `twins-only` of
+-- palette_twins there is one such pair only.
+pub twins-told : (s p d : List ℕ) (a : ℕ) → mapStrip s p d a .answer .refusal ≡ numberOf TWIN-SHADE
+    → AreTwins p (mapStrip s p d a .answer .twins)
+twins-told = twins.twins-told
+
+-- Any other refusal tells 0 and 0, also where two entries are equal.
+pub no-twins-refused : (s p d : List ℕ) (a : ℕ) (n : Refusal) → mapStrip s p d a .answer .refusal ≡ numberOf n
+    → ¬ (n ≡ TWIN-SHADE) → mapStrip s p d a .answer .twins ≡ noTwins
+no-twins-refused = twins.no-twins-refused
+
+-- And so does an accepted call.
+pub no-twins-accepted : (s p d : List ℕ) (a : ℕ) → mapStrip s p d a .answer .refusal ≡ done
+    → mapStrip s p d a .answer .twins ≡ noTwins
+no-twins-accepted = twins.no-twins-accepted
+
+-- In an accepted call all entries of the palette differ: at a tie the nearest entries are unlike ones.
+pub entries-differ : (s p d : List ℕ) (a : ℕ) → mapStrip s p d a .answer .refusal ≡ done → AllDiffer p
+entries-differ = twins.entries-differ
 
 -- ---- the index picture of an accepted call
 

@@ -15,6 +15,7 @@ use Rattle.colour.specs.{Bytes, badStrip, mostPixels}
 use Rattle.colour.proofs.Strips.{whole-exactly}
 use Rattle.shades.proofs.Checks.{bad-coordinates-exactly}
 use Rattle.palette.specs.{badPalette}
+use Rattle.palette_twins.specs.{twinShade, noTwins}
 use Rattle.figures.specs.{Mean, Means, meanFigure, channelMeans}
 use Rattle.map_errors.specs.{Errors}
 use Rattle.map_blocks.specs.{Mappable, SmallErrors, pixelCount, entryFor, errorsOf}
@@ -22,6 +23,7 @@ use Rattle.map_blocks.proofs.Totals.{channels-add, errors-most}
 use Rattle.mapping.specs.Outcomes.{
   answerWith,
   answerOf,
+  twinsTold,
   refusedMap,
   madeMap,
   keptMap,
@@ -63,6 +65,7 @@ pub answer-is : (errors : Errors) (n : ℕ) (m : Mean) (ms : Means)
       errors = errors;
       mean = m;
       means = ms;
+      twins = noTwins;
     } ≡ answerOf errors n
 answer-is errors n m ms e f = rw (e, f)
 
@@ -79,29 +82,30 @@ stretch-mapped first n f index x room e =
 module _ (s p index : List ℕ) (first : ℕ) where
   -- a call that is refused leaves the index picture as it came
   pub map-meets-refused : (n : Refusal) (r : Mapped) → firstOf (mapRows s p index first) ≡ numberOf n
-      → r ≡ refusedMap (numberOf n) → MapMeets (mapStrip s p index first) r index
+      → r ≡ refusedMap (numberOf n) (twinsTold p (numberOf n)) → MapMeets (mapStrip s p index first) r index
   unfolding mapStrip
   map-meets-refused n r e is =
-      rw (outcome-refused (mapRows s p index first) (madeMap s p index first) (keptMap index) n e)
+      rw (outcome-refused (mapRows s p index first) (madeMap s p index first) (keptMap p index) n e)
       (record { answer = is; index-is = refl })
 
   -- a stretch that goes past the end is refused
-  pub short-room : badStrip s ≡ false → badPalette p ≡ false → pixelCount s ≤ mostPixels
+  pub short-room : badStrip s ≡ false → badPalette p ≡ false → twinShade p ≡ false → pixelCount s ≤ mostPixels
       → length index < first + pixelCount s → firstOf (mapRows s p index first) ≡ numberOf SHORT-ROOM
-  short-room strip palette few past = simp (strip, palette, le-ltb _ _ few, lt-ltb _ _ past)
+  short-room strip palette twins few past = simp (strip, palette, twins, le-ltb _ _ few, lt-ltb _ _ past)
 
   -- a call that passes all tests maps the strip
-  pub map-meets-made : badStrip s ≡ false → badPalette p ≡ false → pixelCount s ≤ mostPixels
+  pub map-meets-made : badStrip s ≡ false → badPalette p ≡ false → twinShade p ≡ false → pixelCount s ≤ mostPixels
       → first + pixelCount s ≤ length index → (r : Mapped) (errors : Errors) (x : List ℕ)
       → errors ≡ errorsOf p s (pixelCount s) → r ≡ answerOf errors (pixelCount s)
       → x ≡ fillFrom first (pixelCount s) (entryFor p s) index → MapMeets (mapStrip s p index first) r x
   unfolding mapStrip
-  map-meets-made strip palette few room r errors x are is made =
+  map-meets-made strip palette twins few room r errors x are is made =
       let n = pixelCount s in
-      let e : firstOf (mapRows s p index first) ≡ done = simp (strip, palette, le-ltb _ _ few, le-ltb _ _ room) in
-      rw (outcome-made (mapRows s p index first) (madeMap s p index first) (keptMap index) e)
+      let e : firstOf (mapRows s p index first) ≡ done =
+      simp (strip, palette, twins, le-ltb _ _ few, le-ltb _ _ room) in
+      rw (outcome-made (mapRows s p index first) (madeMap s p index first) (keptMap p index) e)
       (record {
         answer = is ∙ ap (λ (y : Errors). answerOf y n) are
-            ∙ ap (λ y. answerWith done y (errorsOf p s n) n) (channels-add p s n);
+            ∙ ap (λ y. answerWith done y (errorsOf p s n) n noTwins) (channels-add p s n);
         index-is = made;
       })

@@ -1,11 +1,12 @@
 -- Glossary.
---   Mapped               refusal, error, errors, mean, means: the answer
+--   Mapped               refusal, error, errors, mean, means, twins: the answer
 --   manyPixels           the test of 11 MANY PIXELS
 --   shortIndex           the test of 7 SHORT ROOM of a mapping
 --   mapRows              the tests in their order, with their refusals
 --   MapOutcome           the answer and the index picture at exit
 --   answerWith, answerOf answers with the figures of their errors
---   refusedMap           the answer of a refusal: its number, zeros, "no pixels"
+--   twinsTold            the twins that a refusal tells: the palette's with TWIN SHADE, else 0 and 0
+--   refusedMap           the answer of a refusal: its number, zeros, "no pixels", the twins told
 --   madeMap, keptMap     the outcome where nothing is refused, and where something is
 --   mapStrip             the outcome of a call
 --   MapMeets             the contract: answer and index picture are those of the outcome
@@ -24,6 +25,7 @@ unfoldable pub use Outcomes.{
   mapRows,
   answerWith,
   answerOf,
+  twinsTold,
   refusedMap,
   madeMap,
   keptMap,

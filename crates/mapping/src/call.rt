@@ -10,15 +10,17 @@ use super::Mapped;
 use figures::Mean;
 use figures::Means;
 use map_errors::Errors;
+use palette_twins::Twins;
 use refusal::BAD_PALETTE;
 use refusal::BAD_STRIP;
 use refusal::DONE;
 use refusal::MANY_PIXELS;
 use refusal::SHORT_ROOM;
+use refusal::TWIN_SHADE;
 
-// The answer of a refusal: its number, zeros and "no pixels".
-fn refused(number: u8) -> Mapped
-    ensures { λ r. ⌜ r ≡ refusedMap number ⌝ }
+// The answer of a refusal: its number, zeros, "no pixels", and these twins.
+fn refused(number: u8, twins: Twins) -> Mapped
+    ensures { λ r. ⌜ r ≡ refusedMap number twins ⌝ }
 {
     Mapped {
         refusal: number,
@@ -34,6 +36,7 @@ fn refused(number: u8) -> Mapped
             green: 0.0,
             blue: 0.0,
         },
+        twins,
     }
 }
 
@@ -53,6 +56,10 @@ fn answer(errors: Errors, pixels: u64) -> Mapped
         errors,
         mean: figures::mean_figure(error, pixels),
         means: figures::channel_means(red, green, blue, pixels),
+        twins: Twins {
+            lower: 0,
+            higher: 0,
+        },
     }
 }
 
@@ -81,33 +88,43 @@ fn map_stretch(
 // Refuses, in this order:
 //    1 BAD STRIP     the strip's bytes are not a multiple of 3;
 //   10 BAD PALETTE   the palette's bytes are not 3 to 192 or not a multiple of 3;
+//   18 TWIN SHADE    two entries of the palette are equal;
 //   11 MANY PIXELS   the strip has more than 16,777,216 pixels;
 //    7 SHORT ROOM    the stretch goes past the end of the index picture.
-// Answers error and figures of this strip. Every other index byte stays, and a refusal leaves all
-// as they came.
+// Answers error and figures of this strip; with TWIN SHADE the numbers of the two entries, of
+// several pairs that with the smallest higher number. Every other index byte stays, and a refusal
+// leaves all as they came.
 pub fn map_strip(strip: &[u8], palette: &[u8], index: &mut [u8], first: usize) -> Mapped
     ensures { λ r. ⌜ MapMeets
         (mapStrip (now (strip .entry)) (now (palette .entry)) (now (index .entry)) first)
         r (now (index .exit)) ⌝ }
 {
+    let none = Twins {
+        lower: 0,
+        higher: 0,
+    };
     if strip.len() % 3 != 0 {
-        return refused(BAD_STRIP);
+        return refused(BAD_STRIP, none);
     }
     if palette::bad_palette(palette) {
-        return refused(BAD_PALETTE);
+        return refused(BAD_PALETTE, none);
+    }
+    let twins = palette_twins::twin_of(palette);
+    if 0 < twins.higher {
+        return refused(TWIN_SHADE, twins);
     }
     let pixels = strip.len() / 3;
     let count = pixels as u64;
     if colour::MOST_PIXELS < count {
-        return refused(MANY_PIXELS);
+        return refused(MANY_PIXELS, none);
     }
     let room = index.len();
     if room < pixels {
-        return refused(SHORT_ROOM);
+        return refused(SHORT_ROOM, none);
     }
     let last = room - pixels;
     if last < first {
-        return refused(SHORT_ROOM);
+        return refused(SHORT_ROOM, none);
     }
     let errors = map_stretch(strip, palette, index, first, pixels);
     answer(errors, count)

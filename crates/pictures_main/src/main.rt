@@ -1,7 +1,7 @@
 // Pictures that are run: the raster goes uncopied from the reader to the table and to the mapper.
 // Held to the file stdout beside src/. A line of a picture is refusal, offset, width, height, the
-// raster's first place and its length; then come the lines of the table and of the mapping, and
-// those of pictures with comments.
+// raster's first place and its length; then come the lines of the table and of the mapping, those
+// of palettes with twins, and those of pictures with comments.
 use libc::STDOUT_FILENO;
 use mapping::Mapped;
 use p6::Picture;
@@ -81,6 +81,71 @@ fn show_mapping(input: &[u8]) {
     end_line();
 }
 
+// The line of a mapping that may meet twins: refusal, their numbers, and the index bytes.
+fn show_twins(strip: &[u8], palette: &[u8]) {
+    let mut index = [7u8; 2];
+    let m = mapping::map_strip(strip, palette, &mut index, 0);
+    let twins = m.twins;
+    field(m.refusal as u64);
+    field(twins.lower as u64);
+    field(twins.higher as u64);
+    byte(index[0]);
+    byte(index[1]);
+    end_line();
+}
+
+// A pixel mapped to entries that all differ, at a tie to the lower number; neighbours, the first
+// and the last, two pairs, three equal entries, and a strip of no pixels. Entries that differ in
+// one channel are no twins.
+fn small_palettes() {
+    show_twins(b"aaa", b"ccc___zzz");
+    show_twins(b"aaa", b"aaabbbbbbccc");
+    show_twins(b"aaa", b"aaabbbcccaaa");
+    show_twins(b"aaa", b"aaabbbbbbaaa");
+    show_twins(b"aaa", b"abcaaaabcabc");
+    show_twins(b"", b"aaaaaa");
+    show_twins(b"aab", b"aaaaabababaa");
+}
+
+// Twins with what is tested before them, a bad strip and a bad palette, and with what is tested
+// behind them, a room that is short; and that room with entries that differ.
+fn twins_and_others() {
+    show_twins(b"aaaa", b"aaaaaa");
+    show_twins(b"aaa", b"aaaaaaa");
+    show_twins(b"aaabbbccc", b"aaaaaa");
+    show_twins(b"aaabbbccc", b"aaabbb");
+}
+
+// 64 entries that all differ; then the last is the first, and then the one before it the second.
+fn most_entries() {
+    let mut palette = [b'0'; 192];
+    texts::put_word(
+        &mut palette,
+        0,
+        b"000001002003004005006007010011012013014015016017",
+    );
+    texts::put_word(
+        &mut palette,
+        48,
+        b"020021022023024025026027030031032033034035036037",
+    );
+    texts::put_word(
+        &mut palette,
+        96,
+        b"040041042043044045046047050051052053054055056057",
+    );
+    texts::put_word(
+        &mut palette,
+        144,
+        b"060061062063064065066067070071072073074075076077",
+    );
+    show_twins(b"077000", &palette);
+    texts::put_word(&mut palette, 189, b"000");
+    show_twins(b"077000", &palette);
+    texts::put_word(&mut palette, 186, b"001");
+    show_twins(b"077000", &palette);
+}
+
 // Inputs that end early, go wrong, or have a size, a depth or a raster that does not pass; the last
 // one passes.
 fn small_pictures() {
@@ -133,6 +198,9 @@ fn main() {
     show_picture(drawing);
     show_table(drawing);
     show_mapping(drawing);
+    small_palettes();
+    twins_and_others();
+    most_entries();
     commented_pictures();
     miscommented_pictures();
     long_comment();

@@ -52,8 +52,8 @@ pub groups-order : (rec : Record) (ks ws : List ℕ) (a : State) (d : List ℕ)
     → orderOf (groupRows rec ks ws a d) ≡ 2 ∷ 4 ∷ 8 ∷ 7 ∷ 9 ∷ []
 groups-order rec ks ws a d = refl
 
--- Mapping: 1, 10, 11, 7.
-pub map-order : (s p d : List ℕ) (a : ℕ) → orderOf (mapRows s p d a) ≡ 1 ∷ 10 ∷ 11 ∷ 7 ∷ []
+-- Mapping: 1, 10, 18, 11, 7 (document 02, in place of 1, 10, 11, 7).
+pub map-order : (s p d : List ℕ) (a : ℕ) → orderOf (mapRows s p d a) ≡ 1 ∷ 10 ∷ 18 ∷ 11 ∷ 7 ∷ []
 map-order s p d a = refl
 
 -- Picture: 12, 13, 14, 15.

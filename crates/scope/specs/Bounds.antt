@@ -12,6 +12,7 @@ use Rattle.lloyd_tests.specs.{badCount, fewColours, badLimit, shortMembers, sho
 use Rattle.method.specs.{stateOf}
 use Rattle.palette.specs.{badPalette, shortPalette}
 use Rattle.palette_groups.specs.{shortRooms}
+use Rattle.palette_twins.specs.{twinShade, twinsOf}
 use Rattle.mapping.specs.{shortIndex}
 use Rattle.p6_header.specs.{Header, headerOf, headerNumber, headerValues}
 use Rattle.p6.specs.{badSide, badSize, badDepth, badRaster}
@@ -54,6 +55,15 @@ headed width = 80 ∷ 54 ∷ 32 ∷ (width ++ (32 ∷ 49 ∷ 32 ∷ 50 ∷ 53 �
 -- what a header says: its number, and its values
 abbrev pub told : Header → List ℕ
 told header = headerNumber header ∷ headerValues header
+
+-- a palette of greys with these levels
+abbrev pub greys : List ℕ → List ℕ
+greys [] = []
+greys (n ∷ ns) = n ∷ n ∷ n ∷ greys ns
+
+-- the numbers of its twins
+abbrev pub pairIn : List ℕ → List ℕ
+pairIn levels = twinsOf (greys levels) .lower ∷ twinsOf (greys levels) .higher ∷ []
 
 -- row by row of document 01's table, and the listing's tests; no strip of 16,777,216 pixels is computed here, so that
 -- 11 MANY PIXELS stands by its limit alone, among the constants
@@ -110,6 +120,17 @@ bounds =
     ∷ lists (those (λ m. badMember 1 2 (1 ∷ m ∷ [])) (0 ∷ 1 ∷ 2 ∷ [])) []
     -- 10 BAD PALETTE, by the bytes
     ∷ lists (those (λ n. badPalette (zeros n)) (0 ∷ 3 ∷ 4 ∷ 192 ∷ 193 ∷ 195 ∷ [])) (0 ∷ 4 ∷ 193 ∷ 195 ∷ [])
+    -- 18 TWIN SHADE (document 02), by each level of the second of two entries
+    ∷ lists (those (λ n. twinShade (1 ∷ 2 ∷ 3 ∷ n ∷ 2 ∷ 3 ∷ [])) (0 ∷ 1 ∷ 2 ∷ [])) (1 ∷ [])
+    ∷ lists (those (λ n. twinShade (1 ∷ 2 ∷ 3 ∷ 1 ∷ n ∷ 3 ∷ [])) (1 ∷ 2 ∷ 3 ∷ [])) (2 ∷ [])
+    ∷ lists (those (λ n. twinShade (1 ∷ 2 ∷ 3 ∷ 1 ∷ 2 ∷ n ∷ [])) (2 ∷ 3 ∷ 4 ∷ [])) (3 ∷ [])
+    -- the pair: 0 and 0 where all differ; neighbours, the first and the last; of two pairs, and of three equal entries,
+    -- that with the smallest higher number
+    ∷ lists (pairIn (5 ∷ 6 ∷ 7 ∷ 8 ∷ [])) (0 ∷ 0 ∷ [])
+    ∷ lists (pairIn (5 ∷ 6 ∷ 6 ∷ 8 ∷ [])) (1 ∷ 2 ∷ [])
+    ∷ lists (pairIn (5 ∷ 6 ∷ 7 ∷ 5 ∷ [])) (0 ∷ 3 ∷ [])
+    ∷ lists (pairIn (5 ∷ 6 ∷ 6 ∷ 5 ∷ [])) (1 ∷ 2 ∷ [])
+    ∷ lists (pairIn (5 ∷ 6 ∷ 5 ∷ 6 ∷ 5 ∷ [])) (0 ∷ 2 ∷ [])
     -- 12 BAD HEADER: a width of five digits is read, 1 by 1 with the raster from place 15 on; a sixth digit cannot
     -- stand at place 8
     ∷ lists (told (headerOf (headed (48 ∷ 48 ∷ 48 ∷ 48 ∷ 49 ∷ [])))) (0 ∷ 1 ∷ 1 ∷ 255 ∷ 15 ∷ [])

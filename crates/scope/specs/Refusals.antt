@@ -1,4 +1,4 @@
--- Document 01, "Refusal numbers": each refusal by name, and its number.
+-- Document 01, "Refusal numbers", and document 02: each refusal by name, and its number.
 use mathlib.Core.List.{List, [], _∷_}
 use Rattle.refusal.specs.{
   numberOf,
@@ -18,6 +18,7 @@ use Rattle.refusal.specs.{
   BAD-SIZE,
   BAD-DEPTH,
   BAD-RASTER,
+  TWIN-SHADE,
 }
 use Rattle.sheets.specs.{Example}
 use Rattle.scope.specs.Lines.{says}
@@ -41,4 +42,5 @@ refusals =
     ∷ says (numberOf BAD-SIZE) 13
     ∷ says (numberOf BAD-DEPTH) 14
     ∷ says (numberOf BAD-RASTER) 15
+    ∷ says (numberOf TWIN-SHADE) 18
     ∷ []

@@ -58,11 +58,14 @@ figureRow (fin s m (negsuc e)) = bit s ∷ m ∷ 0 ∷ e ∷ []
 abbrev pub meanRows : Mean → List (List ℕ)
 meanRows m = (meanNumber m ∷ []) ∷ map figureRow (meanValues m)
 
--- of a mapping: refusal, error, and the error of each channel; the mean; the mean of each channel; the index bytes
+-- of a mapping: refusal, error, the error of each channel, and the twins; the mean; the mean of each channel; the
+-- index bytes
 abbrev pub mapSheet : MapOutcome → List (List ℕ)
 mapSheet o =
     let a = o .answer in
-    ((a .refusal ∷ a .error ∷ a .errors .red ∷ a .errors .green ∷ a .errors .blue ∷ []) ∷ meanRows (a .mean))
+    ((a .refusal ∷ a .error ∷ a .errors .red ∷ a .errors .green ∷ a .errors .blue ∷ a .twins .lower ∷ a .twins .higher
+    ∷ [])
+    ∷ meanRows (a .mean))
     ++ figureRow (a .means .red)
     ∷ figureRow (a .means .green)
     ∷ figureRow (a .means .blue)

@@ -73,7 +73,7 @@ sheetC = record {
       ∷ (paletteC ++ 9 ∷ [])
       ∷ (done ∷ [])
       ∷ (paletteC ++ 9 ∷ [])
-      ∷ (done ∷ 76 ∷ 76 ∷ 0 ∷ 0 ∷ [])
+      ∷ (done ∷ 76 ∷ 76 ∷ 0 ∷ 0 ∷ 0 ∷ 0 ∷ [])
       ∷ (1 ∷ [])
       ∷ figureRow (whole 19)
       ∷ figureRow (whole 19)

@@ -83,7 +83,7 @@ pub fn kf_map_strip(
     palette: &[u8],
     index: &mut [u8],
     first: usize,
-    answer: &mut [u64; 5],
+    answer: &mut [u64; 7],
     means: &mut [f64; 4],
 ) -> u32 {
     kohlenfloh::kf_map_strip(strip, palette, index, first, answer, means)

@@ -1,5 +1,6 @@
-// The calls of the crates palette, palette_groups and mapping.
+// The calls of the crates palette, palette_groups, palette_twins and mapping.
 use mapping::Mapped;
+use palette_twins::Twins;
 use table::Record;
 
 // A palette from shades.
@@ -22,6 +23,11 @@ pub fn palette_from_groups(
 // The test of a palette.
 pub fn bad_palette(palette: &[u8]) -> bool {
     palette::bad_palette(palette)
+}
+
+// The twins of a palette.
+pub fn twin_of(palette: &[u8]) -> Twins {
+    palette_twins::twin_of(palette)
 }
 
 // Mapping a strip.
