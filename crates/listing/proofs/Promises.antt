@@ -8,14 +8,24 @@ use mathlib.Core.Logic.{_↔_, _⊎_}
 use mathlib.Core.Path.{_≡_, sym, _∙_}
 use lib.ListN.{length}
 use Rattle.number.specs.{sum}
-use Rattle.refusal.specs.{Refusal, numberOf, done, firstOf, Given, NoneHolds, BAD-COUNT, FEW-COLOURS}
+use Rattle.refusal.specs.{Refusal, numberOf, done, firstOf, Given, NoneHolds, BAD-COUNT, FEW-COLOURS, TWIN-SHADE}
 use Rattle.colour.specs.{Bytes}
+use Rattle.palette_twins.specs.{TwoEqual, AllDiffer}
 use Rattle.grammar.specs.{mostDecimal}
 use Rattle.p6.specs.{readPicture, rasterOf}
 use Rattle.texts.specs.{linesOf}
 use Rattle.listing_lines.specs.{mostText, refusedText, fieldAt}
 use Rattle.listing_test.specs.{smallRows}
-use Rattle.listing_work.specs.{listedLimit, tableOf, runTests, paletteOn, mappedRaster}
+use Rattle.listing_work.specs.{
+  listedLimit,
+  tableOf,
+  runTests,
+  paletteOn,
+  entriesOn,
+  mappedRaster,
+  mapTests,
+  workTests,
+}
 use Rattle.listing_work.proofs.Accepted as accepted
 use Rattle.listing_work.proofs.Mapped as mapped
 use Rattle.listing.specs.Refusals.{badLine, CountLine, countIn, pictureIn, inputRows, listingRows}
@@ -46,15 +56,15 @@ input-refused = texts.input-refused
 pub input-accepted : (s : List ℕ) → NoneHolds (inputRows s) → listingText s ≡ pictureText (pictureIn s) (countIn s)
 input-accepted = texts.input-accepted
 
--- A picture whose run is refused gives that line.
-pub run-refused : (p : List ℕ) (count : ℕ) (n : Refusal) → Given (runTests p count) n
+-- A picture whose run or mapping is refused gives that line, alone.
+pub picture-refused : (p : List ℕ) (count : ℕ) (n : Refusal) → Given (workTests p count) n
     → pictureText p count ≡ refusedText (numberOf n)
-run-refused = texts.run-refused
+picture-refused = texts.picture-refused
 
 -- Else it gives its lines.
-pub run-accepted : (p : List ℕ) (count : ℕ) → NoneHolds (runTests p count)
+pub picture-accepted : (p : List ℕ) (count : ℕ) → NoneHolds (workTests p count)
     → pictureText p count ≡ linesOf (listingLines p count)
-run-accepted = texts.run-accepted
+picture-accepted = texts.picture-accepted
 
 -- ---- exactly when
 
@@ -63,7 +73,7 @@ pub bad-line-exactly : (s : List ℕ) → (badLine s ≡ false) ↔ CountLine s
 bad-line-exactly = fronts.bad-line-exactly
 
 -- `refused N` is printed exactly when N is given by the first test that holds: those of the input, then those of the
--- run.
+-- run, then those of the mapping.
 pub listing-refused-exactly : (s : List ℕ) (n : Refusal)
     → (listingText s ≡ refusedText (numberOf n)) ↔ Given (listingRows s) n
 listing-refused-exactly = orders.listing-refused-exactly
@@ -72,6 +82,11 @@ listing-refused-exactly = orders.listing-refused-exactly
 pub listing-accepted-exactly : (s : List ℕ)
     → (listingText s ≡ linesOf (listingLines (pictureIn s) (countIn s))) ↔ NoneHolds (listingRows s)
 listing-accepted-exactly = orders.listing-accepted-exactly
+
+-- Where input and run are accepted, `refused 18` is printed exactly when two entries of the run's palette are equal.
+pub twins-listed-exactly : (s : List ℕ) → NoneHolds (inputRows s) → NoneHolds (runTests (pictureIn s) (countIn s))
+    → (listingText s ≡ refusedText (numberOf TWIN-SHADE)) ↔ TwoEqual (entriesOn (pictureIn s) (countIn s))
+twins-listed-exactly = orders.twins-listed-exactly
 
 -- ---- the numbers in the lines
 
@@ -98,6 +113,10 @@ pub numbers-small : (s : List ℕ) → NoneHolds (listingRows s) → Bytes s →
     → fieldAt (listingLines (pictureIn s) (countIn s)) i j < 10 ^ mostDecimal
 numbers-small = numbers.numbers-of-input
 
+-- The shades that are told all differ.
+pub listed-differ : (s : List ℕ) → NoneHolds (listingRows s) → AllDiffer (entriesOn (pictureIn s) (countIn s))
+listed-differ = numbers.differ-of-input
+
 -- ---- what is never refused there
 
 -- Adding a picture that passes its tests is accepted: there is room for as many colours as it has pixels.
@@ -114,7 +133,13 @@ pub palette-accepted : (p : List ℕ) (count : ℕ) → firstOf (smallRows p) �
     → paletteOn p count .answer ≡ done
 palette-accepted = mapped.palette-accepted
 
--- And so is mapping the picture to it.
+-- And mapping the picture to it is refused for twins alone.
+pub mapping-refusals : (p : List ℕ) (count : ℕ) → firstOf (smallRows p) ≡ done → firstOf (runTests p count) ≡ done
+    → (n : Refusal) → Given (mapTests p count) n → n ≡ TWIN-SHADE
+mapping-refusals = mapped.mapping-refusals
+
+-- So where all its entries differ it is accepted.
 pub mapping-accepted : (p : List ℕ) (count : ℕ) → firstOf (smallRows p) ≡ done → firstOf (runTests p count) ≡ done
+    → AllDiffer (entriesOn p count)
     → mappedRaster (rasterOf p) (paletteOn p count .palette) count .answer .refusal ≡ done
 mapping-accepted = mapped.mapping-accepted

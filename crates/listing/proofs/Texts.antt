@@ -15,7 +15,7 @@ use Rattle.texts.specs.{linesOf, withText}
 use Rattle.texts.proofs.Texts.{text-length}
 use Rattle.listing_lines.specs.{mostText, refusedText}
 use Rattle.listing_lines.proofs.Promises.{refused-most, lines-most}
-use Rattle.listing_work.specs.{Work, runTests, refusedWork, workRun, madeWork, workPicture, Fits}
+use Rattle.listing_work.specs.{Work, workTests, refusedWork, workRun, madeWork, workPicture, Fits}
 use Rattle.listing_work.proofs.Works.{work-refuses}
 use Rattle.listing.specs.Refusals.{countIn, pictureIn, inputRows}
 use Rattle.listing.specs.Works.{workInput}
@@ -61,19 +61,19 @@ input-accepted s g =
     ap workText
     (outcome-made (inputRows s) (workPicture (pictureIn s) (countIn s)) refusedWork (done-exactly (inputRows s) .1 g))
 
--- what a row of the run refuses gives its line
-pub run-refused : (p : List ℕ) (count : ℕ) (n : Refusal) → Given (runTests p count) n
+-- what a row of run or mapping refuses gives its line
+pub picture-refused : (p : List ℕ) (count : ℕ) (n : Refusal) → Given (workTests p count) n
     → pictureText p count ≡ refusedText (numberOf n)
 unfolding pictureText
-run-refused p count n g =
-    ap workText (work-refuses p count .by-refusal n (first-exactly (runTests p count) n .1 g)) ∙ refusal-line n
+picture-refused p count n g =
+    ap workText (work-refuses p count .by-refusal n (first-exactly (workTests p count) n .1 g)) ∙ refusal-line n
 
 -- where none of these holds it is the lines
-pub run-accepted : (p : List ℕ) (count : ℕ) → NoneHolds (runTests p count)
+pub picture-accepted : (p : List ℕ) (count : ℕ) → NoneHolds (workTests p count)
     → pictureText p count ≡ linesOf (listingLines p count)
 unfolding pictureText workRun
-run-accepted p count g =
-    ap workText (work-refuses p count .by-none (done-exactly (runTests p count) .1 g))
+picture-accepted p count g =
+    ap workText (work-refuses p count .by-none (done-exactly (workTests p count) .1 g))
     ∙ text-lines (madeWork p count) refl
 
 -- ---- its length

@@ -5,11 +5,11 @@
 --   CountLine            the input begins with 1 or 2 digits and LF
 --   longInput            an input over 65,536 bytes
 --   inputRows            the tests before the run, in their order
---   listingRows          all tests: these, and then the run's
+--   listingRows          all tests: these, the run's, and then the mapping's
 --   workInput            what the calls leave of an input
 --   workLines, workText  the lines of what is left, and its text
 --   listingLines         the lines of a picture
---   pictureText          the text of an accepted picture: its lines, or the run's refusal
+--   pictureText          the text of an accepted picture: its lines, or the refusal of run or mapping
 --   listingText          the text of an input
 --   textRoom             the room of a listing, zeros
 --   Listing, listingOf   the answer: the text in front of zeros, and its length

@@ -23,7 +23,7 @@ workText w = cond (eqb (w .refusal) done) (linesOf (workLines w)) (refusedText (
 abbrev pub listingLines : List ℕ → ℕ → List (List ℕ)
 listingLines p count = workLines (madeWork p count)
 
--- the text of a picture that is accepted: its lines, or the run's refusal
+-- the text of a picture that is accepted: its lines, or the refusal of run or mapping
 unfoldable pub pictureText : List ℕ → ℕ → List ℕ
 pictureText p count = workText (workPicture p count)
 

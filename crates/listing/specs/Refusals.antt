@@ -1,4 +1,4 @@
--- When a listing is refused: the count line, the length, the picture's tests, and the run's.
+-- When a listing is refused: the count line, the length, the picture's tests, the run's, and the mapping's.
 use Prim.Native.Nat.{ℕ, _+_, _≤_}
 use mathlib.Core.Bool.{Bool, not, _&&_}
 use mathlib.Core.List.{List, _∷_, _++_}
@@ -8,7 +8,7 @@ use lib.ListN.{length, drop}
 use Rattle.refusal.specs.{Row, row, BAD-COUNT, BAD-SIZE}
 use Rattle.grammar.specs.{byteAt, lineFeed, decimal, digitsAt, Digits}
 use Rattle.listing_test.specs.{smallRows}
-use Rattle.listing_work.specs.{runTests}
+use Rattle.listing_work.specs.{workTests}
 
 -- the most bytes of an input
 abbrev pub mostInput : ℕ
@@ -46,6 +46,6 @@ longInput s = ltb mostInput (length s)
 abbrev pub inputRows : List ℕ → List Row
 inputRows s = row (badLine s) BAD-COUNT ∷ row (longInput s) BAD-SIZE ∷ smallRows (pictureIn s)
 
--- all tests: those before the run, and then the run's
+-- all tests: those before the run, the run's, and then the mapping's
 abbrev pub listingRows : List ℕ → List Row
-listingRows s = inputRows s ++ runTests (pictureIn s) (countIn s)
+listingRows s = inputRows s ++ workTests (pictureIn s) (countIn s)

@@ -4,5 +4,6 @@ pub mod Works
 pub mod Rooms
 -- What is never refused there: adding the picture, and of the run's tests all but two.
 pub mod Accepted
--- That palette and mapping are accepted, and what they leave: numbers of shades, and small numbers.
+-- That the palette is accepted, and the mapping unless there are twins; what they leave: numbers of shades, and small
+-- numbers.
 pub mod Mapped

@@ -26,13 +26,14 @@ use Rattle.listing_work.specs.Works.{
   runOn,
   runTests,
   paletteOn,
+  workTests,
   refusedWork,
   workRun,
   madeWork,
   workPicture,
   Fits,
 }
-use Rattle.listing_work.proofs.Works.{work-refuses, run-count}
+use Rattle.listing_work.proofs.Works.{work-refuses, run-passed, run-count}
 
 -- ---- the slices stay as long as they are lent
 
@@ -81,7 +82,7 @@ made-fits p count ok small =
 
 -- a picture of at most 8,192 pixels
 pub picture-fits : (p : List ℕ) (count : ℕ) → length (rasterOf p) / 3 ≤ mostListed → Fits (workPicture p count)
-picture-fits p count small = elim (done-or-refusal (runTests p count)) [
-  | inl e ↦ rw (work-refuses p count .by-none e) (made-fits p count e small)
+picture-fits p count small = elim (done-or-refusal (workTests p count)) [
+  | inl e ↦ rw (work-refuses p count .by-none e) (made-fits p count (run-passed p count e) small)
   | inr g ↦ rw (work-refuses p count .by-refusal (g .0) (g .1)) (refused-fits (numberOf (g .0)))
 ]

@@ -6,8 +6,9 @@ use lib.ListN.{length, take, replicate}
 use borrow.Author.Tests.{ne-eqb}
 use Rattle.number.specs.{bit}
 use Rattle.refusal.specs.{Row, done, firstOf, outcomeOf, Refuses}
+use Rattle.refusal.proofs.Order.{none-front, none-back}
 use Rattle.refusal.proofs.Promises.{done-exactly}
-use Rattle.refusal.proofs.Outcomes.{refuses}
+use Rattle.refusal.proofs.Outcomes.{outcome-made, outcome-joined, refuses}
 use Rattle.table.specs.{Record, Added, Outcome, AddMeets, emptyRecord, addStrip}
 use Rattle.shades.specs.{mostShades}
 use Rattle.lloyd.specs.{Ran, RunOutcome, RunMeets, AcceptedRun, runOf}
@@ -17,6 +18,7 @@ use Rattle.method.specs.{stateOf}
 use Rattle.palette.specs.{PaletteMeets}
 use Rattle.palette_groups.specs.{paletteFromGroups}
 use Rattle.mapping.specs.{Mapped, MapMeets, mapStrip}
+use Rattle.mapping.proofs.Meaning.{map-refuses}
 use Rattle.p6.specs.{rasterOf}
 use Rattle.listing_work.specs.Works.{
   listedZeros,
@@ -25,8 +27,13 @@ use Rattle.listing_work.specs.Works.{
   tableOf,
   runOn,
   runTests,
+  paletteOfRun,
+  rasterTests,
+  mapTests,
+  workTests,
   refusedWork,
   workRun,
+  leftRun,
   madeWork,
   workPicture,
 }
@@ -39,41 +46,81 @@ left-of-number rows made n e some = rw (e, ne-eqb n done some)
 
 -- ---- of a run
 
--- what palette and mapping answered is what is left of a run
-pub run-left : (raster : List ℕ) (rec : Record) (ks ws : List ℕ) (ran : Ran) (members : List ℕ) (count : ℕ)
-    {r flag : ℕ} {m : Mapped} {p i : List ℕ}
-    → PaletteMeets
-    (paletteFromGroups rec ks ws (stateOf (take (3 * count) (ran .shades)) members) (replicate 192 0)) r p
-    → MapMeets (mapStrip raster (take (3 * count) p) (replicate 8192 0) 0) m i → flag ≡ bit (ran .settled)
-    → _≡_ {A = Work}
-    (record {
-      refusal = done;
-      summary = record {
-        used = rec .used;
-        pixels = rec .pixels;
-        rounds = ran .rounds;
-        settled = flag;
-        total = ran .total;
-        distances = ran .distances;
-        error = m .error;
-      };
-      shades = count;
-      palette = p;
-      pixels = length raster / 3;
-      index = i;
-    })
-    (workRun raster rec ks ws ran members count)
-unfolding listedZeros workRun
-run-left raster rec ks ws ran members count made mapped flag-is =
-    rw (mapped .answer, mapped .index-is, made .palette-is, flag-is)
+module _ (raster : List ℕ) (rec : Record) (ks ws : List ℕ) (ran : Ran) (members : List ℕ) (count : ℕ) {r : ℕ}
+    {m : Mapped} {p i : List ℕ}
+    (made : PaletteMeets
+    (paletteFromGroups rec ks ws (stateOf (take (3 * count) (ran .shades)) members) (replicate 192 0)) r p)
+    (mapped : MapMeets (mapStrip raster (take (3 * count) p) (replicate 8192 0) 0) m i) where
+  -- the tests of the mapping
+  abbrev tests : List Row
+  tests = rasterTests raster (paletteOfRun rec ks ws ran members count .palette) count
+
+  -- the mapping's number is that of its rows
+  mapped-number : firstOf tests ≡ m .refusal
+  unfolding listedZeros
+  mapped-number =
+      let entries : List ℕ → List ℕ = take (3 * count) in
+      sym
+      (ap (λ (a : Mapped). a .refusal) (mapped .answer)
+      ∙ map-refuses raster (entries p) listedZeros 0 .number-is
+      ∙ ap (λ x. firstOf (rasterTests raster x count)) (made .palette-is))
+
+  -- a refused mapping leaves its refusal
+  pub run-refused : {left : Work} → left ≡ refusedWork (m .refusal) → ¬ (m .refusal ≡ done)
+      → left ≡ leftRun raster rec ks ws ran members count
+  unfolding leftRun
+  run-refused e some =
+      e ∙ sym (left-of-number tests (workRun raster rec ks ws ran members count) (m .refusal) mapped-number some)
+
+  -- what palette and mapping answered is what is left of a run
+  pub run-left : {flag : ℕ} → flag ≡ bit (ran .settled) → m .refusal ≡ done → _≡_ {A = Work}
+      (record {
+        refusal = done;
+        summary = record {
+          used = rec .used;
+          pixels = rec .pixels;
+          rounds = ran .rounds;
+          settled = flag;
+          total = ran .total;
+          distances = ran .distances;
+          error = m .error;
+        };
+        shades = count;
+        palette = p;
+        pixels = length raster / 3;
+        index = i;
+      })
+      (leftRun raster rec ks ws ran members count)
+  unfolding leftRun listedZeros workRun
+  run-left flag-is ok =
+      rw (mapped .answer, mapped .index-is, made .palette-is, flag-is)
+      (sym (outcome-made tests (workRun raster rec ks ws ran members count) refusedWork (mapped-number ∙ ok)))
 
 -- ---- of a picture
 
 module _ (p : List ℕ) (count : ℕ) where
-  -- the calls on a picture refuse by the run's rows
-  pub work-refuses : Refuses (runTests p count) (workPicture p count) (λ w. w .refusal) (madeWork p count) refusedWork
+  -- the calls on a picture refuse by the run's rows, and then by the mapping's
+  pub work-refuses : Refuses (workTests p count) (workPicture p count) (λ w. w .refusal) (madeWork p count) refusedWork
   unfolding workPicture workRun
   work-refuses = refuses _ _ _ _ refl (λ n. refl)
+
+  -- where nothing is refused the run is not
+  pub run-passed : firstOf (workTests p count) ≡ done → firstOf (runTests p count) ≡ done
+  run-passed e =
+      done-exactly (runTests p count) .1
+      (none-front (runTests p count) (mapTests p count) (done-exactly (workTests p count) .0 e))
+
+  -- nor is the mapping
+  pub map-passed : firstOf (workTests p count) ≡ done → firstOf (mapTests p count) ≡ done
+  map-passed e =
+      done-exactly (mapTests p count) .1
+      (none-back (runTests p count) (mapTests p count) (done-exactly (workTests p count) .0 e))
+
+  -- the run's tests decide first, and then the mapping's
+  one-by-one : workPicture p count
+      ≡ outcomeOf (runTests p count) (outcomeOf (mapTests p count) (madeWork p count) refusedWork) refusedWork
+  unfolding workPicture
+  one-by-one = outcome-joined (runTests p count) (mapTests p count) (madeWork p count) refusedWork
 
   -- the run's number is that of its rows
   run-number : runOn p count .answer .refusal ≡ firstOf (runTests p count)
@@ -147,13 +194,13 @@ module _ {p : List ℕ} {count : ℕ} {rec : Record} {ks ws : List ℕ} {ran : R
   -- a refused run leaves its refusal
   pub ready-refused : {left : Work} → left ≡ refusedWork (ran .refusal) → ¬ (ran .refusal ≡ done)
       → left ≡ workPicture p count
-  unfolding workPicture
   ready-refused e some =
-      e ∙ sym (left-of-number (runTests p count) (madeWork p count) (ran .refusal) (sym ready-number) some)
+      e ∙ sym (one-by-one p count ∙ left-of-number (runTests p count) _ (ran .refusal) (sym ready-number) some)
 
-  -- an accepted one what is made of it
-  pub ready-made : {left : Work} {raster : List ℕ} → left ≡ workRun raster rec ks ws ran members count
+  -- an accepted one what is left of it
+  pub ready-left : {left : Work} {raster : List ℕ} → left ≡ leftRun raster rec ks ws ran members count
       → raster ≡ rasterOf p → ran .refusal ≡ done → left ≡ workPicture p count
-  ready-made e is ok =
-      let made = work-refuses p count .by-none (sym ready-number ∙ ok) in
-      e ∙ rw (is, w .rec-is, w .keys-are, w .weights-are, w .ran-is, w .members-are) (sym made)
+  unfolding leftRun
+  ready-left e is ok =
+      let made = outcome-made (runTests p count) _ refusedWork (sym ready-number ∙ ok) in
+      e ∙ rw (is, w .rec-is, w .keys-are, w .weights-are, w .ran-is, w .members-are) (sym (one-by-one p count ∙ made))

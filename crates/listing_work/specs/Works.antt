@@ -1,6 +1,6 @@
 -- What is listed, as values: what the calls on a picture leave, on every picture.
 use Prim.Native.Nat.{ℕ, _*_, _/_, _≤_}
-use mathlib.Core.List.{List}
+use mathlib.Core.List.{List, _++_}
 use lib.ListN.{length, take, replicate}
 use Rattle.number.specs.{bit}
 use Rattle.refusal.specs.{Row, done, outcomeOf}
@@ -9,7 +9,7 @@ use Rattle.shades.specs.{mostShades, mostCoordinates}
 use Rattle.lloyd.specs.{Ran, RunOutcome, runOf, runRows}
 use Rattle.palette.specs.{PaletteOutcome}
 use Rattle.palette_runs.specs.{runPalette}
-use Rattle.mapping.specs.{MapOutcome, mapStrip}
+use Rattle.mapping.specs.{MapOutcome, mapRows, mapStrip}
 use Rattle.p6.specs.{rasterOf}
 use Rattle.listing_lines.specs.{Summary}
 use Rattle.listing_test.specs.{mostListed}
@@ -54,9 +54,25 @@ paletteOn p count =
     paletteOfRun (tableOf p .answer .rec) (tableOf p .keys) (tableOf p .weights) (runOn p count .answer)
     (runOn p count .members) count
 
+-- the entries of its shades
+abbrev pub entriesOn : List ℕ → ℕ → List ℕ
+entriesOn p count = take (3 * count) (paletteOn p count .palette)
+
 -- a raster mapped to the first entries of a palette
 abbrev pub mappedRaster : List ℕ → List ℕ → ℕ → MapOutcome
 mappedRaster raster palette count = mapStrip raster (take (3 * count) palette) listedZeros 0
+
+-- its tests, in their order
+abbrev pub rasterTests : List ℕ → List ℕ → ℕ → List Row
+rasterTests raster palette count = mapRows raster (take (3 * count) palette) listedZeros 0
+
+-- those of a picture and the palette of its run
+abbrev pub mapTests : List ℕ → ℕ → List Row
+mapTests p count = rasterTests (rasterOf p) (paletteOn p count .palette) count
+
+-- all tests of the calls on a picture: the run's, and then the mapping's
+abbrev pub workTests : List ℕ → ℕ → List Row
+workTests p count = runTests p count ++ mapTests p count
 
 -- ---- what they leave
 
@@ -83,7 +99,7 @@ refusedWork n = record {
   index = listedZeros;
 }
 
--- what is left of a raster, its table, and what a run on it answers and leaves
+-- what is told of a raster, its table, and what a run on it answers and leaves
 unfoldable pub workRun : List ℕ → Record → List ℕ → List ℕ → Ran → List ℕ → ℕ → Work
 workRun raster rec ks ws ran members count =
     let palette = paletteOfRun rec ks ws ran members count .palette in
@@ -96,15 +112,21 @@ workRun raster rec ks ws ran members count =
       index = mappedRaster raster palette count .index;
     }
 
--- of a picture whose run is accepted
+-- what is left of them: that, or the mapping's refusal
+unfoldable pub leftRun : List ℕ → Record → List ℕ → List ℕ → Ran → List ℕ → ℕ → Work
+leftRun raster rec ks ws ran members count =
+    outcomeOf (rasterTests raster (paletteOfRun rec ks ws ran members count .palette) count)
+    (workRun raster rec ks ws ran members count) refusedWork
+
+-- what is told of a picture whose run and mapping are accepted
 abbrev pub madeWork : List ℕ → ℕ → Work
 madeWork p count =
     workRun (rasterOf p) (tableOf p .answer .rec) (tableOf p .keys) (tableOf p .weights) (runOn p count .answer)
     (runOn p count .members) count
 
--- of a picture that is accepted: that, or the run's refusal
+-- what is left of a picture: that, or the refusal of the run or of the mapping
 unfoldable pub workPicture : List ℕ → ℕ → Work
-workPicture p count = outcomeOf (runTests p count) (madeWork p count) refusedWork
+workPicture p count = outcomeOf (workTests p count) (madeWork p count) refusedWork
 
 -- at most 64 shades, an entry of the palette for each, and a place of the index picture for each pixel
 pub record Fits (w : Work) : Type 0 where

@@ -2,7 +2,8 @@
 // mapping.
 //
 // Calls; none requires anything of its caller
-//   work_picture   the calls on a picture. Refuses what the run refuses.   picture.rt
+//   work_picture   the calls on a picture. Refuses what the run   picture.rt
+//                  refuses, and then what the mapping refuses.
 //   refused        what a refusal leaves: its number and zeros
 // What they leave is a Work: a refusal's number, or all that the lines of a listing tell.
 //

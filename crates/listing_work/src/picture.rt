@@ -3,7 +3,7 @@ ghost use mathlib.Core.Path.{_≡_};
 ghost use Prim.Native.Nat.{_*_, _≤_};
 ghost use lib.ListN.{length};
 ghost use Rattle.shades.specs.{mostShades};
-ghost use Rattle.listing_work.specs.Works.{refusedWork, workRun, workPicture};
+ghost use Rattle.listing_work.specs.Works.{refusedWork, leftRun, workPicture};
 use super::LISTED_LIMIT;
 use super::Work;
 use listing_lines::Summary;
@@ -36,7 +36,8 @@ pub fn refused(number: u8) -> Work
 }
 
 // The palette of the groups that a run on a table leaves in its members, the raster mapped to it,
-// and what is told of both and of the table. Requires at most 64 shades, and their coordinates.
+// and what is told of both and of the table. Refuses what the mapping refuses. Requires at most 64
+// shades, and their coordinates.
 fn work_run(
     raster: &[u8],
     rec: Record,
@@ -47,7 +48,7 @@ fn work_run(
     count: usize,
 ) -> Work
     requires { ⌜ (count ≤ mostShades) × (3 * count ≤ length (ran .shades)) ⌝ }
-    ensures { λ r. ⌜ r ≡ workRun (now (raster .entry)) rec (now (keys .entry))
+    ensures { λ r. ⌜ r ≡ leftRun (now (raster .entry)) rec (now (keys .entry))
         (now (weights .entry)) ran (now (members .entry)) count ⌝ }
 {
     let shades = ran.shades;
@@ -56,6 +57,10 @@ fn work_run(
     palette_from_groups(rec, keys, weights, &shades[..n], members, &mut palette);
     let mut index = [0u8; 8192];
     let mapped = mapping::map_strip(raster, &palette[..n], &mut index, 0);
+    let number = mapped.refusal;
+    if number != DONE {
+        return refused(number);
+    }
     let summary = Summary {
         used: rec.used as u64,
         pixels: rec.pixels,
@@ -76,7 +81,8 @@ fn work_run(
 }
 
 // Makes the calls on a picture: its table is filled, a run of at most 20 rounds made, and the
-// picture mapped to the palette of its last groups. Refuses what the run refuses.
+// picture mapped to the palette of its last groups. Refuses what the run refuses, and then what the
+// mapping refuses: of a picture that is listed, two shades with one entry.
 pub fn work_picture(picture: &[u8], count: usize) -> Work
     ensures { λ r. ⌜ r ≡ workPicture (now (picture .entry)) count ⌝ }
 {

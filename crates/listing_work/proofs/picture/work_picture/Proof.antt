@@ -5,7 +5,7 @@ use mathlib.Core.Path.{_≡_}
 use denote.Ref.{now}
 use borrow.Author.Needs.{needs}
 use Rattle.p6.specs.{rasterOf}
-use Rattle.listing_work.proofs.Works.{ready, ready-count, ready-room, ready-refused, ready-made}
+use Rattle.listing_work.proofs.Works.{ready, ready-count, ready-room, ready-refused, ready-left}
 use Rattle.listing_work.proofs.picture.work_picture.Statement.{statement}
 use Rattle.listing_work.proofs.picture.work_picture.Tie as tie
 
@@ -103,7 +103,7 @@ returns-2 c =
     let e = shared (c .before) in
     let r = ran e in
     let w = ready (p r) (k r) (raster-is r) (added r .add-strip .ensures) (r .run .ensures) in
-    ready-made w (c .work-run .ensures) (raster-is r) (e .if1 .left)
+    ready-left w (c .work-run .ensures) (raster-is r) (e .if1 .left)
 
 pub work-picture-spec : {M : Type 1} → statement M
 work-picture-spec =

@@ -1,4 +1,5 @@
--- `work_run` meets its contract: the palette is made, the raster mapped to it, and both are handed on.
+-- `work_run` meets its contract: the palette is made, the raster mapped to it, and both are handed on, or the mapping's
+-- refusal is.
 use Prim.Native.Nat.{ℕ}
 use mathlib.Core.Path.{sym, _∙_}
 use native.Mathlib.Omega.{arith}
@@ -6,7 +7,7 @@ use lib.ListN.{length-replicate}
 use lib.Seq.{length-take-le}
 use denote.Ref.{now}
 use borrow.Author.Needs.{needs}
-use Rattle.listing_work.proofs.Works.{run-left}
+use Rattle.listing_work.proofs.Works.{run-refused, run-left}
 use Rattle.listing_work.proofs.picture.work_run.Statement.{statement}
 use Rattle.listing_work.proofs.picture.work_run.Tie as tie
 
@@ -49,18 +50,28 @@ slice-aggregate-map-strip-2 c = search needs
 map-strip-requires : tie.Need-map-strip-requires
 map-strip-requires c κs = search needs
 
-bit-requires : tie.Need-bit-requires
-bit-requires c κs = search needs
-
-cast-t26 : tie.Need-cast-t26
-cast-t26 c = search needs
+refused-requires : tie.Need-refused-requires
+refused-requires c κs = search needs
 
 returns : tie.Need-returns
 returns c =
-    let m = c .before .before in
+    let m = c .before .before .before in
+    let a = st (made m) .args in
+    run-refused (now (a .raster)) (a .rec) (now (a .keys)) (now (a .weights)) (a .ran) (now (a .members)) (a .count)
+    (made m .palette-from-groups .ensures) (m .map-strip .ensures) (c .refused .ensures) (c .before .if1 .taken)
+
+bit-requires : tie.Need-bit-requires
+bit-requires c κs = search needs
+
+cast-t28 : tie.Need-cast-t28
+cast-t28 c = search needs
+
+returns-2 : tie.Need-returns-2
+returns-2 c =
+    let m = c .before .before .before in
     let a = st (made m) .args in
     run-left (now (a .raster)) (a .rec) (now (a .keys)) (now (a .weights)) (a .ran) (now (a .members)) (a .count)
-    (made m .palette-from-groups .ensures) (m .map-strip .ensures) (c .bit .ensures .0)
+    (made m .palette-from-groups .ensures) (m .map-strip .ensures) (c .bit .ensures .0) (c .before .if1 .left)
 
 pub work-run-spec : {M : Type 1} → statement M
 work-run-spec =
@@ -75,6 +86,8 @@ work-run-spec =
     slice-aggregate-map-strip
     slice-aggregate-map-strip-2
     map-strip-requires
+    refused-requires
+    returns
     bit-requires
-    cast-t26
-    returns)
+    cast-t28
+    returns-2)
