@@ -98,7 +98,13 @@ int main(int argc, char **argv)
     uint8_t *index = room(pixels);
     uint64_t mapping[KF_MAP_STRIP_PLACES];
     double means[KF_MAP_STRIP_MEAN_PLACES];
-    check("the mapping", kf_map_strip(raster, raster_length, palette, 3 * count, index, pixels, 0, mapping, means));
+    uint32_t refusal = kf_map_strip(raster, raster_length, palette, 3 * count, index, pixels, 0, mapping, means);
+    if (refusal == KF_TWIN_SHADE) {
+        fprintf(stderr, "order: the mapping refused %d %s: shades %" PRIu64 " and %" PRIu64 " are equal\n",
+                KF_TWIN_SHADE, kf_refusal_name(refusal), mapping[KF_MAP_STRIP_LOWER], mapping[KF_MAP_STRIP_HIGHER]);
+        return KF_TWIN_SHADE;
+    }
+    check("the mapping", refusal);
 
     /* the order: the pixels of each shade */
     uint64_t mapped[KF_MOST_SHADES] = {0};

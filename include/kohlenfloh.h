@@ -42,7 +42,7 @@ extern "C" {
 #endif
 
 /* The version of the library that this header belongs to. */
-#define KF_VERSION "0.5.0"
+#define KF_VERSION "0.6.0"
 
 /* The refusals. */
 enum kf_refusal {
@@ -64,7 +64,8 @@ enum kf_refusal {
     KF_BAD_HEADER = 12,  /* a byte of the header cannot stand where it does, or the input ends early */
     KF_BAD_SIZE = 13,    /* a side not 1 to 16,384, or more than 16,777,216 pixels */
     KF_BAD_DEPTH = 14,   /* depth not 255 */
-    KF_BAD_RASTER = 15   /* raster shorter or longer than 3 bytes for each pixel */
+    KF_BAD_RASTER = 15,  /* raster shorter or longer than 3 bytes for each pixel */
+    KF_TWIN_SHADE = 18   /* two entries of the palette are equal */
 };
 
 /* A refusal's name, in capitals: "BAD STRIP" for KF_BAD_STRIP. "DONE" for KF_DONE; "UNKNOWN" for any other number, as a
@@ -88,6 +89,7 @@ static inline const char *kf_refusal_name(uint32_t number)
     case KF_BAD_SIZE: return "BAD SIZE";
     case KF_BAD_DEPTH: return "BAD DEPTH";
     case KF_BAD_RASTER: return "BAD RASTER";
+    case KF_TWIN_SHADE: return "TWIN SHADE";
     default: return "UNKNOWN";
     }
 }
@@ -121,6 +123,7 @@ static inline const char *kf_refusal_sentence(uint32_t number)
     case KF_BAD_SIZE: return "sides or product out of range";
     case KF_BAD_DEPTH: return "depth not 255";
     case KF_BAD_RASTER: return "raster shorter or longer";
+    case KF_TWIN_SHADE: return "two entries of the palette are equal";
     default: return "a number that has no name here";
     }
 }
@@ -229,7 +232,10 @@ enum kf_map_strip_place {
     KF_MAP_STRIP_GREEN_ERROR = 2, /* that of G */
     KF_MAP_STRIP_BLUE_ERROR = 3,  /* that of B */
     KF_MAP_STRIP_HAS_MEAN = 4,    /* 1 where there is a mean, which is wherever the strip has pixels; 0 elsewhere */
-    KF_MAP_STRIP_PLACES = 5       /* how many places there are */
+    KF_MAP_STRIP_LOWER = 5,       /* after KF_TWIN_SHADE the lower number of two equal entries; 0 elsewhere */
+    KF_MAP_STRIP_HIGHER = 6,      /* after KF_TWIN_SHADE the higher one, the smallest number of an entry that equals one
+                                     before it; 0 elsewhere */
+    KF_MAP_STRIP_PLACES = 7       /* how many places there are */
 };
 
 /* The places of the means of kf_map_strip, each one division in binary64; zeros where there is no mean. */
@@ -244,7 +250,11 @@ enum kf_map_strip_mean_place {
 /* Maps a strip into its stretch of the index picture, which begins at place first and has a byte for each pixel: the
  * number of the nearest palette entry, the lowest at a tie. Every other index byte stays. Writes the answer and the
  * means.
- * Refuses, in this order: KF_BAD_STRIP, KF_BAD_PALETTE, KF_MANY_PIXELS, KF_SHORT_ROOM. */
+ * A palette with two equal entries is refused, with an empty strip too: a call with one tells of a palette whether
+ * pixels can be mapped to it. The palette calls make such a palette where two shades come to the same three levels; ask
+ * the run for fewer shades then.
+ * Refuses, in this order: KF_BAD_STRIP, KF_BAD_PALETTE, KF_TWIN_SHADE, KF_MANY_PIXELS, KF_SHORT_ROOM.
+ * KF_TWIN_SHADE leaves in the answer the numbers of the two entries; every other place holds 0. */
 uint32_t kf_map_strip(const uint8_t *strip, size_t strip_len, const uint8_t *palette, size_t palette_len,
                       uint8_t *index, size_t index_len, size_t first, uint64_t answer[KF_MAP_STRIP_PLACES],
                       double means[KF_MAP_STRIP_MEAN_PLACES]);

@@ -36,7 +36,7 @@
 use crate::mapping::Figures;
 use crate::picture::Picture;
 use crate::raw::*;
-use crate::refusal::Refusal;
+use crate::refusal::{Refusal, Values, NOTHING};
 use crate::rounds::Round;
 use crate::table::Record;
 
@@ -62,10 +62,10 @@ enum Search {
     Short,
 }
 
-/// The answer to a number: 0 is done, every other one its refusal, with the value that it carries if it carries one.
+/// The answer to a number: 0 is done, every other one its refusal, with what it carries of these values.
 #[inline]
-fn answer_to(number: u32, value: u64) -> Result<(), Refusal> {
-    Refusal::carrying(number, value).map_or(Ok(()), Err)
+fn answer_to(number: u32, values: Values) -> Result<(), Refusal> {
+    Refusal::carrying(number, values).map_or(Ok(()), Err)
 }
 
 /// Adds a strip's pixels to the table of a record, keys and weights, and answers how many were taken: all of them.
@@ -91,7 +91,7 @@ pub fn add_strip(record: &mut Record, keys: &mut [u32], weights: &mut [u32], str
         )
     };
     *record = Record::from_array(array);
-    answer_to(number, taken[0]).map(|()| taken[0])
+    answer_to(number, [taken[0], 0]).map(|()| taken[0])
 }
 
 /// One round in which each colour looks at every shade. The shades move in their coordinates, and the number of each
@@ -156,7 +156,7 @@ fn round(
             &mut answer,
         )
     };
-    answer_to(number, 0).map(|()| Round {
+    answer_to(number, NOTHING).map(|()| Round {
         total: answer[KF_ROUND_TOTAL],
         moved: answer[KF_ROUND_MOVED],
         distances: answer[KF_ROUND_DISTANCES],
@@ -200,7 +200,7 @@ pub fn run(
             &mut answer,
         )
     };
-    answer_to(number, 0).map(|()| Ran {
+    answer_to(number, NOTHING).map(|()| Ran {
         shades,
         rounds: answer[KF_RUN_ROUNDS] as usize,
         settled: answer[KF_RUN_SETTLED] == 1,
@@ -219,7 +219,7 @@ pub fn palette_from_shades(coordinates: &[u32], palette: &mut [u8]) -> Result<()
     // SAFETY: each pointer and length is that of a slice of this call, and the palette is exclusive.
     let number =
         unsafe { kf_palette_from_shades(coordinates.as_ptr(), coordinates.len(), palette.as_mut_ptr(), palette.len()) };
-    answer_to(number, 0)
+    answer_to(number, NOTHING)
 }
 
 /// The palette of a run, three bytes a shade, each the level nearest to the exact mean of the shade's group, halves up;
@@ -274,14 +274,28 @@ pub fn palette_from_groups(
             palette.len(),
         )
     };
-    answer_to(number, 0)
+    answer_to(number, NOTHING)
 }
 
 /// Maps a strip into its stretch of the index picture, which begins at place `first` and has a byte for each pixel.
-/// Every other index byte stays.
+/// Every other index byte stays. A palette with two equal entries is refused, with an empty strip too.
+///
+/// ```
+/// use kohlenfloh::{calls, Refusal};
+///
+/// let twins = [9, 9, 9, 1, 2, 2, 0, 1, 0, 1, 2, 2];
+/// let mut index = [7; 1];
+/// let refusal = calls::map_strip(&[1, 2, 3], &twins, &mut index, 0).unwrap_err();
+/// assert_eq!(refusal, Refusal::TwinShade { lower: 1, higher: 3 });
+/// assert_eq!(refusal.to_string(), "18 TWIN SHADE, entries 1 and 3: two entries of the palette are equal");
+/// assert_eq!(index, [7]);
+/// assert_eq!(calls::map_strip(&[1, 2, 3], &twins[..9], &mut index, 0)?.error, 1);
+/// assert_eq!(index, [1]);
+/// # Ok::<(), Refusal>(())
+/// ```
 ///
 /// # Refusals
-/// BAD STRIP, BAD PALETTE, MANY PIXELS, SHORT ROOM.
+/// BAD STRIP, BAD PALETTE, TWIN SHADE, MANY PIXELS, SHORT ROOM.
 #[inline]
 pub fn map_strip(strip: &[u8], palette: &[u8], index: &mut [u8], first: usize) -> Result<Figures, Refusal> {
     let mut answer = [0; KF_MAP_STRIP_PLACES];
@@ -302,7 +316,8 @@ pub fn map_strip(strip: &[u8], palette: &[u8], index: &mut [u8], first: usize) -
     };
     let errors = [KF_MAP_STRIP_RED_ERROR, KF_MAP_STRIP_GREEN_ERROR, KF_MAP_STRIP_BLUE_ERROR];
     let channels = [KF_MAP_STRIP_RED_MEAN, KF_MAP_STRIP_GREEN_MEAN, KF_MAP_STRIP_BLUE_MEAN];
-    answer_to(number, 0).map(|()| Figures {
+    let twins = [answer[KF_MAP_STRIP_LOWER], answer[KF_MAP_STRIP_HIGHER]];
+    answer_to(number, twins).map(|()| Figures {
         error: answer[KF_MAP_STRIP_ERROR],
         channel_errors: errors.map(|place| answer[place]),
         mean: (answer[KF_MAP_STRIP_HAS_MEAN] == 1).then_some(means[KF_MAP_STRIP_MEAN]),
@@ -319,7 +334,7 @@ pub fn read_picture(input: &[u8]) -> Result<Picture<'_>, Refusal> {
     let mut answer = [0; KF_READ_PICTURE_PLACES];
     // SAFETY: the pointer and length are those of the input, and the answer is exclusive.
     let number = unsafe { kf_read_picture(input.as_ptr(), input.len(), &mut answer) };
-    answer_to(number, answer[KF_READ_PICTURE_OFFSET]).map(|()| Picture {
+    answer_to(number, [answer[KF_READ_PICTURE_OFFSET], 0]).map(|()| Picture {
         width: answer[KF_READ_PICTURE_WIDTH] as usize,
         height: answer[KF_READ_PICTURE_HEIGHT] as usize,
         raster: &input[answer[KF_READ_PICTURE_RASTER] as usize..],
@@ -332,16 +347,17 @@ mod tests {
 
     #[test]
     fn a_number_is_done_or_its_refusal_with_what_it_carries() {
-        assert_eq!(answer_to(0, 7), Ok(()));
-        assert_eq!(answer_to(1, 7), Err(Refusal::BadStrip));
-        assert_eq!(answer_to(3, 7), Err(Refusal::Full { taken: 7 }));
-        assert_eq!(answer_to(12, 7), Err(Refusal::BadHeader { offset: 7 }));
+        assert_eq!(answer_to(0, [7, 9]), Ok(()));
+        assert_eq!(answer_to(1, [7, 9]), Err(Refusal::BadStrip));
+        assert_eq!(answer_to(3, [7, 9]), Err(Refusal::Full { taken: 7 }));
+        assert_eq!(answer_to(12, [7, 9]), Err(Refusal::BadHeader { offset: 7 }));
+        assert_eq!(answer_to(18, [7, 9]), Err(Refusal::TwinShade { lower: 7, higher: 9 }));
     }
 
     #[test]
     fn an_unknown_number_is_an_error_and_no_panic() {
         for number in [1000, 1 << 31, u32::MAX] {
-            assert_eq!(answer_to(number, 7), Err(Refusal::Unknown { number }));
+            assert_eq!(answer_to(number, [7, 9]), Err(Refusal::Unknown { number }));
         }
     }
 }

@@ -63,8 +63,8 @@
 //! | [`Table::short_round`] | 7 SHORT ROOM, 9 BAD MEMBER |
 //! | [`Table::palette_from_groups`] | 7 SHORT ROOM, 9 BAD MEMBER |
 //! | [`Shades::palette`] | none |
-//! | [`Palette::map`] | 1 BAD STRIP, 11 MANY PIXELS |
-//! | [`Palette::map_into`] | 1 BAD STRIP, 11 MANY PIXELS, 7 SHORT ROOM |
+//! | [`Palette::map`] | 1 BAD STRIP, 18 TWIN SHADE, 11 MANY PIXELS |
+//! | [`Palette::map_into`] | 1 BAD STRIP, 18 TWIN SHADE, 11 MANY PIXELS, 7 SHORT ROOM |
 //! | [`Table::from_parts`], [`Table::from_entries`] | 2 BAD TABLE |
 //! | [`Shades::from_coordinates`] | 4 BAD COUNT, 8 BAD CENTRE |
 //! | [`Palette::from_bytes`] | 10 BAD PALETTE |

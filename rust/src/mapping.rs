@@ -69,10 +69,11 @@ impl Mapped {
 }
 
 impl Palette {
-    /// Gives each pixel of a strip the number of its nearest entry, the lowest number at a tie.
+    /// Gives each pixel of a strip the number of its nearest entry, the lowest number at a tie. No two entries may be
+    /// equal, whether or not there are pixels.
     ///
     /// ```
-    /// use kohlenfloh::Palette;
+    /// use kohlenfloh::{Palette, Refusal};
     ///
     /// let palette = Palette::from_bytes(&[3, 0, 0])?;
     /// let mapped = palette.map(&[0, 0, 0, 0, 0, 0, 0, 0, 0, 10, 0, 0])?;
@@ -81,11 +82,15 @@ impl Palette {
     /// assert_eq!(mapped.figures.channel_errors, [76, 0, 0]);
     /// assert_eq!(mapped.figures.mean, Some(19.0));
     /// assert_eq!(palette.map(&[])?.figures.mean, None);
-    /// # Ok::<(), kohlenfloh::Refusal>(())
+    ///
+    /// let twins = Palette::from_bytes(&[3, 0, 0, 7, 7, 7, 3, 0, 0])?;
+    /// assert_eq!(twins.map(&[0, 0, 0]), Err(Refusal::TwinShade { lower: 0, higher: 2 }));
+    /// assert_eq!(twins.map(&[]), Err(Refusal::TwinShade { lower: 0, higher: 2 }));
+    /// # Ok::<(), Refusal>(())
     /// ```
     ///
     /// # Refusals
-    /// BAD STRIP, MANY PIXELS.
+    /// BAD STRIP, TWIN SHADE, MANY PIXELS.
     pub fn map(&self, strip: &[u8]) -> Result<Mapped, Refusal> {
         let mut index = vec![0; strip.len() / 3];
         let figures = self.map_into(strip, &mut index, 0)?;
@@ -93,7 +98,7 @@ impl Palette {
     }
 
     /// Maps a strip into its stretch of an index picture, which begins at place `first` and has a byte for each pixel.
-    /// Every other index byte stays.
+    /// Every other index byte stays. No two entries may be equal.
     ///
     /// ```
     /// use kohlenfloh::{Palette, Refusal};
@@ -107,7 +112,7 @@ impl Palette {
     /// ```
     ///
     /// # Refusals
-    /// BAD STRIP, MANY PIXELS; SHORT ROOM, for a stretch that does not lie in the index picture.
+    /// BAD STRIP, TWIN SHADE, MANY PIXELS; SHORT ROOM, for a stretch that does not lie in the index picture.
     pub fn map_into(&self, strip: &[u8], index: &mut [u8], first: usize) -> Result<Figures, Refusal> {
         calls::map_strip(strip, self.bytes(), index, first)
     }

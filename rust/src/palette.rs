@@ -7,7 +7,8 @@ use crate::table::Table;
 /// A palette of 1 to 64 entries, three bytes R, G, B each.
 ///
 /// [`Table::palette_from_groups`] makes it from what a run leaves, [`Shades::palette`] from shades alone, and
-/// [`Palette::from_bytes`] from bytes that were stored. Equal entries are allowed; a pixel then gets the lower number.
+/// [`Palette::from_bytes`] from bytes that were stored. Each of them may give twins, two entries that are equal. No
+/// pixel is mapped to such a palette: [`Palette::map`] refuses it by TWIN SHADE, and [`Palette::twins`] tells of it.
 ///
 /// ```
 /// use kohlenfloh::Palette;
@@ -28,7 +29,7 @@ impl Palette {
     /// The most pixels that one call maps, 16,777,216.
     pub const MOST_PIXELS: usize = 16_777_216;
 
-    /// A palette from its bytes, three for each entry, tested by the library.
+    /// A palette from its bytes, three for each entry, tested by the library. Two entries may be equal.
     ///
     /// ```
     /// use kohlenfloh::{Palette, Refusal};
@@ -42,8 +43,38 @@ impl Palette {
     /// BAD PALETTE.
     pub fn from_bytes(bytes: &[u8]) -> Result<Palette, Refusal> {
         let palette = Palette::held(bytes.to_vec());
-        palette.map(&[])?;
-        Ok(palette)
+        match palette.map(&[]) {
+            Ok(_) | Err(Refusal::TwinShade { .. }) => Ok(palette),
+            Err(refusal) => Err(refusal),
+        }
+    }
+
+    /// The numbers of two equal entries, the lower one first, if there are any: the pair that TWIN SHADE carries where
+    /// the palette is mapped. Of several pairs it is the one with the smallest higher number.
+    ///
+    /// Two shades of a run may come to the same three levels, and are twins in its palette. It is then to be asked for
+    /// fewer shades.
+    ///
+    /// ```
+    /// use kohlenfloh::{RunOptions, Table};
+    ///
+    /// let mut table = Table::with_room(5);
+    /// table.add(&[0, 1, 0, 1, 1, 2, 1, 2, 1, 1, 2, 2, 2, 0, 1])?;
+    /// let palette = |count| {
+    ///     let run = table.run(RunOptions::shades(count))?;
+    ///     table.palette_from_groups(&run.shades, &run.members)
+    /// };
+    /// let four = palette(4)?;
+    /// assert_eq!(four.twins(), Some((0, 3)));
+    /// assert_eq!((four.entry(0), four.entry(3)), (Some([1, 2, 2]), Some([1, 2, 2])));
+    /// assert_eq!(palette(3)?.twins(), None);
+    /// # Ok::<(), kohlenfloh::Refusal>(())
+    /// ```
+    pub fn twins(&self) -> Option<(usize, usize)> {
+        match self.map(&[]) {
+            Err(Refusal::TwinShade { lower, higher }) => Some((lower, higher)),
+            _ => None,
+        }
     }
 
     /// How many entries there are.

@@ -50,8 +50,12 @@ pub const KF_MAP_STRIP_GREEN_ERROR: usize = 2;
 pub const KF_MAP_STRIP_BLUE_ERROR: usize = 3;
 /// In the answer of a mapping: 1 where there is a mean, 0 for no pixels.
 pub const KF_MAP_STRIP_HAS_MEAN: usize = 4;
+/// In the answer of a mapping: after TWIN SHADE the lower number of two equal entries, 0 elsewhere.
+pub const KF_MAP_STRIP_LOWER: usize = 5;
+/// In the answer of a mapping: after TWIN SHADE the higher number, 0 elsewhere.
+pub const KF_MAP_STRIP_HIGHER: usize = 6;
 /// The places of the answer of a mapping.
-pub const KF_MAP_STRIP_PLACES: usize = 5;
+pub const KF_MAP_STRIP_PLACES: usize = 7;
 
 /// In the means of a mapping: the mean square error.
 pub const KF_MAP_STRIP_MEAN: usize = 0;

@@ -1,11 +1,18 @@
 //! The refusals: numbers, names, and when each is given, in one table.
 use std::fmt;
 
-/// Makes [`Refusal`], and what goes by its numbers, from a table. A row is a refusal's number; its case, with the value
-/// it carries and what that is; its name; and when it is given, in the words of the scope.
+/// The values that a refusal carries, in their order; zeros behind them.
+pub(crate) type Values = [u64; 2];
+
+/// The values of a refusal that carries nothing, or of which the number alone is known.
+pub(crate) const NOTHING: Values = [0; 2];
+
+/// Makes [`Refusal`], and what goes by its numbers, from a table. A row is a refusal's number; its case, with each
+/// value it carries and what that is; its name; and when it is given, in the words of the scope.
 macro_rules! refusals {
     ($(
-        $number:literal, $case:ident $({ $value:ident: $kind:ty, $what:literal })?, $name:literal, $sentence:literal;
+        $number:literal, $case:ident $({ $($value:ident: $kind:ty, $what:literal);+ })?, $name:literal,
+            $sentence:literal;
     )*) => {
         /// Why a call was refused. Each case has a fixed number, which is also the exit status of the command.
         ///
@@ -23,8 +30,10 @@ macro_rules! refusals {
             $(
                 #[doc = concat!($number, " ", $name, ": ", $sentence, ".")]
                 $case $({
-                    #[doc = $what]
-                    $value: $kind,
+                    $(
+                        #[doc = $what]
+                        $value: $kind,
+                    )+
                 })?,
             )*
             /// A number that is none of the others: that of a library later than this crate.
@@ -35,12 +44,15 @@ macro_rules! refusals {
         }
 
         impl Refusal {
-            /// The refusal of a number, with the value that it carries if it carries one; none for 0.
+            /// The refusal of a number, with the first of these values, as many as it carries; none for 0.
             #[inline]
-            pub(crate) fn carrying(number: u32, value: u64) -> Option<Refusal> {
+            pub(crate) fn carrying(number: u32, values: Values) -> Option<Refusal> {
                 match number {
                     0 => None,
-                    $($number => Some(Refusal::$case $({ $value: value as $kind })?),)*
+                    $($number => {
+                        $(let [$($value,)+ ..] = values;)?
+                        Some(Refusal::$case $({ $($value: $value as $kind),+ })?)
+                    })*
                     _ => Some(Refusal::Unknown { number }),
                 }
             }
@@ -82,11 +94,16 @@ refusals! {
     13, BadSize, "BAD SIZE", "sides or product out of range";
     14, BadDepth, "BAD DEPTH", "depth not 255";
     15, BadRaster, "BAD RASTER", "raster shorter or longer";
+    18, TwinShade {
+            lower: usize, "The lower number of two equal entries.";
+            higher: usize, "The higher one: the smallest number of an entry that equals one before it."
+        }, "TWIN SHADE",
+        "two entries of the palette are equal";
 }
 
 impl Refusal {
-    /// The refusal of a number; none for 0, which refuses nothing. FULL and BAD HEADER carry 0, as a number alone does
-    /// not tell more. A number that is in no row of the table is [`Refusal::Unknown`].
+    /// The refusal of a number; none for 0, which refuses nothing. FULL, BAD HEADER and TWIN SHADE carry zeros, as a
+    /// number alone does not tell more. A number that is in no row of the table is [`Refusal::Unknown`].
     ///
     /// ```
     /// use kohlenfloh::Refusal;
@@ -97,7 +114,7 @@ impl Refusal {
     /// assert_eq!(Refusal::from_number(1000), Some(Refusal::Unknown { number: 1000 }));
     /// ```
     pub fn from_number(number: u32) -> Option<Refusal> {
-        Refusal::carrying(number, 0)
+        Refusal::carrying(number, NOTHING)
     }
 
     /// The refusal's number, which is above 0.
@@ -135,6 +152,9 @@ impl fmt::Display for Refusal {
         match self {
             Refusal::Full { taken } => write!(to, "{number} {name}, {taken} pixels taken: {sentence}"),
             Refusal::BadHeader { offset } => write!(to, "{number} {name} at offset {offset}: {sentence}"),
+            Refusal::TwinShade { lower, higher } => {
+                write!(to, "{number} {name}, entries {lower} and {higher}: {sentence}")
+            }
             _ => write!(to, "{number} {name}: {sentence}"),
         }
     }

@@ -56,6 +56,8 @@ fn places_are_those_of_the_header() {
         KF_MAP_STRIP_GREEN_ERROR
         KF_MAP_STRIP_BLUE_ERROR
         KF_MAP_STRIP_HAS_MEAN
+        KF_MAP_STRIP_LOWER
+        KF_MAP_STRIP_HIGHER
         KF_MAP_STRIP_PLACES
         KF_MAP_STRIP_MEAN
         KF_MAP_STRIP_RED_MEAN
@@ -122,6 +124,7 @@ fn refusals_are_those_of_the_header() {
             }
         }
     }
-    let number = refusals.len() as u32;
-    assert_eq!(Refusal::from_number(number), Some(Refusal::Unknown { number }));
+    for number in (0..1000).filter(|number| refusals.values().all(|named| *named != u64::from(*number))) {
+        assert_eq!(Refusal::from_number(number), Some(Refusal::Unknown { number }));
+    }
 }

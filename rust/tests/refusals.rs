@@ -10,13 +10,18 @@ fn two_colours() -> Table {
 
 #[test]
 fn a_refusal_tells_number_name_what_it_carries_and_sentence() {
-    let known = (1..).map_while(Refusal::from_number).take_while(|refusal| !matches!(refusal, Refusal::Unknown { .. }));
+    let known = (1..100).filter_map(Refusal::from_number).filter(|refusal| !matches!(refusal, Refusal::Unknown { .. }));
+    let numbers: Vec<u32> = known.clone().map(Refusal::number).collect();
+    assert_eq!(numbers, (1..=15).chain([18]).collect::<Vec<u32>>());
     for refusal in known {
         assert!(refusal.to_string().starts_with(&format!("{} {}", refusal.number(), refusal.name())));
         assert!(refusal.to_string().ends_with(&format!(": {}", refusal.sentence())));
     }
     assert!(Refusal::Full { taken: 7 }.to_string().starts_with("3 FULL, 7 pixels taken: the next pixel"));
     assert!(Refusal::BadHeader { offset: 9 }.to_string().starts_with("12 BAD HEADER at offset 9: the offset"));
+    let twins = Refusal::TwinShade { lower: 1, higher: 3 }.to_string();
+    assert_eq!(twins, "18 TWIN SHADE, entries 1 and 3: two entries of the palette are equal");
+    assert_eq!(Refusal::from_number(18), Some(Refusal::TwinShade { lower: 0, higher: 0 }));
 }
 
 #[test]

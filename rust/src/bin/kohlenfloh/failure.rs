@@ -61,6 +61,7 @@ mod tests {
         let status = |refusal| Failure::Refused { name: String::new(), refusal, meaning: String::new() }.status();
         assert_eq!(status(Refusal::BadStrip), 1);
         assert_eq!(status(Refusal::BadRaster), 15);
+        assert_eq!(status(Refusal::TwinShade { lower: 1, higher: 3 }), 18);
         for number in [256, 1000, u32::MAX] {
             assert_eq!(status(Refusal::Unknown { number }), 70);
         }

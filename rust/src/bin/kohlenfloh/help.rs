@@ -20,7 +20,7 @@ pub fn version() -> String {
 }
 
 /// What each refusal means that a picture and its options can meet.
-const REFUSALS: [(Refusal, &str); 8] = [
+const REFUSALS: [(Refusal, &str); 9] = [
     (Refusal::Full { taken: 0 }, "more than 1,048,576 colours"),
     (Refusal::BadCount, "K is not 1 to 64"),
     (Refusal::FewColours, "the picture has fewer colours than K"),
@@ -33,6 +33,7 @@ const REFUSALS: [(Refusal, &str); 8] = [
     ),
     (Refusal::BadDepth, "the depth is not 255"),
     (Refusal::BadRaster, "the raster is shorter or longer than the sides say"),
+    (Refusal::TwinShade { lower: 0, higher: 0 }, "two shades come out equal; the message says which"),
 ];
 
 /// The answer to --help.
@@ -61,6 +62,10 @@ one shade. Where the drawing's colours are exactly its yarns, one more is
 refused by 5; an error of 0 on the sheet says then that every yarn has its
 shade.
 
+Of colours that lie close together two shades can come out equal. A sheet has
+no two lines of one colour: the picture is refused by 18, and fewer shades are
+to be asked for.
+
   K              how many shades, 1 to 64
   PICTURE.ppm    a P6 picture, depth 255, at most 16,777,216 pixels with at most
                  1,048,576 colours; `-` or no name means standard input.
@@ -69,7 +74,8 @@ shade.
 
 Options
   --in-use N       in place of K: the smallest count of shades, from N on, whose
-                   picture uses exactly N of them; a run is made for each count
+                   picture uses exactly N of them; a run is made for each count,
+                   and one that leaves two equal shades is passed over
   --limit N        at most N rounds, 1 to 200; 0 means 100, as does no --limit
   --index FILE     the index picture, P5: each pixel's shade as its number
   --palette FILE   the shades as a P6 picture, 1 high, a pixel for each shade

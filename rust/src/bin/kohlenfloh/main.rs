@@ -29,6 +29,7 @@ mod svg_shades;
 mod tables;
 mod temporary;
 mod thumbnail;
+mod twins;
 mod work;
 
 use std::io::{self, Write};

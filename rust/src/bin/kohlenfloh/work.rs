@@ -7,6 +7,7 @@ use crate::in_use::{self, Failed};
 use crate::meaning::Case;
 use crate::options::{Options, Wanted};
 use crate::progress::Progress;
+use crate::twins::palette_of;
 
 /// The most bytes of a strip. A strip is as many whole rows as fit, and the longest row has 48 KiB. Each add tests the
 /// whole table, so strips are long; they are short enough that progress shows.
@@ -38,6 +39,9 @@ pub fn find_shades<'a>(name: &str, input: &'a [u8], options: &Options) -> Result
             let case = Case { input, options, pixels: table.pixels(), colours: table.used() };
             Failure::Refused { name: name.into(), refusal, meaning: case.meaning(refusal) }
         }
+        Failed::Twins(twins) => {
+            Failure::Refused { name: name.into(), refusal: twins.refusal(), meaning: twins.to_string() }
+        }
         Failed::Unmet(unmet) => Failure::Unmet { name: name.into(), unmet },
     })
 }
@@ -54,7 +58,7 @@ fn make<'a>(table: &mut Table, input: &'a [u8], options: &Options) -> Result<Wor
     }
     let average = table.average().expect("a picture has a pixel");
     let run = run_of(table, options, &progress)?;
-    let palette = table.palette_from_groups(&run.shades, &run.members)?;
+    let palette = palette_of(table, &run)?;
     let mut index = vec![0; picture.pixels()];
     let mut error = 0;
     for (number, strip) in strips.clone().enumerate() {
