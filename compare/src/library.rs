@@ -176,8 +176,8 @@ pub fn map(ask: &Map) -> Seen {
     let strip = Guarded::new("strip", &ask.strip, BYTE);
     let palette = Guarded::new("palette", &ask.palette, BYTE);
     let mut index = Guarded::new("index", &ask.index, BYTE);
-    let mut errors = answer::<{ raw::KF_MAP_STRIP_PLACES }>("answer");
     let mut means = answer::<{ raw::KF_MAP_STRIP_MEAN_PLACES }>("means");
+    let mut answer = answer::<{ raw::KF_MAP_STRIP_PLACES }>("answer");
     // SAFETY: the pointers are those of live, apart buffers of the lengths told.
     let refusal = unsafe {
         raw::kf_map_strip(
@@ -188,14 +188,14 @@ pub fn map(ask: &Map) -> Seen {
             index.begin_mut(),
             index.len(),
             ask.first,
-            errors.begin_mut().cast(),
+            answer.begin_mut().cast(),
             means.begin_mut().cast(),
         )
     };
     strip.as_before(&ask.strip)?;
     palette.as_before(&ask.palette)?;
     let fields = vec![
-        ("error, R, G, B, mean or none", Values::Longs(errors.taken_back()?)),
+        ("error, R, G, B, mean or none, lower, higher", Values::Longs(answer.taken_back()?)),
         ("means by their bits", Values::Longs(means.taken_back()?)),
         ("index", Values::Bytes(index.taken_back()?)),
     ];

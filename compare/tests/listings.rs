@@ -3,7 +3,7 @@
 use std::fs;
 use std::path::Path;
 
-use compare::make::listing::{inputs, settling_in_thirty, sheet_h, stored};
+use compare::make::listing::{five_pixels, inputs, settling_in_thirty, sheet_h, stored, ten_shades_with_twins};
 use compare::model::slip::{ListingSlip, LISTING_SLIPS};
 use compare::model::Model;
 
@@ -51,6 +51,8 @@ fn the_stored_listings_are_the_models() {
         "a count of 0",
         "a count above 64",
         "more shades than used entries",
+        "two equal entries",
+        "twins with others between them",
     ];
     let missed: Vec<_> = edges.into_iter().filter(|edge| !model.met.contains_key(edge)).collect();
     assert_eq!(missed, Vec::<&str>::new());
@@ -78,6 +80,22 @@ fn sheet_h_is_listed_as_level_10_with_an_error_of_15() {
     assert!(twice.ends_with(b"\n0 11 0 0 32\n17\n"), "{}", String::from_utf8_lossy(&twice));
     let after = Model::default().listing(&settling_in_thirty(), None);
     assert!(file("listing_many", "stdout").ends_with(&[due, after].concat()));
+}
+
+#[test]
+fn twins_are_listed_as_refused_18_alone() {
+    let listing = |input: &[u8], slip| String::from_utf8(Model::default().listing(input, slip)).unwrap();
+    let fewer = listing(&five_pixels(3), None);
+    assert_eq!(fewer, "5 5 2 1 342 20\n0 1 2 2 3\n1 0 1 0 1\n2 2 0 1 1\n2\n");
+    for (input, shades) in [(five_pixels(4), 4), (ten_shades_with_twins(), 10)] {
+        assert_eq!(listing(&input, None), "refused 18\n");
+        // In spite of twins it would have a line with no pixels.
+        let listed = listing(&input, Some(ListingSlip::ListsTwins));
+        let lines: Vec<&str> = listed.lines().skip(1).collect();
+        assert!(lines.len() == shades + 1 && lines[..shades].iter().any(|line| line.ends_with(" 0")), "{listed}");
+    }
+    assert_eq!(listing(&five_pixels(4), Some(ListingSlip::TakesThePaletteFromShades)), "refused 18\n");
+    assert!(listing(&five_pixels(5), None).ends_with("\n4 1 1 2 1\n0\n"));
 }
 
 #[test]

@@ -31,7 +31,7 @@ fn due_in(slip: Slip) -> &'static [&'static str] {
             &["add", "rounds", "run", "groups", "strips", "tables"]
         }
         Slip::SumsPixelsThatWereNotTaken | Slip::KeepsTheSumsOfTheRecordBefore => &["add", "strips", "tables"],
-        Slip::TakesTheHighestNumberAtATie => &["rounds", "run", "map", "strips"],
+        Slip::TakesTheHighestNumberAtATie => &["rounds", "run", "map", "twins", "strips"],
         Slip::CutsPaletteBytes => &["palette", "groups"],
         Slip::PutsTheOffsetOneTooFar => &["picture"],
         Slip::EndsACommentAtLfAlone | Slip::TakesACommentAfterTheDepth => &["picture"],
@@ -41,6 +41,12 @@ fn due_in(slip: Slip) -> &'static [&'static str] {
         Slip::TakesTheNearestColoursForAGroup | Slip::KeepsTheOldRuleForEveryShade => &["groups"],
         Slip::AcceptsAMemberAtTheCount | Slip::LooksAtMembersPastTheUsedOnes => &["groups"],
         Slip::TestsNoCentreOfAShadeWithAGroup | Slip::TestsTheRoomBeforeTheCentres => &["groups"],
+        Slip::MapsByTwins | Slip::TestsNoTwinsWithAnEmptyStrip => &["map", "twins", "strips"],
+        Slip::NamesTheHighestTwin | Slip::SwapsLowerAndHigher => &["map", "twins", "strips"],
+        Slip::OverlooksTheLastEntry | Slip::ComparesNeighboursAlone => &["map", "twins", "strips"],
+        Slip::ComparesRedAndGreenAlone => &["map", "twins", "strips"],
+        Slip::TellsTwinsWithAnyRefusal => &["map", "twins"],
+        Slip::NamesTheTwinWithTheSmallestLower | Slip::TestsTwinsAfterManyPixels => &["twins"],
     }
 }
 

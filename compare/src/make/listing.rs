@@ -79,14 +79,28 @@ pub fn sheet_h() -> Vec<u8> {
     input("1", (32, 1), &[[10, 0, 0].repeat(17), [11, 0, 0].repeat(15)].concat())
 }
 
-/// The inputs that are stored: the scope's example first; sheet H, and the run that would go on to a thirtieth round,
-/// last.
+/// Five pixels of close colours, listed as so many shades. Of four, shades 0 and 3 both come to (1,2,2).
+pub fn five_pixels(count: usize) -> Vec<u8> {
+    input(&count.to_string(), (5, 1), &[0, 1, 0, 1, 1, 2, 1, 2, 1, 1, 2, 2, 2, 0, 1])
+}
+
+/// The first picture by chance of 20 pixels whose run of ten shades leaves twins.
+pub fn ten_shades_with_twins() -> Vec<u8> {
+    let by_case = |case| input("10", (5, 4), &strip(&mut Chance::of_case(17, case), &[70, 71, 72], 20));
+    let refused = |input: &Vec<u8>| Model::default().listing(input, None) == b"refused 18\n";
+    (0..).map(by_case).find(refused).expect("some run leaves twins")
+}
+
+/// The inputs that are stored: the scope's example first; twins, sheet H, and the run that would go on to a thirtieth
+/// round, last.
 pub fn inputs() -> Vec<Vec<u8>> {
     let example = input("2", (2, 2), &[0, 0, 0, 0, 0, 0, 0, 0, 0, 10, 0, 0]);
     let long_and_malformed = long("2x", MOST_INPUT + 1);
     let mut inputs =
         vec![example, unsettled(9, 24), unsettled(16, 20), long_and_malformed, long("1", MOST_INPUT + 1), Vec::new()];
     inputs.extend((0..300).map(|case| by_chance(&mut Chance::of_case(11, case))));
+    inputs.extend([3, 4, 5].map(five_pixels));
+    inputs.push(ten_shades_with_twins());
     inputs.push(sheet_h());
     inputs.push(settling_in_thirty());
     inputs

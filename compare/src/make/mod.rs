@@ -2,5 +2,6 @@
 pub mod colours;
 pub mod header;
 pub mod listing;
+pub mod palettes;
 pub mod shades;
 pub mod table;

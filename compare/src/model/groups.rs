@@ -2,12 +2,9 @@
 use super::shade::{bad_centre, bad_coordinates, distance, point_of_key, shades_of};
 use super::slip::Slip;
 use super::table::{levels_of_key, used_entries};
-use super::{when, Model, BAD_CENTRE, BAD_COUNT, BAD_MEMBER, BAD_TABLE, MOST_PIXELS, MOST_SHADES, SHORT_ROOM};
+use super::{when, Model, Test, BAD_CENTRE, BAD_COUNT, BAD_MEMBER, BAD_TABLE, MOST_PIXELS, MOST_SHADES, SHORT_ROOM};
 use crate::ask::PaletteFromGroups;
 use crate::outcome::{Outcome, Values};
-
-/// A refusal's number, and what holds where it does.
-type Test = (u32, Option<&'static str>);
 
 /// How many shades there are: a third of the coordinates.
 fn count_of(ask: &PaletteFromGroups) -> usize {
@@ -18,23 +15,6 @@ fn count_of(ask: &PaletteFromGroups) -> usize {
 fn used_members(ask: &PaletteFromGroups) -> impl Iterator<Item = usize> + Clone + '_ {
     let used = usize::try_from(ask.table.record.used).unwrap_or(usize::MAX);
     ask.members.iter().take(used).map(|&member| member as usize)
-}
-
-/// What two refusals are called that hold of one ask.
-fn both(first: u32, second: u32) -> &'static str {
-    match (first, second) {
-        (BAD_TABLE, BAD_COUNT) => "2 and 4 at once",
-        (BAD_TABLE, BAD_CENTRE) => "2 and 8 at once",
-        (BAD_TABLE, SHORT_ROOM) => "2 and 7 at once",
-        (BAD_TABLE, BAD_MEMBER) => "2 and 9 at once",
-        (BAD_COUNT, BAD_CENTRE) => "4 and 8 at once",
-        (BAD_COUNT, SHORT_ROOM) => "4 and 7 at once",
-        (BAD_COUNT, BAD_MEMBER) => "4 and 9 at once",
-        (BAD_CENTRE, SHORT_ROOM) => "8 and 7 at once",
-        (BAD_CENTRE, BAD_MEMBER) => "8 and 9 at once",
-        (SHORT_ROOM, BAD_MEMBER) => "7 and 9 at once",
-        _ => "two causes of 7 at once",
-    }
 }
 
 impl Model {
@@ -132,11 +112,7 @@ impl Model {
     /// 02). "Lent bytes past the last shade's stay."
     pub fn palette_from_groups(&mut self, ask: &PaletteFromGroups) -> Outcome {
         let tests = self.tests_of_groups(ask);
-        let refusal = self.first_of(&tests);
-        let held: Vec<u32> = tests.iter().filter(|test| test.1.is_some()).map(|test| test.0).collect();
-        for (place, &first) in held.iter().enumerate() {
-            held[place + 1..].iter().for_each(|&second| self.meet(both(first, second)));
-        }
+        let refusal = self.first_of_all(&tests);
         self.meet_edges_of_groups(ask, refusal);
         let mut palette = ask.palette.clone();
         if refusal == 0 {

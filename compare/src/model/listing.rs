@@ -2,7 +2,7 @@
 use kohlenfloh::Record;
 
 use super::run::limit_meant;
-use super::slip::ListingSlip;
+use super::slip::{ListingSlip, Slip};
 use super::{when, Model, BAD_COUNT, BAD_SIZE};
 use crate::ask::{Add, Map, Palette, PaletteFromGroups, Run, Table};
 use crate::outcome::Outcome;
@@ -46,7 +46,8 @@ impl Model {
     }
 
     /// "a malformed count line is BAD COUNT; an input over 65,536 bytes is BAD SIZE; then the picture's own refusals ..;
-    /// then the run's", with limit 20: "the listing program .. now passes 20" (document 02).
+    /// then the run's", with limit 20: "the listing program .. now passes 20" (document 02). Then the mapping's: "Two
+    /// shades of a run can round to one level triple ..: it then prints the refusal alone" (document 02).
     fn lines_of(&mut self, input: &[u8], slip: Option<ListingSlip>) -> Result<String, u32> {
         let slips = |one| slip == Some(one);
         let cut = slips(ListingSlip::ReadsNoByteMoreThanAnInputMayHave);
@@ -94,13 +95,24 @@ impl Model {
         Ok(accepted(made)?.bytes("palette").to_vec())
     }
 
+    /// The raster mapped to a palette, by the slip in spite of twins.
+    fn mapped_to_list(&mut self, raster: &[u8], palette: &[u8], slip: Option<ListingSlip>) -> Result<Outcome, u32> {
+        let (strip, palette, index) = (raster.to_vec(), palette.to_vec(), vec![0; raster.len() / 3]);
+        let bent = self.slip;
+        if slip == Some(ListingSlip::ListsTwins) {
+            self.slip = Some(Slip::MapsByTwins);
+        }
+        let mapped = self.map(&Map { strip, palette, index, first: 0 });
+        self.slip = bent;
+        accepted(mapped)
+    }
+
     /// "line 1 gives table colours, pixels, rounds, settled as 1 or 0, final total, distances; one line a shade gives
     /// number, R, G, B, pixels mapped to it; the last line is the mapping error."
     fn tell(&mut self, raster: &[u8], run: &Run, ran: &Outcome, slip: Option<ListingSlip>) -> Result<String, u32> {
         let slips = |one| slip == Some(one);
         let palette = self.palette_to_list(run, ran, slip)?;
-        let index = vec![0; raster.len() / 3];
-        let mapped = accepted(self.map(&Map { strip: raster.to_vec(), palette: palette.clone(), index, first: 0 }))?;
+        let mapped = self.mapped_to_list(raster, &palette, slip)?;
         let answer = ran.longs("rounds, settled, distances, final total");
         let settled = if slips(ListingSlip::PrintsEveryRunAsSettled) { 1 } else { answer[1] };
         self.meet_if(answer[0] > 2, "more than two rounds");
@@ -119,6 +131,6 @@ impl Model {
             let [red, green, blue] = [0, 1, 2].map(|channel| u64::from(levels[channel]));
             text += &line(&[shade as u64, red, green, blue, pixels]);
         }
-        Ok(text + &line(&[mapped.longs("error, R, G, B, mean or none")[0]]))
+        Ok(text + &line(&[mapped.longs("error, R, G, B, mean or none, lower, higher")[0]]))
     }
 }

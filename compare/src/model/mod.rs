@@ -13,6 +13,7 @@ pub mod run;
 pub mod shade;
 pub mod slip;
 pub mod table;
+pub mod twins;
 
 use std::collections::BTreeMap;
 
@@ -44,6 +45,27 @@ pub const BAD_HEADER: u32 = 12;
 pub const BAD_SIZE: u32 = 13;
 pub const BAD_DEPTH: u32 = 14;
 pub const BAD_RASTER: u32 = 15;
+pub const TWIN_SHADE: u32 = 18;
+
+/// A refusal's number, and what holds where it does.
+type Test = (u32, Option<&'static str>);
+
+/// What two refusals are called that hold of one ask.
+fn both(first: u32, second: u32) -> &'static str {
+    macro_rules! at_once {
+        ($(($first:literal, $second:literal))*) => {
+            match (first, second) {
+                $(($first, $second) => concat!($first, " and ", $second, " at once"),)*
+                (SHORT_ROOM, SHORT_ROOM) => "two causes of 7 at once",
+                _ => "two refusals at once",
+            }
+        };
+    }
+    at_once! {
+        (2, 4) (2, 8) (2, 7) (2, 9) (4, 8) (4, 7) (4, 9) (8, 7) (8, 9) (7, 9)
+        (1, 10) (1, 18) (1, 11) (1, 7) (10, 18) (10, 11) (10, 7) (18, 11) (18, 7) (11, 7)
+    }
+}
 
 /// The model: the slip it makes, if any, and how often it met each edge case.
 #[derive(Default)]
@@ -71,7 +93,7 @@ impl Model {
     }
 
     /// The number of the first test that holds, and 0 where none does; what held is noted.
-    fn first_of(&mut self, tests: &[(u32, Option<&'static str>)]) -> u32 {
+    fn first_of(&mut self, tests: &[Test]) -> u32 {
         for &(number, held) in tests {
             if let Some(what) = held {
                 self.meet(what);
@@ -79,6 +101,15 @@ impl Model {
             }
         }
         0
+    }
+
+    /// The same, and each two tests that hold at once are noted too.
+    fn first_of_all(&mut self, tests: &[Test]) -> u32 {
+        let held: Vec<u32> = tests.iter().filter(|test| test.1.is_some()).map(|test| test.0).collect();
+        for (place, &first) in held.iter().enumerate() {
+            held[place + 1..].iter().for_each(|&second| self.meet(both(first, second)));
+        }
+        self.first_of(tests)
     }
 }
 

@@ -35,10 +35,20 @@ pub enum Slip {
     LooksAtMembersPastTheUsedOnes,
     TestsNoCentreOfAShadeWithAGroup,
     TestsTheRoomBeforeTheCentres,
+    MapsByTwins,
+    TestsNoTwinsWithAnEmptyStrip,
+    NamesTheHighestTwin,
+    NamesTheTwinWithTheSmallestLower,
+    SwapsLowerAndHigher,
+    OverlooksTheLastEntry,
+    ComparesNeighboursAlone,
+    ComparesRedAndGreenAlone,
+    TellsTwinsWithAnyRefusal,
+    TestsTwinsAfterManyPixels,
 }
 
 /// Every slip.
-pub const SLIPS: [Slip; 32] = [
+pub const SLIPS: [Slip; 42] = [
     Slip::SkipsAShadeAtExactlyFourD,
     Slip::RoundsMeansDown,
     Slip::RecordsTheTotalAfterTheMove,
@@ -71,6 +81,16 @@ pub const SLIPS: [Slip; 32] = [
     Slip::LooksAtMembersPastTheUsedOnes,
     Slip::TestsNoCentreOfAShadeWithAGroup,
     Slip::TestsTheRoomBeforeTheCentres,
+    Slip::MapsByTwins,
+    Slip::TestsNoTwinsWithAnEmptyStrip,
+    Slip::NamesTheHighestTwin,
+    Slip::NamesTheTwinWithTheSmallestLower,
+    Slip::SwapsLowerAndHigher,
+    Slip::OverlooksTheLastEntry,
+    Slip::ComparesNeighboursAlone,
+    Slip::ComparesRedAndGreenAlone,
+    Slip::TellsTwinsWithAnyRefusal,
+    Slip::TestsTwinsAfterManyPixels,
 ];
 
 /// Slips of the listing program, which the calls of the library do not show.
@@ -83,10 +103,11 @@ pub enum ListingSlip {
     ReadsNoByteMoreThanAnInputMayHave,
     TakesTheRunsGroupsForTheMappedPixels,
     TakesThePaletteFromShades,
+    ListsTwins,
 }
 
 /// Every slip of the listing program.
-pub const LISTING_SLIPS: [ListingSlip; 7] = [
+pub const LISTING_SLIPS: [ListingSlip; 8] = [
     ListingSlip::RunsWithALimitOfTwo,
     ListingSlip::ListsByTheUsualLimit,
     ListingSlip::PrintsEveryRunAsSettled,
@@ -94,4 +115,5 @@ pub const LISTING_SLIPS: [ListingSlip; 7] = [
     ListingSlip::ReadsNoByteMoreThanAnInputMayHave,
     ListingSlip::TakesTheRunsGroupsForTheMappedPixels,
     ListingSlip::TakesThePaletteFromShades,
+    ListingSlip::ListsTwins,
 ];

@@ -7,11 +7,12 @@ use crate::ask::{Add, Map, Palette, PaletteFromGroups, Picture, Round, Run, Sear
 use crate::bench::Bench;
 use crate::chance::Chance;
 use crate::library;
+use crate::make::palettes::distinct;
 use crate::make::shades;
 use crate::make::table::record_of;
 use crate::model::{
-    Model, BAD_CENTRE, BAD_COUNT, BAD_LIMIT, BAD_MEMBER, BAD_SIZE, BAD_TABLE, FULL, MANY_PIXELS, MOST_SHADES,
-    SHORT_ROOM,
+    Model, BAD_CENTRE, BAD_COUNT, BAD_LIMIT, BAD_MEMBER, BAD_PALETTE, BAD_SIZE, BAD_STRIP, BAD_TABLE, FULL,
+    MANY_PIXELS, MOST_SHADES, SHORT_ROOM, TWIN_SHADE,
 };
 use crate::outcome::{Difference, Outcome};
 
@@ -31,8 +32,15 @@ pub const SUBJECT: Subject = Subject {
         "a group's mean at a half",
         "a group's mean just below a half",
         "a group's mean just above a half",
+        "64 entries, no two of them equal",
+        "twins at 0 and 63",
+        "all entries equal",
+        "1 and 18 at once",
+        "10 and 18 at once",
+        "18 and 11 at once",
+        "18 and 7 at once",
     ],
-    refuses: &[3, 4, 6, 7, 8, 9, 11, 13, 15],
+    refuses: &[1, 3, 4, 6, 7, 8, 9, 10, 11, 13, 15, 18],
 };
 
 /// Every boundary once.
@@ -50,6 +58,7 @@ fn one_case(bench: &mut Bench, chance: &mut Chance) -> Result<(), Difference> {
     rounds_past_the_usual_limit(bench)?;
     most_coordinate(bench)?;
     stretches(bench, chance)?;
+    twins_of_most_entries(bench, chance)?;
     many_pixels_mapped(bench, chance)?;
     sizes(bench, chance)
 }
@@ -350,23 +359,63 @@ fn stretches(bench: &mut Bench, chance: &mut Chance) -> Result<(), Difference> {
     for pixels in [0, 1, 5] {
         let firsts = [20 - pixels, 21 - pixels, usize::MAX - pixels, usize::MAX - pixels + usize::from(pixels > 0)];
         for first in firsts.into_iter().chain([usize::MAX]) {
-            let ask = Map { strip: chance.bytes(3 * pixels), palette: chance.bytes(9), index: chance.bytes(20), first };
-            let number = if first == 20 - pixels { 0 } else { SHORT_ROOM };
-            refused_by(number, bench.compare(&ask, library::map, Model::map)?)?;
+            let palette = distinct(chance, &[0, 90, 200], 3).concat();
+            let ask = Map { strip: chance.bytes(3 * pixels), palette, index: chance.bytes(20), first };
+            map(bench, if first == 20 - pixels { 0 } else { SHORT_ROOM }, [0, 0], &ask)?;
         }
     }
     Ok(())
 }
 
-/// 16,777,216 pixels mapped by one call, and one more refused.
+/// A mapping that answers this number, with this pair.
+fn map(bench: &mut Bench, number: u32, pair: [u64; 2], ask: &Map) -> Result<(), Difference> {
+    let seen = refused_by(number, bench.compare(ask, library::map, Model::map)?)?;
+    let told = &seen.longs("error, R, G, B, mean or none, lower, higher")[5..];
+    Difference::unless_equal("the pair at a boundary", told, &pair)
+}
+
+/// 64 entries, no two of them equal; two that are, at either end and from end to end; pairs inside each other and
+/// across; all equal; and 65 of them. Each with pixels and without.
+fn twins_of_most_entries(bench: &mut Bench, chance: &mut Chance) -> Result<(), Difference> {
+    let entries = distinct(chance, &[9, 10, 11], MOST_SHADES);
+    let equal = |pairs: &[(usize, usize)]| {
+        let mut twins = entries.clone();
+        pairs.iter().for_each(|&(lower, higher)| twins[higher] = entries[lower]);
+        twins
+    };
+    for (palette, number, pair) in [
+        (equal(&[]), 0, [0, 0]),
+        (equal(&[(0, 1)]), TWIN_SHADE, [0, 1]),
+        (equal(&[(0, 63)]), TWIN_SHADE, [0, 63]),
+        (equal(&[(62, 63)]), TWIN_SHADE, [62, 63]),
+        (equal(&[(0, 63), (1, 62), (30, 33)]), TWIN_SHADE, [30, 33]),
+        (equal(&[(0, 62), (1, 63)]), TWIN_SHADE, [0, 62]),
+        (vec![[7; 3]; 64], TWIN_SHADE, [0, 1]),
+        (vec![[7; 3]; 65], BAD_PALETTE, [0, 0]),
+    ] {
+        for pixels in [0, 5] {
+            let (strip, index) = (chance.bytes(3 * pixels), chance.bytes(pixels));
+            map(bench, number, pair, &Map { strip, palette: palette.concat(), index, first: 0 })?;
+        }
+    }
+    Ok(())
+}
+
+/// 16,777,216 pixels mapped by one call, and one more refused; twins before that, and bytes that are no strip before
+/// both.
 fn many_pixels_mapped(bench: &mut Bench, chance: &mut Chance) -> Result<(), Difference> {
-    let mut ask = Map { strip: vec![0; 3 * PIXELS], palette: chance.bytes(9), index: vec![9; PIXELS + 1], first: 1 };
+    let palette = distinct(chance, &[0, 90, 200], 3).concat();
+    let mut ask = Map { strip: vec![0; 3 * PIXELS], palette, index: vec![9; PIXELS + 1], first: 1 };
     ask.strip.iter_mut().enumerate().for_each(|(place, byte)| *byte = (place * 37 / 11) as u8);
-    refused_by(0, bench.compare(&ask, library::map, Model::map)?)?;
+    map(bench, 0, [0, 0], &ask)?;
     ask.first = 2;
-    refused_by(SHORT_ROOM, bench.compare(&ask, library::map, Model::map)?)?;
+    map(bench, SHORT_ROOM, [0, 0], &ask)?;
     ask.strip.extend([1, 2, 3]);
-    refused_by(MANY_PIXELS, bench.compare(&ask, library::map, Model::map)?).map(drop)
+    map(bench, MANY_PIXELS, [0, 0], &ask)?;
+    ask.palette.copy_within(3..6, 6);
+    map(bench, TWIN_SHADE, [1, 2], &ask)?;
+    ask.strip.push(4);
+    map(bench, BAD_STRIP, [0, 0], &ask)
 }
 
 /// Pictures of the largest sizes, and those just above.

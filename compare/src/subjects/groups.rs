@@ -104,6 +104,14 @@ fn one_case(bench: &mut Bench, chance: &mut Chance) -> Result<(), Difference> {
     bench.compare(&ask, library::palette_from_groups, Model::palette_from_groups).map(drop)
 }
 
+/// What is asked of a palette from the groups that a run leaves, in these bytes; the run is one that is accepted.
+pub fn left_by(bench: &mut Bench, run: Run, palette: Vec<u8>) -> Result<PaletteFromGroups, Difference> {
+    let ran = bench.once(&run, library::run)?;
+    Difference::unless_equal("refusal of a run", ran.refusal, 0)?;
+    let (coordinates, members) = (ran.words("shades")[..3 * run.count].to_vec(), ran.words("members").to_vec());
+    Ok(PaletteFromGroups { table: run.table, coordinates, members, palette })
+}
+
 /// The palette of what a run leaves, which is never refused. Beside the palette of the run's shades, which are rounded
 /// already, each level is the same or one lower.
 fn after_a_run(bench: &mut Bench, chance: &mut Chance) -> Result<(), Difference> {
@@ -114,12 +122,8 @@ fn after_a_run(bench: &mut Bench, chance: &mut Chance) -> Result<(), Difference>
     }
     let (limit, spare) = (chance.one_of(&[0, 0, 1, 2, 3, 20]), chance.one_of(&[0, 1, 7]));
     let (members, totals) = (chance.words(table.used() + spare), vec![7; limit_meant(limit)]);
-    let run = Run { table, count, limit, members, totals };
-    let ran = bench.once(&run, library::run)?;
-    Difference::unless_equal("refusal of a run", ran.refusal, 0)?;
-    let (coordinates, members) = (ran.words("shades")[..3 * count].to_vec(), ran.words("members").to_vec());
-    let by_shades = Palette { coordinates: coordinates.clone(), palette: palette.clone() };
-    let ask = PaletteFromGroups { table: run.table, coordinates, members, palette };
+    let ask = left_by(bench, Run { table, count, limit, members, totals }, palette)?;
+    let by_shades = Palette { coordinates: ask.coordinates.clone(), palette: ask.palette.clone() };
     let seen = bench.compare(&ask, library::palette_from_groups, Model::palette_from_groups)?;
     Difference::unless_equal("refusal of what a run leaves", seen.refusal, 0)?;
     let twice = bench.once(&by_shades, library::palette)?;

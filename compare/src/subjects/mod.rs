@@ -11,6 +11,7 @@ mod rounds;
 mod run;
 mod strips;
 mod tables;
+mod twins;
 
 use crate::bench::Bench;
 use crate::chance::Chance;
@@ -27,13 +28,14 @@ pub struct Subject {
 }
 
 /// Every subject.
-pub const SUBJECTS: [Subject; 11] = [
+pub const SUBJECTS: [Subject; 12] = [
     add::SUBJECT,
     rounds::SUBJECT,
     run::SUBJECT,
     palette::SUBJECT,
     groups::SUBJECT,
     map::SUBJECT,
+    twins::SUBJECT,
     picture::SUBJECT,
     strips::SUBJECT,
     tables::SUBJECT,

@@ -14,6 +14,7 @@ use crate::chance::Chance;
 use crate::library;
 use crate::make::colours::{levels, strip};
 use crate::make::header::{commented, Made};
+use crate::make::palettes::each_once;
 use crate::model::run::USUAL_LIMIT;
 use crate::model::Model;
 use crate::outcome::{same_values, Difference, Values};
@@ -92,14 +93,14 @@ fn one_case(bench: &mut Bench, chance: &mut Chance) -> Result<(), Difference> {
     let counts = output("ppmhist", &["-noheader", &path])?;
     Difference::unless_equal("colours and weights by ppmhist", entries(&table), listed(&counts))?;
     let count = chance.between(1, 12).min(table.used());
-    let palette = palette_of(bench, table, count)?;
-    let head = format!("P6\n{count} 1\n255\n").into_bytes();
+    let palette = each_once(&palette_of(bench, table, count)?);
+    let head = format!("P6\n{} 1\n255\n", palette.len() / 3).into_bytes();
     let map = file(&folder, "palette.ppm", &[head, palette.clone()].concat())?;
     let remapped = output("pnmremap", &["-nofloyd", &format!("-mapfile={map}"), &path])?;
     let theirs = squared_error(&raster, &read(bench, &remapped)?);
     let index = vec![0; raster.len() / 3];
     let seen = bench.compare(&Map { strip: raster, palette, index, first: 0 }, library::map, Model::map)?;
-    let ours = seen.longs("error, R, G, B, mean or none")[0];
+    let ours = seen.longs("error, R, G, B, mean or none, lower, higher")[0];
     bench.model.meet(if ours == 0 { "a mapping without error" } else { "a mapping with an error" });
     Difference::unless_equal("squared error by pnmremap", ours, theirs)
 }

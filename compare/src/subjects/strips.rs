@@ -5,7 +5,7 @@ use crate::bench::Bench;
 use crate::chance::Chance;
 use crate::library;
 use crate::make::colours::{levels, strip};
-use crate::make::shades;
+use crate::make::palettes;
 use crate::make::table::table;
 use crate::model::Model;
 use crate::outcome::{same_values, Difference, Outcome};
@@ -14,8 +14,15 @@ pub const SUBJECT: Subject = Subject {
     name: "strips",
     cases: 20_000,
     one_case,
-    meets: &["an empty strip", "FULL by room", "FULL by pixels", "no pixels", "a stretch up to the end"],
-    refuses: &[3],
+    meets: &[
+        "an empty strip",
+        "FULL by room",
+        "FULL by pixels",
+        "no pixels",
+        "a stretch up to the end",
+        "twins and no pixels",
+    ],
+    refuses: &[3, 18],
 };
 
 /// The pixels of a picture cut into strips, some of them empty.
@@ -44,8 +51,7 @@ fn one_case(bench: &mut Bench, chance: &mut Chance) -> Result<(), Difference> {
     let whole = bench.compare(&Add { table: before.clone(), strip: pixels.clone() }, library::add, Model::add)?;
     let in_strips = add_strips(bench, before, &strips)?;
     in_strips.against(&whole)?;
-    let entries = shades::count(chance);
-    let palette = strip(chance, &levels, entries);
+    let palette = palettes::palette(chance, &levels);
     let index = chance.bytes(count);
     let ask = Map { strip: pixels, palette, index, first: 0 };
     map_strips(bench, &ask, &strips)
@@ -69,7 +75,7 @@ fn add_strips(bench: &mut Bench, table: Table, strips: &[Vec<u8>]) -> Result<Out
     Ok(last)
 }
 
-/// The strips mapped one after the other, held against the whole.
+/// The strips mapped one after the other, held against the whole; to a palette with twins none of them is.
 fn map_strips(bench: &mut Bench, ask: &Map, strips: &[Vec<u8>]) -> Result<(), Difference> {
     let whole = bench.compare(ask, library::map, Model::map)?;
     let mut part = ask.clone();
@@ -77,12 +83,13 @@ fn map_strips(bench: &mut Bench, ask: &Map, strips: &[Vec<u8>]) -> Result<(), Di
     for strip in strips {
         part.strip.clone_from(strip);
         let seen = bench.compare(&part, library::map, Model::map)?;
-        let each = errors.iter_mut().zip(seen.longs("error, R, G, B, mean or none"));
+        Difference::unless_equal("refusal of a strip", seen.refusal, whole.refusal)?;
+        let each = errors.iter_mut().zip(seen.longs("error, R, G, B, mean or none, lower, higher"));
         each.for_each(|(sum, error)| *sum += error);
         part.index = seen.bytes("index").to_vec();
         part.first += strip.len() / 3;
     }
-    let due = &whole.longs("error, R, G, B, mean or none")[..4];
+    let due = &whole.longs("error, R, G, B, mean or none, lower, higher")[..4];
     Difference::unless_equal("errors in strips", &errors[..], due)?;
     same_values("index in strips", &crate::outcome::Values::Bytes(part.index), whole.field("index"))
 }
