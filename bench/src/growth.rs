@@ -114,6 +114,10 @@ fn with_shades(pace: Pace, side: usize) {
         best(pace, &mut || timed(|| calls::palette_from_shades(shades, &mut palette).expect(ACCEPTED)).0)
     };
     row("palette", "shades", "shade", [4, 16, 64].map(|count| (count as f64, time(count))));
+    // Entry q is (3 q, 3 q + 1, 3 q + 2), so that no two are equal.
+    let entries: Vec<u8> = (0..192).collect();
+    let time = |count: usize| best(pace, &mut || timed(|| mapping::proved_twins(&entries[..3 * count])).0);
+    row("test for twins", "entries", "entry", [4, 16, 64].map(|count| (count as f64, time(count))));
 }
 
 /// The header, which grows with its own bytes: white bytes, and those of a comment.

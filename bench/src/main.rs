@@ -88,6 +88,9 @@ fn every_job(pace: Pace, picture: &Picture) {
     for count in COUNTS {
         mapping::whole(pace, picture, &palettes::palette(&table, count));
     }
+    for count in [16, 64] {
+        mapping::twins(pace, picture, &palettes::palette(&table, count));
+    }
     mapping::read(pace, picture);
 }
 

@@ -1,11 +1,13 @@
 //! Mapping in blocks: the pixels of a block look at one palette entry after the other.
+use super::twins;
 
 /// The pixels of a block.
 const BLOCK: usize = 256;
 
-/// The palette's entries, zeros past the last; its bytes must be 3 to 192 and a multiple of 3.
+/// The palette's entries, zeros past the last; its bytes must be 3 to 192 and a multiple of 3, no two entries equal.
 pub fn entries_of(palette: &[u8]) -> [[i16; 3]; 64] {
     assert!(palette.len().is_multiple_of(3) && (3..=192).contains(&palette.len()), "bad palette");
+    assert!(twins::pairwise(palette).is_none(), "twin shade");
     let mut entries = [[0; 3]; 64];
     for (entry, three) in entries.iter_mut().zip(palette.chunks_exact(3)) {
         *entry = [three[0] as i16, three[1] as i16, three[2] as i16];

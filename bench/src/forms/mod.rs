@@ -1,10 +1,11 @@
 //! The same jobs in plain Rust, in lent slices and local arrays under a mebibyte, with the same tests of their input.
 //!
-//! `table` with `is_table` and `merge::walk`, `rounds`, `run`, `palette::plain`, `blocks` and `header` are the usual
-//! forms: the proved library's methods without what it does for long tables, small ones, pixels that equal the one
-//! before, and colours that stay in their group. `is_table_packed`, `merge::leap`, `first`, `onward`, `palette::packed`
-//! and `cells` are other methods that give the same answers, and on some pictures sooner. Rounds, runs and palettes test
-//! their table by `is_table_packed`.
+//! `table` with `is_table` and `merge::walk`, `rounds`, `run`, `palette::plain`, `blocks`, `twins::pairwise` and
+//! `header` are the usual forms: the proved library's methods without what it does for long tables, small ones, pixels
+//! that equal the one before, and colours that stay in their group. `is_table_packed`, `merge::leap`, `first`,
+//! `onward`, `palette::packed`, `cells` and `twins::hashed` are other methods that give the same answers, and on some
+//! pictures sooner. Rounds, runs and palettes test their table by `is_table_packed`, mappings their palette by
+//! `twins::pairwise`.
 #![allow(unsafe_code)]
 pub mod blocks;
 pub mod cells;
@@ -18,6 +19,7 @@ pub mod rounds;
 pub mod run;
 pub mod runs;
 pub mod table;
+pub mod twins;
 
 /// Three coordinates, in sixteenths or in levels.
 pub type Point = [i32; 3];

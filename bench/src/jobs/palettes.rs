@@ -2,6 +2,7 @@
 use super::rounds::{state, State};
 use super::ACCEPTED;
 use crate::forms::palette::{packed, plain, Lent};
+use crate::forms::twins::pairwise;
 use crate::pictures::Picture;
 use crate::race::{race, row, timed, Pace};
 use crate::table::Table;
@@ -26,9 +27,14 @@ pub fn once(form: fn(Lent, &mut [u8]), table: &Table, after: &State) -> (f64, Ve
     (seconds, palette)
 }
 
-/// The palette of a run at limit 20.
+/// The palette of a run at limit 20, without twins: in the higher one B is raised until no entry before it is equal.
 pub fn palette(table: &Table, count: usize) -> Vec<u8> {
-    once(proved, table, &state(table, count, 20)).1
+    let mut palette = once(proved, table, &state(table, count, 20)).1;
+    while let Some((_, higher)) = pairwise(&palette) {
+        let blue = &mut palette[3 * higher + 2];
+        *blue = blue.wrapping_add(1);
+    }
+    palette
 }
 
 /// The palette from the groups of a run at limit 20.
