@@ -13,6 +13,7 @@ use Rattle.palette.specs.{paletteRows}
 use Rattle.palette_groups.specs.{groupRows}
 use Rattle.mapping.specs.{mapRows}
 use Rattle.p6.specs.{pictureRows}
+use Rattle.listing.specs.{listingRows}
 use Rattle.sheets.specs.{allHold, exampleAt}
 use Rattle.sheets.proofs.Table.{each-of-all}
 use Rattle.scope.specs.Lines.{orderOf}
@@ -59,3 +60,8 @@ map-order s p d a = refl
 -- Picture: 12, 13, 14, 15.
 pub picture-order : (input : List ℕ) → orderOf (pictureRows input) ≡ 12 ∷ 13 ∷ 14 ∷ 15 ∷ []
 picture-order input = refl
+
+-- The listing: 4, 13, the picture's, the run's, and then the mapping's (document 02).
+pub listing-order : (s : List ℕ)
+    → orderOf (listingRows s) ≡ 4 ∷ 13 ∷ 12 ∷ 13 ∷ 14 ∷ 15 ∷ 2 ∷ 4 ∷ 5 ∷ 6 ∷ 7 ∷ 1 ∷ 10 ∷ 18 ∷ 11 ∷ 7 ∷ []
+listing-order s = refl
