@@ -59,10 +59,9 @@ module _ (raster : List ℕ) (rec : Record) (ks ws : List ℕ) (ran : Ran) (memb
   mapped-number : firstOf tests ≡ m .refusal
   unfolding listedZeros
   mapped-number =
-      let entries : List ℕ → List ℕ = take (3 * count) in
       sym
       (ap (λ (a : Mapped). a .refusal) (mapped .answer)
-      ∙ map-refuses raster (entries p) listedZeros 0 .number-is
+      ∙ map-refuses raster (take (3 * count) p) listedZeros 0 .number-is
       ∙ ap (λ x. firstOf (rasterTests raster x count)) (made .palette-is))
 
   -- a refused mapping leaves its refusal

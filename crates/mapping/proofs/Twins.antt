@@ -10,7 +10,7 @@ use Rattle.refusal.specs.{Refusal, numberOf, done, Given, TWIN-SHADE}
 use Rattle.refusal.proofs.Promises.{number-only}
 use Rattle.colour.specs.{badStrip}
 use Rattle.palette.specs.{badPalette}
-use Rattle.palette_twins.specs.{Twins, twinShade, noTwins, twinsOf, TwoEqual, AreTwins, AllDiffer}
+use Rattle.palette_twins.specs.{twinShade, noTwins, TwoEqual, AreTwins, AllDiffer}
 use Rattle.palette_twins.proofs.Promises.{twin-shade-exactly, all-differ-exactly, twins-are}
 use Rattle.mapping.specs.Outcomes.{MapOutcome, mapRows, twinsTold, mapStrip}
 use Rattle.mapping.proofs.Meaning.{map-refuses}
