@@ -12,6 +12,7 @@
 --   Within m p          no coordinate of p is above m
 --   sixteenth level     16 * level
 --   colourOf key        the point at which the key's colour stands
+--   pointKey c          the key of a colour in whole levels
 --   distance p q        the sum of three squared differences
 --   badStrip s          the test of 1 BAD STRIP
 --   Bytes s             a list of bytes
@@ -22,7 +23,7 @@ pub mod Points
 pub mod Strips
 unfoldable pub use Key.{mostLevel, mostKey, keyOf, redOf, greenOf, blueOf}
 pub use Key.{Levels}
-unfoldable pub use Points.{mostCoordinate, mostDistance, mostPixels, mostSum, sixteenth, colourOf, distance}
+unfoldable pub use Points.{mostCoordinate, mostDistance, mostPixels, mostSum, sixteenth, colourOf, pointKey, distance}
 pub use Points.{Within}
 pub use declared.Point.{Point}
 unfoldable pub use Strips.{badStrip, Bytes, joinedStrips, EachWhole}

@@ -1,7 +1,7 @@
 -- Points of the grid: three coordinates in sixteenths of a level. A shade is one, and a colour stands at one.
 use Prim.Native.Nat.{ℕ, _+_, _*_, _≤_}
 use Rattle.number.specs.{sq}
-use Rattle.colour.specs.Key.{redOf, greenOf, blueOf}
+use Rattle.colour.specs.Key.{keyOf, redOf, greenOf, blueOf}
 use Rattle.colour.specs.declared.Point.{Point}
 
 -- the greatest coordinate, that of the greatest level
@@ -33,6 +33,10 @@ sixteenth level = 16 * level
 -- the point at which the colour with this key stands: (16r, 16g, 16b)
 abbrev pub colourOf : ℕ → Point
 colourOf key = record { r = sixteenth (redOf key); g = sixteenth (greenOf key); b = sixteenth (blueOf key) }
+
+-- the key of a colour in whole levels
+abbrev pub pointKey : Point → ℕ
+pointKey c = keyOf (c .r) (c .g) (c .b)
 
 -- the distance of two points: the sum of three squared differences
 unfoldable pub distance : Point → Point → ℕ

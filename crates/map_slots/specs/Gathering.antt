@@ -4,16 +4,12 @@ use Prim.Native.Nat.{ℕ, _≤_, _<_}
 use mathlib.Core.List.{List}
 use mathlib.Core.Path.{_≡_}
 use lib.ListN.{getD}
-use Rattle.colour.specs.{Point, keyOf}
+use Rattle.colour.specs.{Point, pointKey}
 use Rattle.shades.specs.{shadeAt, levelsAt}
 
 -- the most pixels of a block, and so the most slots
 abbrev pub mostSlots : ℕ
 mostSlots = 1024
-
--- the key of a colour in whole levels
-abbrev pub pointKey : Point → ℕ
-pointKey c = keyOf (c .r) (c .g) (c .b)
 
 -- the key of pixel i of a strip, which has three bytes a pixel
 abbrev pub pixelKey : List ℕ → ℕ → ℕ

@@ -1,6 +1,5 @@
 -- Glossary. A slot is where equal pixels of a block share one key.
 --   mostSlots                 1024, the most pixels of a block
---   pointKey c                the key of a colour in whole levels
 --   pixelKey strip i          the key of pixel i
 --   slotKey keys q            the key at slot q
 --   slotOf which i            the slot of pixel i
@@ -10,7 +9,6 @@
 pub mod Gathering
 unfoldable pub use Gathering.{
   mostSlots,
-  pointKey,
   pixelKey,
   slotKey,
   slotOf,

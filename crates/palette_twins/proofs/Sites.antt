@@ -7,7 +7,7 @@ use mathlib.Core.Path.{_≡_, ap}
 use native.Mathlib.Omega.{arith}
 use lib.ListN.{getD}
 use Rattle.number.proofs.Cases.{bool}
-use Rattle.colour.specs.{Point, Bytes, Levels, keyOf}
+use Rattle.colour.specs.{Bytes, Levels, pointKey}
 use Rattle.colour.proofs.Promises.{key-only}
 use Rattle.shades.specs.{shadeAt}
 use Rattle.shades.proofs.Promises.{same-place-exactly}
@@ -25,8 +25,7 @@ entry-levels p bytes q = record {
 
 -- equal entries have one key
 pub equal-keys : (p : List ℕ) (i j : ℕ) → sameEntry p i j ≡ true → entryKey p i ≡ entryKey p j
-equal-keys p i j h =
-    ap (λ (c : Point). keyOf (c .r) (c .g) (c .b)) (same-place-exactly (shadeAt p i) (shadeAt p j) .0 h)
+equal-keys p i j h = ap pointKey (same-place-exactly (shadeAt p i) (shadeAt p j) .0 h)
 
 -- and one site
 pub equal-sites : (p : List ℕ) (i j : ℕ) → sameEntry p i j ≡ true → siteOf p i ≡ siteOf p j
