@@ -55,7 +55,7 @@ module _ (rows : List Row) (rule : Rule) (B : Base) (C : Colours) (k limit : ℕ
       })
 
 -- the outcome of what is accepted is accepted
-accepted-done : {o : RunOutcome} {r : Ran} {members totals : List ℕ} → AcceptedBy o r members totals
+pub accepted-done : {o : RunOutcome} {r : Ran} {members totals : List ℕ} → AcceptedBy o r members totals
     → o .answer .refusal ≡ done
 accepted-done h = ap (λ (x : Ran). x .refusal) (sym (h .meets .answer)) ∙ h .accepted
 

@@ -2,7 +2,7 @@
 use Prim.Native.Nat.{ℕ, zero, suc, _+_, _-_, _<_}
 use mathlib.Core.Bool.{true, false}
 use mathlib.Core.List.{List}
-use mathlib.Core.Path.{_≡_, refl, sym, ap, ap₂, _∙_}
+use mathlib.Core.Path.{_≡_, refl, sym, ap, _∙_}
 use native.Mathlib.Omega.{arith}
 use lib.ListN.{getD}
 use borrow.Author.Tests.{eqb-true}
@@ -13,7 +13,6 @@ use Rattle.table_test.specs.{Record, badTable}
 use Rattle.method.specs.{
   Colours,
   State,
-  stateOf,
   frontOf,
   coloursOf,
   toMean,
@@ -48,6 +47,8 @@ use Rattle.lloyd.proofs.Made.{
   rounds-within,
   settled-is,
   total-recorded,
+  left-is,
+  left-fit,
   member-below,
   settled-final,
 }
@@ -91,7 +92,8 @@ module _ {rec : Record} {ks ws : List ℕ} {k limit : ℕ} {ms ts : List ℕ} {r
 
   -- and each member is a shade's number
   joined-at : (n : ℕ) → Joined C k (at n)
-  joined-at = after-joined toMean C k (begin C k ms) (making h .good) (making h .fair) (making h .fit) (joined h)
+  joined-at = after-joined toMean C k (begin C k ms) (making h .good) (making h .fair) (making h .fit)
+      (joined (tests h))
 
   -- ---- the calls
 
@@ -139,23 +141,9 @@ module _ {rec : Record} {ks ws : List ℕ} {k limit : ℕ} {ms ts : List ℕ} {r
 
   -- ---- what the run leaves
 
-  -- it leaves what it has after its rounds
-  left-is : left r members ≡ at (r .rounds)
-  left-is =
-      ap₂ stateOf (ap (λ (x : Ran). x .shades) (making h .meets .answer)) (making h .meets .members-are)
-      ∙ ap at (sym (rounds-made (making h)))
-
-  -- and so do the calls, in three coordinates for each shade
+  -- as many calls leave that, in three coordinates for each shade
   pub calls-leave : called (r .rounds) ≡ frontOf k (left r members)
-  calls-leave = calls-are-rounds (r .rounds) ∙ ap (frontOf k) (sym left-is)
-
-  -- that is fit for a round
-  pub left-fit : Fit (coloursOf (rec .used) ks ws) k (left r members)
-  left-fit = rw left-is (fit-at (r .rounds))
-
-  -- with a shade's number in each member
-  pub left-joined : Joined (coloursOf (rec .used) ks ws) k (left r members)
-  left-joined = member-below (making h)
+  calls-leave = calls-are-rounds (r .rounds) ∙ ap (frontOf k) (sym (left-is (making h)))
 
   -- ---- a settled run
 
@@ -168,7 +156,7 @@ module _ {rec : Record} {ks ws : List ℕ} {k limit : ℕ} {ms ts : List ℕ} {r
     left-last : left r members ≡ step toMean C k (at (r .rounds - 1))
     left-last =
         let e : r .rounds ≡ r .rounds - 1 + 1 = omega (arith, rounds-within (making h) .0) in
-        left-is ∙ ap at e ∙ after-more toMean C k (begin C k ms) (r .rounds - 1)
+        left-is (making h) ∙ ap at e ∙ after-more toMean C k (begin C k ms) (r .rounds - 1)
 
     -- another round leaves it as it is
     left-again : step toMean C k (left r members) ≡ left r members
@@ -205,11 +193,13 @@ module _ {rec : Record} {ks ws : List ℕ} {k limit : ℕ} {ms ts : List ℕ} {r
     pub settled-plain :
         Stays (plainRound rec ks ws (frontOf k (left r members))) (frontOf k (left r members)) (r .total)
     settled-plain =
-        rw (plain-of-front rec ks ws k (left r members) (tests h .table) left-fit) (front-stays plainDistances)
+        rw (plain-of-front rec ks ws k (left r members) (tests h .table) (left-fit (making h)))
+        (front-stays plainDistances)
 
     -- and a shortened one
     pub settled-short :
         Stays (shortRound rec ks ws (frontOf k (left r members))) (frontOf k (left r members)) (r .total)
     settled-short =
-        rw (short-of-front rec ks ws k (left r members) (tests h .table) left-fit left-joined)
+        rw (short-of-front rec ks ws k (left r members) (tests h .table) (left-fit (making h))
+        (member-below (making h)))
         (front-stays shortDistances)

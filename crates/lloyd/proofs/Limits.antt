@@ -11,16 +11,17 @@ use Rattle.number.specs.{firstThat}
 use Rattle.refusal.specs.{done, firstOf}
 use Rattle.refusal.proofs.Promises.{done-exactly}
 use Rattle.table_test.specs.{Record}
-use Rattle.method.specs.{Rule, Colours, State, mostRounds, coloursOf, toMean, quiet, roundsMade, begin}
+use Rattle.method.specs.{Rule, GoodRule, Colours, State, mostRounds, coloursOf, quiet, roundsMade, begin}
 use Rattle.method.proofs.Runs.{made-quiet, first-at-any-limit}
 use Rattle.lloyd_tests.specs.{limitOf}
 use Rattle.lloyd_tests.proofs.Promises.{bad-limit-exactly, short-totals-exactly}
 use Rattle.lloyd_refusal.specs.{runRows}
-use Rattle.lloyd.specs.Outcomes.{AcceptedRun, madeRun, runOf}
+use Rattle.lloyd.specs.Outcomes.{AcceptedBy, madeRun, runWith}
 use Rattle.lloyd.specs.declared.Ran.{Ran}
-use Rattle.lloyd.proofs.Accepted.{done-is, tests, making}
+use Rattle.lloyd.proofs.Accepted.{with-tests, with-making}
+use Rattle.lloyd.proofs.By.{accepted-done}
 use Rattle.lloyd.proofs.Made.{rounds-made}
-use Rattle.lloyd.proofs.Wholes.{run-refuses}
+use Rattle.lloyd.proofs.Wholes.{with-refuses}
 
 -- a run that is made and settles is made the same under another limit
 made-at-any-limit : (rule : Rule) (C : Colours) (k limit other : ℕ) (a : State) (ts : List ℕ)
@@ -32,13 +33,13 @@ made-at-any-limit rule C k limit other a ts settled enough =
     let within : firstThat limit still < other = omega (arith, made-quiet limit still below) in
     rw (first-at-any-limit limit still other below enough, lt-ltb (firstThat limit still) other within, settled)
 
-module _ {rec : Record} {ks ws : List ℕ} {k limit : ℕ} {ms ts : List ℕ} {r : Ran} {members totals : List ℕ}
-    (h : AcceptedRun rec ks ws k limit ms ts r members totals) where
+module _ (rule : Rule) (good : GoodRule rule) (rec : Record) (ks ws : List ℕ) (k limit : ℕ) (ms ts : List ℕ) {r : Ran}
+    {members totals : List ℕ} (h : AcceptedBy (runWith rule rec ks ws k limit ms ts) r members totals) where
   -- under a limit that passes its own tests no row holds
   rows-pass : (other : ℕ) → other ≤ mostRounds → limitOf other ≤ length ts
       → firstOf (runRows rec ks ws k other ms ts) ≡ done
   rows-pass other most room =
-      let g = tests h in
+      let g = with-tests rule good rec ks ws k limit ms ts h in
       done-exactly (runRows rec ks ws k other ms ts) .1 (
         g .table,
         (
@@ -52,11 +53,11 @@ module _ {rec : Record} {ks ws : List ℕ} {k limit : ℕ} {ms ts : List ℕ} {r
 
   -- so a settled run is the same there
   pub settled-at-any-limit : r .settled ≡ true → (other : ℕ) → r .rounds ≤ limitOf other → other ≤ mostRounds
-      → limitOf other ≤ length ts → runOf rec ks ws k other ms ts ≡ runOf rec ks ws k limit ms ts
+      → limitOf other ≤ length ts → runWith rule rec ks ws k other ms ts ≡ runWith rule rec ks ws k limit ms ts
   settled-at-any-limit settled other enough most room =
       let C = coloursOf (rec .used) ks ws in
-      let m = making h in
-      run-refuses rec ks ws k other ms ts .by-none (rows-pass other most room)
-      ∙ made-at-any-limit toMean C k (limitOf limit) (limitOf other) (begin C k ms) ts
+      let m = with-making rule good rec ks ws k limit ms ts h in
+      with-refuses rec ks ws k other ms ts rule .by-none (rows-pass other most room)
+      ∙ made-at-any-limit rule C k (limitOf limit) (limitOf other) (begin C k ms) ts
       (sym (ap (λ (x : Ran). x .settled) (m .meets .answer)) ∙ settled) (rw (rounds-made m) at enough)
-      ∙ sym (run-refuses rec ks ws k limit ms ts .accepted-is (done-is h))
+      ∙ sym (with-refuses rec ks ws k limit ms ts rule .accepted-is (accepted-done h))

@@ -3,7 +3,7 @@
 use Prim.Native.Nat.{ℕ, _+_, _-_, _*_, _≤_, _<_}
 use mathlib.Core.Bool.{true, false}
 use mathlib.Core.List.{List}
-use mathlib.Core.Path.{_≡_, refl, sym, ap, _∙_}
+use mathlib.Core.Path.{_≡_, sym, ap, ap₂, _∙_}
 use native.Mathlib.Nat.{le-refl, le-trans, mul-le-mul, mul-le-mul-left}
 use native.Mathlib.Omega.{arith}
 use lib.ListN.{getD, length}
@@ -20,9 +20,11 @@ use Rattle.method.specs.{
   Rule,
   GoodRule,
   Means,
+  Rests,
   Colours,
   Fair,
   State,
+  stateOf,
   Fit,
   Joined,
   Bounded,
@@ -31,6 +33,7 @@ use Rattle.method.specs.{
   From,
   groupAt,
   groupCost,
+  groupIn,
   pixelsIn,
   meanOf,
   step,
@@ -51,6 +54,7 @@ use Rattle.method.proofs.Ends.{
   final-least,
   still-final,
   still-joined,
+  still-on-mean,
 }
 use Rattle.method.proofs.Falls.{
   after-more,
@@ -61,6 +65,7 @@ use Rattle.method.proofs.Falls.{
   rounds-fall,
   rounds-end,
   grouped-below,
+  shade-moved,
 }
 use Rattle.method.proofs.Runs.{made-at-most, made-some, made-last, made-before}
 use Rattle.method.proofs.Sizes.{spent-at-most, short-at-most-plain}
@@ -105,6 +110,14 @@ module _ {rule : Rule} {C : Colours} {k limit : ℕ} {a : State} {ts : List ℕ}
   fit-at : (n : ℕ) → Fit C k (after rule C k a n)
   fit-at = after-fit rule C k a (m .good) (m .fair) (m .fit)
 
+  -- each round moves a shade by the rule
+  pub moves-by-rule : (n q : ℕ) → q < k
+      → shadeAt (after rule C k a (n + 1) .coordinates) q
+      ≡ rule q (groupIn C k (after rule C k a n) q) (shadeAt (after rule C k a n .coordinates) q)
+  moves-by-rule n q l =
+      ap (λ (z : State). shadeAt (z .coordinates) q) (after-more rule C k a n)
+      ∙ shade-moved C k (after rule C k a n) (fit-at n) rule q l
+
   -- ---- what the last round leaves
 
   -- all rounds are the last one, of what the others leave
@@ -124,6 +137,16 @@ module _ {rule : Rule} {C : Colours} {k limit : ℕ} {a : State} {ts : List ℕ}
   -- and the final total is that of both
   total-last : r .total ≡ finalOf C (step rule C k (after rule C k a (r .rounds - 1)))
   total-last = ap (λ (x : Ran). x .total) (m .meets .answer) ∙ ap (finalOf C) by-last
+
+  -- it leaves what it has after its rounds
+  pub left-is : left r members ≡ after rule C k a (r .rounds)
+  left-is =
+      ap₂ stateOf (ap (λ (x : Ran). x .shades) (m .meets .answer)) (m .meets .members-are)
+      ∙ ap (after rule C k a) (sym rounds-made)
+
+  -- and that is fit for a round
+  pub left-fit : Fit C k (left r members)
+  left-fit = rw left-is (fit-at (r .rounds))
 
   -- the final total is the sum of what the groups cost
   pub total-is-groups : r .total ≡ sum k (groupCost C (left r members))
@@ -280,3 +303,11 @@ module _ {rule : Rule} {C : Colours} {k limit : ℕ} {a : State} {ts : List ℕ}
     settled-joined i l =
         rw (members-last, shades-last)
         (still-joined rule C k (after rule C k a (r .rounds - 1)) (fit-at (r .rounds - 1)) still i l)
+
+    -- and each shade with a group from f on stands on its rounded mean, where the rule rests only there
+    pub settled-on-mean : (f : ℕ) → Rests f rule → (q : ℕ) → f ≤ q → q < k
+        → 0 < pixelsIn (groupAt C (left r members) q)
+        → shadeAt (r .shades) q ≡ meanOf (groupAt C (left r members) q)
+    settled-on-mean f resting q free l =
+        rw (shades-last, members-last)
+        (still-on-mean rule C k (after rule C k a (r .rounds - 1)) (fit-at (r .rounds - 1)) still f resting q free l)

@@ -65,6 +65,27 @@ pub use Runs.{member-below, members-kept, totals-kept}
 pub use Runs.{total-most, distances-most}
 -- a settled run: the final total is the last recorded, and every colour is with its nearest shade
 pub use Runs.{settled-final, settled-joined}
+-- ---- Promises/Jancey.antt: Jancey's run
+pub mod Jancey
+-- it is refused as a run is, by the same number on every input
+pub use Jancey.{jancey-refused-exactly, jancey-accepted-exactly, jancey-refused, jancey-refused-as-run}
+-- its contract determines the answer and both lent slices
+pub use Jancey.{jancey-only}
+-- limit 0 is limit 100, a settled one is the same with any limit that has its rounds, and no more is read than used
+pub use Jancey.{jancey-of-usual, jancey-settled-at-any-limit, jancey-of-used, jancey-by-truth}
+-- an accepted one makes rounds of Jancey's rule from the starting shades of a run
+pub use Jancey.{jancey-accepted, jancey-first-is-mean, jancey-start-is-farthest}
+-- the step, coordinate by coordinate, in whole numbers; a shade with no group stays
+pub use Jancey.{jancey-steps, jancey-stays}
+-- its rounds and totals: these never rise, and the final one is not above the last
+pub use Jancey.{jancey-rounds-within, jancey-settled-is, jancey-moved-before, jancey-total-recorded}
+pub use Jancey.{jancey-totals-never-rise, jancey-final-at-most-last, jancey-total-is-groups}
+pub use Jancey.{jancey-distances-at-most}
+-- the shades, and what the slices have
+pub use Jancey.{jancey-shades-low, jancey-shades-room, jancey-shades-past}
+pub use Jancey.{jancey-member-below, jancey-members-kept, jancey-totals-kept}
+-- a settled one: each shade with a group on its rounded mean, every colour with its nearest shade
+pub use Jancey.{jancey-settled-on-mean, jancey-settled-final, jancey-settled-joined}
 -- ---- Promises/Calls.antt: the calls beside one another
 pub mod Calls
 -- the contract of a run determines the answer and both lent slices

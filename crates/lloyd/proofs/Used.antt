@@ -1,5 +1,5 @@
 -- A run depends on the used entries alone: what the slices of a table have past them is not read. Of the record it
--- depends on how many are used and on whether it is true.
+-- depends on how many are used and on whether it is true. By any rule that goes by coordinates.
 use Prim.Native.Nat.{ℕ, _≤_, _<_}
 use mathlib.Core.Bool.{Bool, _||_}
 use mathlib.Core.List.{List, [], _∷_}
@@ -17,8 +17,10 @@ use Rattle.shades.specs.{colourAt}
 use Rattle.method.specs.{
   Colours,
   State,
+  Rule,
+  Move,
+  Goes,
   coloursOf,
-  toMean,
   after,
   totalOf,
   shortDistances,
@@ -30,8 +32,8 @@ use Rattle.method.specs.{
 use Rattle.method.proofs.Used.{total-alike, distances-alike, final-alike, after-alike, quiet-alike, begin-alike}
 use Rattle.lloyd_tests.specs.{limitOf, badCount, badLimit, shortTotals}
 use Rattle.lloyd_refusal.specs.{runRows}
-use Rattle.lloyd.specs.Outcomes.{RunOutcome, madeRun, runBy, runOf}
-use Rattle.lloyd.proofs.Wholes.{run-refuses, runnable-of-none}
+use Rattle.lloyd.specs.Outcomes.{RunOutcome, madeRun, runBy, runWith}
+use Rattle.lloyd.proofs.Wholes.{with-refuses, runnable-of-none}
 
 -- what a run reads from a state on its way: the state, the total, the distances, and the members against the shades
 record Shown : Type 0 where
@@ -83,33 +85,34 @@ module _ (rec : Record) (ks ws ks′ ws′ : List ℕ) (keys : (i : ℕ) → i <
         final-alike (rec .used) _ _ _ _ weights places k z,
       )
 
-  -- the same rounds are made from a state
-  rounds-alike : (limit : ℕ) (a : State) (ts : List ℕ) → madeRun toMean C k limit a ts ≡ madeRun toMean D k limit a ts
-  rounds-alike limit a ts =
-      ap₂ (runShown limit ts) (quiet-alike (rec .used) _ _ _ _ weights places k a)
-      (fun-ext (λ r. ap (shownOf C k) (after-alike (rec .used) _ _ _ _ weights places k a r)
-      ∙ shown-alike (after toMean D k a r)))
+  module _ (rule : Rule) {move : Move} (by : Goes rule move) where
+    -- the same rounds are made from a state
+    rounds-alike : (limit : ℕ) (a : State) (ts : List ℕ) → madeRun rule C k limit a ts ≡ madeRun rule D k limit a ts
+    rounds-alike limit a ts =
+        ap₂ (runShown limit ts) (quiet-alike (rec .used) _ _ _ _ weights places by k a)
+        (fun-ext (λ r. ap (shownOf C k) (after-alike (rec .used) _ _ _ _ weights places by k a r)
+        ∙ shown-alike (after rule D k a r)))
 
-  -- and the run begins in the same state
-  made-alike : 0 < rec .used → (limit : ℕ) (ms ts : List ℕ)
-      → madeRun toMean C k limit (begin C k ms) ts ≡ madeRun toMean D k limit (begin D k ms) ts
-  made-alike some limit ms ts =
-      ap (λ b. madeRun toMean C k limit b ts) (begin-alike (rec .used) _ _ _ _ weights places some k ms)
-      ∙ rounds-alike limit (begin D k ms) ts
+    -- and the run begins in the same state
+    made-alike : 0 < rec .used → (limit : ℕ) (ms ts : List ℕ)
+        → madeRun rule C k limit (begin C k ms) ts ≡ madeRun rule D k limit (begin D k ms) ts
+    made-alike some limit ms ts =
+        ap (λ b. madeRun rule C k limit b ts) (begin-alike (rec .used) _ _ _ _ weights places some k ms)
+        ∙ rounds-alike limit (begin D k ms) ts
 
 -- so runs on tables with the same record and the same used entries answer and leave the same
-pub run-of-used : (rec : Record) (ks ws ks′ ws′ : List ℕ) (k limit : ℕ) (ms ts : List ℕ)
-    → rec .used ≤ roomOf ks ws → rec .used ≤ roomOf ks′ ws′
+pub run-of-used : (rule : Rule) {move : Move} → Goes rule move → (rec : Record) (ks ws ks′ ws′ : List ℕ) (k limit : ℕ)
+    (ms ts : List ℕ) → rec .used ≤ roomOf ks ws → rec .used ≤ roomOf ks′ ws′
     → ((i : ℕ) → i < rec .used → getD ks i 0 ≡ getD ks′ i 0) → ((i : ℕ) → i < rec .used → getD ws i 0 ≡ getD ws′ i 0)
-    → runOf rec ks ws k limit ms ts ≡ runOf rec ks′ ws′ k limit ms ts
-run-of-used rec ks ws ks′ ws′ k limit ms ts room room′ keys weights =
-    let one = run-refuses rec ks ws k limit ms ts in
-    let other = run-refuses rec ks′ ws′ k limit ms ts in
+    → runWith rule rec ks ws k limit ms ts ≡ runWith rule rec ks′ ws′ k limit ms ts
+run-of-used rule by rec ks ws ks′ ws′ k limit ms ts room room′ keys weights =
+    let one = with-refuses rec ks ws k limit ms ts rule in
+    let other = with-refuses rec ks′ ws′ k limit ms ts rule in
     elim (done-or-refusal (runRows rec ks ws k limit ms ts)) [
       | inl e ↦
           one .by-none e
-          ∙ made-alike rec ks ws ks′ ws′ keys weights k (runnable-of-none rec ks ws k limit ms ts e .colours)
-          (limitOf limit) ms ts
+          ∙ made-alike rec ks ws ks′ ws′ keys weights k rule by
+          (runnable-of-none rec ks ws k limit ms ts e .colours) (limitOf limit) ms ts
           ∙ sym (other .by-none (sym rows ∙ e))
       | inr g ↦ one .by-refusal (g .0) (g .1) ∙ sym (other .by-refusal (g .0) (sym rows ∙ g .1))
     ]
@@ -118,10 +121,10 @@ run-of-used rec ks ws ks′ ws′ k limit ms ts room room′ keys weights =
     rows = rw (bad-table-alike rec ks ws ks′ ws′ room room′ keys weights)
 
 -- runs by two records that use as many entries and are both true or both not are the same
-pub run-by-truth : (rec rec′ : Record) (ks ws : List ℕ) (k limit : ℕ) (ms ts : List ℕ) → rec .used ≡ rec′ .used
-    → badTable rec ks ws ≡ badTable rec′ ks ws → runOf rec ks ws k limit ms ts ≡ runOf rec′ ks ws k limit ms ts
-unfolding runOf
-run-by-truth rec rec′ ks ws k limit ms ts used truth = ap₂ (λ (bad : Bool) (n : ℕ). judged bad n) truth used
+pub run-by-truth : (rule : Rule) (rec rec′ : Record) (ks ws : List ℕ) (k limit : ℕ) (ms ts : List ℕ)
+    → rec .used ≡ rec′ .used → badTable rec ks ws ≡ badTable rec′ ks ws
+    → runWith rule rec ks ws k limit ms ts ≡ runWith rule rec′ ks ws k limit ms ts
+run-by-truth rule rec rec′ ks ws k limit ms ts used truth = ap₂ (λ (bad : Bool) (n : ℕ). judged bad n) truth used
   where
     -- the run on so many used entries, with a table that is bad or not
     judged : Bool → ℕ → RunOutcome
@@ -131,4 +134,4 @@ run-by-truth rec rec′ ks ws k limit ms ts used truth = ap₂ (λ (bad : Bool) 
         ∷ row (ltb n k) FEW-COLOURS
         ∷ row (badLimit limit) BAD-LIMIT
         ∷ row (ltb (length ms) n || shortTotals limit ts) SHORT-ROOM
-        ∷ []) toMean (onMean (coloursOf n ks ws)) (coloursOf n ks ws) k limit ms ts
+        ∷ []) rule (onMean (coloursOf n ks ws)) (coloursOf n ks ws) k limit ms ts

@@ -2,7 +2,7 @@
 use Prim.Native.Nat.{ℕ, _-_}
 use mathlib.Core.Bool.{Bool, false}
 use mathlib.Core.List.{List}
-use mathlib.Core.Path.{_≡_, refl}
+use mathlib.Core.Path.{_≡_, sym, _∙_}
 use native.Mathlib.Omega.{arith}
 use lib.ListN.{length}
 use borrow.Author.Tests.{ltb-false}
@@ -11,13 +11,13 @@ use Rattle.refusal.specs.{done, firstOf, NoneHolds, Refuses}
 use Rattle.refusal.proofs.Promises.{done-exactly}
 use Rattle.table_test.specs.{Record, badTable, GoodTable}
 use Rattle.table_test.proofs.Promises.{bad-table-exactly}
-use Rattle.method.specs.{Colours, State, coloursOf, toMean, onMean, finalOf, begin}
+use Rattle.method.specs.{Rule, Colours, State, coloursOf, toMean, leapTo, onMean, finalOf, begin}
 use Rattle.method.specs.{mostRounds}
 use Rattle.rounds_many.specs.{SeriesMeets}
 use Rattle.rounds.specs.{Runnable}
 use Rattle.lloyd_tests.specs.{limitOf, badCount, fewColours, badLimit, shortMembers, shortTotals}
 use Rattle.lloyd_refusal.specs.{runRows}
-use Rattle.lloyd.specs.Outcomes.{RunMeets, refusedRun, keptRun, madeRun, runOf}
+use Rattle.lloyd.specs.Outcomes.{RunMeets, refusedRun, keptRun, madeRun, runWith, runOf, janceyRun}
 use Rattle.lloyd.specs.declared.Ran.{Ran}
 use Rattle.lloyd.proofs.By.{by-refuses, by-meets-refused, by-meets-made}
 use Rattle.lloyd_tests.proofs.Checks.{bad-count-exactly, limit-some, limit-most}
@@ -30,39 +30,56 @@ module _ (rec : Record) (ks ws : List ℕ) (k limit : ℕ) (ms ts : List ℕ) wh
 
   -- ---- refused or made
 
-  -- a run refuses by its rows: it is made, or its number and zeros, and no slice changes
+  module _ (rule : Rule) where
+    -- a run by a rule refuses by its rows: it is made, or its number and zeros, and no slice changes
+    pub with-refuses : Refuses (runRows rec ks ws k limit ms ts) (runWith rule rec ks ws k limit ms ts)
+        (λ o. o .answer .refusal)
+        (madeRun rule (coloursOf (rec .used) ks ws) k (limitOf limit) (begin (coloursOf (rec .used) ks ws) k ms) ts)
+        (keptRun ms ts)
+    with-refuses = by-refuses (runRows rec ks ws k limit ms ts) rule (onMean C) C k limit ms ts
+
+    -- the contract where it is refused
+    pub with-meets-refused : (n : ℕ) (r : Ran) → n ≡ firstOf (runRows rec ks ws k limit ms ts) → ¬ (n ≡ done)
+        → r ≡ refusedRun n → RunMeets (runWith rule rec ks ws k limit ms ts) r ms ts
+    with-meets-refused = by-meets-refused (runRows rec ks ws k limit ms ts) rule (onMean C) C k limit ms ts
+
+    -- the contract where it is made
+    pub with-meets-made : (z : State) (totals : List ℕ) (rounds : ℕ) (settled : Bool) (distances total : ℕ)
+        (r : Ran)
+        → firstOf (runRows rec ks ws k limit ms ts) ≡ done
+        → SeriesMeets rule (coloursOf (rec .used) ks ws) k (limitOf limit)
+        (begin (coloursOf (rec .used) ks ws) k ms) z ts totals rounds settled distances
+        → total ≡ finalOf (coloursOf (rec .used) ks ws) z
+        → r ≡ record {
+          refusal = done;
+          shades = z .coordinates;
+          rounds = rounds;
+          settled = settled;
+          distances = distances;
+          total = total;
+        }
+        → RunMeets (runWith rule rec ks ws k limit ms ts) r (z .members) totals
+    with-meets-made = by-meets-made (runRows rec ks ws k limit ms ts) rule (onMean C) C k limit ms ts
+
+  -- a run, by Lloyd's rule
   pub run-refuses : Refuses (runRows rec ks ws k limit ms ts) (runOf rec ks ws k limit ms ts)
       (λ o. o .answer .refusal)
       (madeRun toMean (coloursOf (rec .used) ks ws) k (limitOf limit) (begin (coloursOf (rec .used) ks ws) k ms) ts)
       (keptRun ms ts)
   unfolding runOf
-  run-refuses = by-refuses (runRows rec ks ws k limit ms ts) toMean (onMean C) C k limit ms ts
+  run-refuses = with-refuses toMean
 
-  -- the contract where it is refused
-  pub run-meets-refused : (n : ℕ) (r : Ran) → n ≡ firstOf (runRows rec ks ws k limit ms ts) → ¬ (n ≡ done)
-      → r ≡ refusedRun n → RunMeets (runOf rec ks ws k limit ms ts) r ms ts
-  unfolding runOf
-  run-meets-refused =
-      by-meets-refused (runRows rec ks ws k limit ms ts) toMean (onMean C) C k limit ms ts
+  -- and Jancey's
+  pub jancey-refuses : Refuses (runRows rec ks ws k limit ms ts) (janceyRun rec ks ws k limit ms ts)
+      (λ o. o .answer .refusal)
+      (madeRun leapTo (coloursOf (rec .used) ks ws) k (limitOf limit) (begin (coloursOf (rec .used) ks ws) k ms) ts)
+      (keptRun ms ts)
+  unfolding janceyRun
+  jancey-refuses = with-refuses leapTo
 
-  -- the contract where it is made
-  pub run-meets-made : (z : State) (totals : List ℕ) (rounds : ℕ) (settled : Bool) (distances total : ℕ)
-      (r : Ran)
-      → firstOf (runRows rec ks ws k limit ms ts) ≡ done
-      → SeriesMeets toMean (coloursOf (rec .used) ks ws) k (limitOf limit)
-      (begin (coloursOf (rec .used) ks ws) k ms) z ts totals rounds settled distances
-      → total ≡ finalOf (coloursOf (rec .used) ks ws) z
-      → r ≡ record {
-        refusal = done;
-        shades = z .coordinates;
-        rounds = rounds;
-        settled = settled;
-        distances = distances;
-        total = total;
-      }
-      → RunMeets (runOf rec ks ws k limit ms ts) r (z .members) totals
-  unfolding runOf
-  run-meets-made = by-meets-made (runRows rec ks ws k limit ms ts) toMean (onMean C) C k limit ms ts
+  -- on every input both have one number: a rule decides nothing of it
+  pub same-refusal : janceyRun rec ks ws k limit ms ts .answer .refusal ≡ runOf rec ks ws k limit ms ts .answer .refusal
+  same-refusal = jancey-refuses .number-is ∙ sym (run-refuses .number-is)
 
   -- ---- what the tests give
 

@@ -6,10 +6,12 @@
 --   keptRun                that answer, and no slice changes
 --   madeRun rule           the outcome where nothing is refused, by a rule
 --   runBy                  the outcome of a run by any rows, rule and given shades
---   runOf                  the outcome of a run
+--   runWith rule           the outcome of a run by a rule from the table's mean
+--   runOf, janceyRun       the outcome of a run, and of Jancey's run
 --   RunMeets               the contract: answer and slices are those of the outcome
 --   AcceptedBy o           answer and slices are those of an accepted run of this outcome
 --   AcceptedRun            answer and slices are those of a run that is accepted
+--   AcceptedJancey         those of a Jancey run that is accepted
 --   FarthestColour         a table colour is the farthest from its nearest shade, lowest key at a tie
 --   left r members         the shades and the members that a run leaves
 --   shortCalls             what calls of short_round leave, each on what the one before left
@@ -42,8 +44,8 @@ unfoldable pub use Rattle.lloyd_rounds.specs.{
 }
 pub use declared.Ran.{Ran}
 unfoldable pub use Rattle.lloyd_refusal.specs.{runRows}
-pub use Outcomes.{RunOutcome, RunMeets, AcceptedBy, AcceptedRun}
-unfoldable pub use Outcomes.{refusedRun, keptRun, madeRun, runBy, runOf, left}
+pub use Outcomes.{RunOutcome, RunMeets, AcceptedBy, AcceptedRun, AcceptedJancey}
+unfoldable pub use Outcomes.{refusedRun, keptRun, madeRun, runBy, runWith, runOf, janceyRun, left}
 pub use Beginning.{FarthestColour}
 pub use Calling.{Stays}
 unfoldable pub use Calling.{shortCalls, lentStart}

@@ -16,6 +16,7 @@ use Rattle.method.specs.{
   State,
   coloursOf,
   toMean,
+  leapTo,
   after,
   quiet,
   totalOf,
@@ -73,11 +74,19 @@ abbrev pub runBy : List Row → Rule → Base → Colours → ℕ → ℕ → Li
 runBy rows rule B C k limit ms ts =
     outcomeOf rows (madeRun rule C k (limitOf limit) (beginFrom B C k ms) ts) (keptRun ms ts)
 
--- the whole outcome of a run: by Lloyd's rule from the table's mean
-unfoldable pub runOf : Record → List ℕ → List ℕ → ℕ → ℕ → List ℕ → List ℕ → RunOutcome
-runOf rec ks ws k limit ms ts =
-    runBy (runRows rec ks ws k limit ms ts) toMean (onMean (coloursOf (rec .used) ks ws)) (coloursOf (rec .used) ks ws)
+-- that of a run by a rule from the table's mean, refused by the rows of a run
+abbrev pub runWith : Rule → Record → List ℕ → List ℕ → ℕ → ℕ → List ℕ → List ℕ → RunOutcome
+runWith rule rec ks ws k limit ms ts =
+    runBy (runRows rec ks ws k limit ms ts) rule (onMean (coloursOf (rec .used) ks ws)) (coloursOf (rec .used) ks ws)
     k limit ms ts
+
+-- the whole outcome of a run: by Lloyd's rule
+unfoldable pub runOf : Record → List ℕ → List ℕ → ℕ → ℕ → List ℕ → List ℕ → RunOutcome
+runOf = runWith toMean
+
+-- and that of Jancey's run: like a run in everything but where a shade with a group moves
+unfoldable pub janceyRun : Record → List ℕ → List ℕ → ℕ → ℕ → List ℕ → List ℕ → RunOutcome
+janceyRun = runWith leapTo
 
 -- the contract: answer and slices are those of the outcome
 pub record RunMeets (o : RunOutcome) (r : Ran) (members totals : List ℕ) : Type 0 where
@@ -94,6 +103,12 @@ pub record AcceptedBy (o : RunOutcome) (r : Ran) (members totals : List ℕ) : T
 pub record AcceptedRun (rec : Record) (ks ws : List ℕ) (k limit : ℕ) (ms ts : List ℕ) (r : Ran)
     (members totals : List ℕ) : Type 0 where
   pub meets : RunMeets (runOf rec ks ws k limit ms ts) r members totals
+  pub accepted : r .refusal ≡ done
+
+-- and those of a Jancey run that is accepted
+pub record AcceptedJancey (rec : Record) (ks ws : List ℕ) (k limit : ℕ) (ms ts : List ℕ) (r : Ran)
+    (members totals : List ℕ) : Type 0 where
+  pub meets : RunMeets (janceyRun rec ks ws k limit ms ts) r members totals
   pub accepted : r .refusal ≡ done
 
 -- the shades and the members that a run leaves

@@ -4,6 +4,7 @@
 //   run           starting shades and shortened rounds.       runs.rt
 //                 Refuses 2 BAD TABLE, 4 BAD COUNT, 5 FEW COLOURS, 6 BAD LIMIT, 7 SHORT ROOM, in
 //                 this order.
+//   run_jancey    the same run with shades that step past the mean.   Refuses as run does.
 //   plain_round, short_round   one round: those of the crate lloyd_rounds
 // A refusal answers its number and zeros and writes nothing. The tests stand in lloyd_refusal;
 // the work is done by the crate rounds.
@@ -18,6 +19,7 @@ pub use lloyd_rounds::plain_round;
 pub use lloyd_rounds::short_round;
 pub use lloyd_tests::USUAL_LIMIT;
 pub use runs::run;
+pub use runs::run_jancey;
 
 // The answer of a run: 0 or the refusal's number; the shades, three coordinates each, zeros past
 // the count; the rounds made; whether the last moved no shade; the distances of all rounds; the

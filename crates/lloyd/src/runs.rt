@@ -1,6 +1,7 @@
-// The run.
+// The run, by Lloyd's rule and by Jancey's.
 ghost use mathlib.Core.Path.{_≡_};
-ghost use Rattle.lloyd.specs.Outcomes.{runOf, refusedRun, RunMeets};
+ghost use Rattle.method.specs.{kindOf};
+ghost use Rattle.lloyd.specs.Outcomes.{runWith, runOf, janceyRun, refusedRun, RunMeets};
 use super::Ran;
 use lloyd_refusal::run_refusal;
 use lloyd_tests::limit_of;
@@ -19,6 +20,48 @@ fn refused(number: u8) -> Ran
         settled: false,
         distances: 0,
         total: 0,
+    }
+}
+
+// A run by Jancey's rule where the shades leap, else by Lloyd's: what `run` and `run_jancey` do.
+fn run_with(
+    rec: Record,
+    keys: &[u32],
+    weights: &[u32],
+    count: usize,
+    leaps: bool,
+    limit: usize,
+    members: &mut [u32],
+    totals: &mut [u64],
+) -> Ran
+    ensures { λ r. ⌜ RunMeets (runWith (kindOf leaps) rec (now (keys .entry))
+        (now (weights .entry)) count limit (now (members .entry)) (now (totals .entry)))
+        r (now (members .exit)) (now (totals .exit)) ⌝ }
+{
+    let number = run_refusal(rec, keys, weights, count, limit, members, totals);
+    if number != DONE {
+        return refused(number);
+    }
+    let rounds = limit_of(limit);
+    let mut shades = [0u32; 192];
+    let a = rounds::make_run(
+        rec,
+        keys,
+        weights,
+        &mut shades,
+        count,
+        leaps,
+        rounds,
+        members,
+        totals,
+    );
+    Ran {
+        refusal: DONE,
+        shades,
+        rounds: a.rounds,
+        settled: a.settled,
+        distances: a.distances,
+        total: a.total,
     }
 }
 
@@ -45,28 +88,25 @@ pub fn run(
         (now (members .entry)) (now (totals .entry)))
         r (now (members .exit)) (now (totals .exit)) ⌝ }
 {
-    let number = run_refusal(rec, keys, weights, count, limit, members, totals);
-    if number != DONE {
-        return refused(number);
-    }
-    let rounds = limit_of(limit);
-    let mut shades = [0u32; 192];
-    let a = rounds::make_run(
-        rec,
-        keys,
-        weights,
-        &mut shades,
-        count,
-        rounds,
-        members,
-        totals,
-    );
-    Ran {
-        refusal: DONE,
-        shades,
-        rounds: a.rounds,
-        settled: a.settled,
-        distances: a.distances,
-        total: a.total,
-    }
+    run_with(rec, keys, weights, count, false, limit, members, totals)
+}
+
+// A run in which a shade with a group steps past the mean: on each coordinate nine fifths of the
+// way from where it stands to the exact mean of its group, to the nearest sixteenth, halves up, and
+// held to 0 and 4080; where that ends as far from the exact mean as it began, or farther, on the
+// rounded mean. In all else it is `run`: it begins, counts, ends and refuses as that does.
+pub fn run_jancey(
+    rec: Record,
+    keys: &[u32],
+    weights: &[u32],
+    count: usize,
+    limit: usize,
+    members: &mut [u32],
+    totals: &mut [u64],
+) -> Ran
+    ensures { λ r. ⌜ RunMeets (janceyRun rec (now (keys .entry)) (now (weights .entry)) count limit
+        (now (members .entry)) (now (totals .entry)))
+        r (now (members .exit)) (now (totals .exit)) ⌝ }
+{
+    run_with(rec, keys, weights, count, true, limit, members, totals)
 }

@@ -20,7 +20,7 @@ use Rattle.method.specs.Colouring.{
   meanOf,
   groupOf,
 }
-use Rattle.method.specs.Rounding.{toMean}
+use Rattle.method.specs.Rules.{toMean}
 
 -- ---- a mean, or a point that stays
 

@@ -23,7 +23,7 @@ use Rattle.method.specs.Colouring.{
   meanOf,
   drawn,
 }
-use Rattle.method.specs.Rounding.{toMean, GoodRule, Means}
+use Rattle.method.specs.Rules.{toMean, GoodRule, Means}
 
 -- a shade costs what its three coordinates cost
 cost-coordinates : (C : Colours) (z : Point)
@@ -34,6 +34,12 @@ cost-coordinates C z =
     ∙ ap (λ t. t + cost (on (λ p. p .b) C) (z .b)) (sum-add (C .n) _ _ _ (λ i l. omega arith))
 
 module _ (C : Colours) where
+  -- where each coordinate costs no more, a shade costs no more
+  pub costs-no-more : (y z : Point) → cost (on (λ p. p .r) C) (y .r) ≤ cost (on (λ p. p .r) C) (z .r)
+      → cost (on (λ p. p .g) C) (y .g) ≤ cost (on (λ p. p .g) C) (z .g)
+      → cost (on (λ p. p .b) C) (y .b) ≤ cost (on (λ p. p .b) C) (z .b) → costAt C y ≤ costAt C z
+  costs-no-more y z r g b = omega (arith, cost-coordinates C y, cost-coordinates C z, r, g, b)
+
   -- colours that weigh nothing cost nothing
   pub empty-costs-nothing : pixelsIn C ≡ 0 → (z : Point) → costAt C z ≡ 0
   empty-costs-nothing e z = sum-none (C .n) (C .w) (λ i. distance (C .c i) z) e
@@ -45,14 +51,8 @@ module _ (C : Colours) where
   -- no whole shade costs less than the rounded mean
   mean-costs-least : 0 < pixelsIn C → (z : Point) → costAt C (meanOf C) ≤ costAt C z
   mean-costs-least pos z =
-      omega (
-        arith,
-        cost-coordinates C z,
-        cost-coordinates C (meanOf C),
-        mean-best (on (λ p. p .r) C) pos (z .r),
-        mean-best (on (λ p. p .g) C) pos (z .g),
-        mean-best (on (λ p. p .b) C) pos (z .b),
-      )
+      costs-no-more (meanOf C) z (mean-best (on (λ p. p .r) C) pos (z .r)) (mean-best (on (λ p. p .g) C) pos (z .g))
+      (mean-best (on (λ p. p .b) C) pos (z .b))
 
   -- no whole shade costs less than the least, both times W
   pub cost-at-least : (z : Point) → leastOf C ≤ pixelsIn C * costAt C z

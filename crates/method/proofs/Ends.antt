@@ -19,10 +19,8 @@ use Rattle.shades.specs.{shadeAt, axis, coordinateOf, samePlace}
 use Rattle.shades.proofs.Laying.{same-place-is, coordinate-read}
 use Rattle.shades.proofs.Nearest.{nearest-same}
 use Rattle.method.specs.Colouring.{Colours, pixelsIn, costAt, meanOf, groupOf}
+use Rattle.method.specs.Rules.{Rule, toMean, Means, Rests}
 use Rattle.method.specs.Rounding.{
-  Rule,
-  toMean,
-  Means,
   State,
   stateOf,
   joins,
@@ -154,7 +152,7 @@ module _ (rule : Rule) (C : Colours) (k : ℕ) (a : State) (fit : Fit C k a) whe
 
 -- ---- a round that moves no shade, by any rule
 
-module _ (rule : Rule) (C : Colours) (k : ℕ) (a : State) (f : Fit C k a) (still : movedOf rule C k a ≡ 0) where
+module _ (rule : Rule) (C : Colours) (k : ℕ) (a : State) (fit : Fit C k a) (still : movedOf rule C k a ≡ 0) where
   -- each shade stays
   shade-stays : (q : ℕ) → q < k → movedTo rule C k a q ≡ shadeAt (a .coordinates) q
   shade-stays q h =
@@ -165,20 +163,30 @@ module _ (rule : Rule) (C : Colours) (k : ℕ) (a : State) (f : Fit C k a) (stil
   -- and the grouping costs just the round's total
   pub still-final : finalOf C (step rule C k a) ≡ totalOf C k a
   still-final =
-      final-of-groups C k a f rule
+      final-of-groups C k a fit rule
       ∙ sum-eq k _ _ (λ q h. ap (costAt (groupIn C k a q)) (shade-stays q h))
-      ∙ sym (total-of-groups C k a f)
+      ∙ sym (total-of-groups C k a fit)
 
   -- the shades stand where they stood
   still-shades : (q : ℕ) → q < k → shadeAt (step rule C k a .coordinates) q ≡ shadeAt (a .coordinates) q
-  still-shades q h = shade-moved C k a f rule q h ∙ shade-stays q h
+  still-shades q h = shade-moved C k a fit rule q h ∙ shade-stays q h
 
   -- and each member is the nearest of them
   pub still-joined : (i : ℕ) → i < C .n
       → getD (step rule C k a .members) i 0 ≡ joins C k (step rule C k a .coordinates) i
   still-joined i h =
-      member-joined C k a f i h
+      member-joined C k a fit i h
       ∙ nearest-same (a .coordinates) (step rule C k a .coordinates) k (λ q l. sym (still-shades q l)) (C .c i)
+
+  -- a shade with a group stands on its rounded mean, where the rule rests only there
+  pub still-on-mean : (f : ℕ) → Rests f rule → (q : ℕ) → f ≤ q → q < k
+      → 0 < pixelsIn (groupAt C (step rule C k a) q)
+      → shadeAt (step rule C k a .coordinates) q ≡ meanOf (groupAt C (step rule C k a) q)
+  still-on-mean f resting q free h pos =
+      let same = group-pixels-same C _ (joins C k (a .coordinates)) q (member-joined C k a fit) in
+      still-shades q h
+      ∙ resting .rests q (groupIn C k a q) (shadeAt (a .coordinates) q) free (rw same at pos) (shade-stays q h)
+      ∙ sym (group-mean-same C _ (joins C k (a .coordinates)) q (member-joined C k a fit))
 
   -- every coordinate is what it was
   still-coordinates : step rule C k a .coordinates ≡ a .coordinates

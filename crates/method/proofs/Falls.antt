@@ -13,9 +13,8 @@ use Rattle.shades.specs.{shadeAt, coordinateOf}
 use Rattle.shades.proofs.Laying.{shade-laid, laid-low, laid-length, shade-within}
 use Rattle.shades.proofs.Nearest.{nearest-below}
 use Rattle.method.specs.Colouring.{Colours, costAt, Fair}
+use Rattle.method.specs.Rules.{Rule, GoodRule}
 use Rattle.method.specs.Rounding.{
-  Rule,
-  GoodRule,
   State,
   joins,
   grouped,

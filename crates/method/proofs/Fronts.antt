@@ -15,8 +15,8 @@ use Rattle.shades.specs.{axis, coordinateOf, samePlace, toShade}
 use Rattle.shades.proofs.Laying.{front-shade, front-low}
 use Rattle.shades.proofs.Nearest.{nearest-below, nearest-same, worked-same}
 use Rattle.method.specs.Colouring.{Colours, groupOf}
+use Rattle.method.specs.Rules.{Rule}
 use Rattle.method.specs.Rounding.{
-  Rule,
   State,
   stateOf,
   frontOf,

@@ -2,6 +2,8 @@
 pub mod Promises
 -- What a shade costs weighted colours, and Lloyd's rule.
 pub mod Costs
+-- Jancey's rule, both rules as one, and rules on one coordinate.
+pub mod Rules
 -- Shades at fractions of whole numbers of either sign.
 pub mod Fractions
 -- A total is the sum of what the groups cost; the nearest grouping has the least.

@@ -3,9 +3,10 @@
 use Prim.Native.Nat.{ℕ, _+_, _*_, _≤_, _<_}
 use mathlib.Core.List.{List}
 use mathlib.Core.Path.{_≡_}
-use Rattle.number.specs.{sum, sumOf, most, Best}
+use Rattle.number.specs.{sum, sumOf, most, Best, Leaps}
 use Rattle.number.proofs.Promises.{most-is-best, best-is-most}
-use Rattle.colour.specs.{Point, distance}
+use Rattle.colour.specs.{Point, distance, mostCoordinate}
+use Rattle.shades.specs.{axis}
 use Rattle.method.specs.Colouring.{
   Colours,
   Fair,
@@ -19,10 +20,8 @@ use Rattle.method.specs.Colouring.{
   groupOf,
   drawn,
 }
+use Rattle.method.specs.Rules.{Rule, toMean, leapTo, GoodRule, Rests}
 use Rattle.method.specs.Rounding.{
-  Rule,
-  toMean,
-  GoodRule,
   State,
   frontOf,
   Fit,
@@ -43,6 +42,7 @@ use Rattle.method.proofs.Covers as covers
 use Rattle.method.proofs.Falls as falls
 use Rattle.method.proofs.Fractions as fractions
 use Rattle.method.proofs.Fronts as fronts
+use Rattle.method.proofs.Rules as rules
 use Rattle.method.proofs.Sizes as sizes
 use Rattle.method.proofs.Startings as startings
 use Rattle.method.proofs.Totals as totals
@@ -102,6 +102,25 @@ rounds-end = falls.rounds-end
 -- Lloyd's rule is such a rule.
 pub to-mean-good : GoodRule toMean
 to-mean-good = costs.to-mean-good
+
+-- So is Jancey's.
+pub leap-to-good : GoodRule leapTo
+leap-to-good = rules.leap-to-good
+
+-- A shade with a group makes Jancey's step on each coordinate: nine fifths of the way to the exact mean, to the nearest
+-- sixteenth, a half going up, held to 0 and 4080; where that ends as far from the mean as it began, or farther, the
+-- rounded mean.
+pub leap-to-steps : (q : ℕ) (G : Colours) (z : Point) → 0 < pixelsIn G → (e : ℕ)
+    → Leaps mostCoordinate (pixelsIn G) (axis e (sumsOf G)) (axis e z) (axis e (leapTo q G z))
+leap-to-steps = rules.leap-to-steps
+
+-- A shade with no group stays.
+pub leap-to-stays : (q : ℕ) (G : Colours) (z : Point) → pixelsIn G ≡ 0 → leapTo q G z ≡ z
+leap-to-stays = rules.leap-to-stays
+
+-- And a shade with a group that Jancey's rule leaves where it stands is on its rounded mean.
+pub leap-to-rests : Rests 0 leapTo
+leap-to-rests = rules.leap-to-rests
 
 -- ---- distances counted
 

@@ -1,5 +1,5 @@
 -- Colours that agree on their places have the same rounds and the same beginning of a run: what a slice has past the
--- used entries is not read. Written for Lloyd's rule, which reads of a group no more than its sums.
+-- used entries is not read. By any rule that goes by coordinates, and so reads of a group no more than its sums.
 use Prim.Native.Nat.{ℕ, zero, suc, _*_, _<_}
 use mathlib.Core.Bool.{cond, not}
 use mathlib.Core.List.{List, _++_}
@@ -12,11 +12,11 @@ use Rattle.number.proofs.Searches.{first-same, first-below}
 use Rattle.number.proofs.Sums.{sum-eq}
 use Rattle.colour.specs.{Point}
 use Rattle.shades.specs.{mostCoordinates, shadeAt, laid, samePlace, toShade, nearestShade, worked}
-use Rattle.method.specs.Colouring.{Colours, pixelsIn, meanOf}
+use Rattle.method.specs.Colouring.{Colours, pixelsIn, sumsOf, meanOf}
+use Rattle.method.specs.Rules.{Rule, Move, Goes}
 use Rattle.method.specs.Rounding.{
   State,
   stateOf,
-  toMean,
   groupIn,
   totalOf,
   shortDistances,
@@ -29,6 +29,7 @@ use Rattle.method.specs.Rounding.{
 }
 use Rattle.method.specs.Starting.{Base, remote, flat, listed, nextShade, startsFrom, over}
 use Rattle.method.specs.Running.{begin}
+use Rattle.method.proofs.Rules.{goes-alike}
 
 module _ (n : ℕ) (w w′ : ℕ → ℕ) (c c′ : ℕ → Point) (weights : (i : ℕ) → i < n → w i ≡ w′ i)
     (places : (i : ℕ) → i < n → c i ≡ c′ i) where
@@ -68,46 +69,42 @@ module _ (n : ℕ) (w w′ : ℕ → ℕ) (c c′ : ℕ → Point) (weights : (i
     pixels-alike : (q : ℕ) → pixelsIn (groupIn C k a q) ≡ pixelsIn (groupIn D k a q)
     pixels-alike q = sum-alike (λ i p v. cond (eqb (nearestShade (a .coordinates) k p) q) v 0)
 
-    -- its mean
-    mean-alike : (q : ℕ) → meanOf (groupIn C k a q) ≡ meanOf (groupIn D k a q)
-    mean-alike q =
-        rw (
-          pixels-alike q,
-          group-alike q (λ p. p .r),
-          group-alike q (λ p. p .g),
-          group-alike q (λ p. p .b),
-        )
+    -- its sums
+    sums-alike : (q : ℕ) → sumsOf (groupIn C k a q) ≡ sumsOf (groupIn D k a q)
+    sums-alike q = rw (group-alike q (λ p. p .r), group-alike q (λ p. p .g), group-alike q (λ p. p .b))
 
-    -- where the shades go
-    moved-to-alike : movedTo toMean C k a ≡ movedTo toMean D k a
-    moved-to-alike =
-        fun-ext (λ q. ap₂ (λ (x : ℕ) (p : Point). cond (eqb x 0) (shadeAt (a .coordinates) q) p) (pixels-alike q)
-        (mean-alike q))
+  -- ---- rounds of a rule
 
-    -- how many move
-    moved-alike : movedOf toMean C k a ≡ movedOf toMean D k a
-    moved-alike =
-        ap (λ (f : ℕ → Point). howMany k (λ q. not (samePlace (f q) (shadeAt (a .coordinates) q)))) moved-to-alike
+  module _ {rule : Rule} {move : Move} (by : Goes rule move) where
+    module _ (k : ℕ) (a : State) where
+      -- where the shades go
+      moved-to-alike : movedTo rule C k a ≡ movedTo rule D k a
+      moved-to-alike =
+          fun-ext (λ q. goes-alike rule move by q (groupIn C k a q) (groupIn D k a q) (shadeAt (a .coordinates) q)
+          (pixels-alike k a q) (sums-alike k a q))
 
-    -- what the round leaves
-    step-alike : step toMean C k a ≡ step toMean D k a
-    step-alike =
-        ap₂ stateOf (ap (λ (f : ℕ → Point). laid k f (a .coordinates)) moved-to-alike)
-        (fill-same n _ _ (a .members) (λ i l. ap (nearestShade (a .coordinates) k) (places i l)))
+      -- how many move
+      moved-alike : movedOf rule C k a ≡ movedOf rule D k a
+      moved-alike =
+          ap (λ (f : ℕ → Point). howMany k (λ q. not (samePlace (f q) (shadeAt (a .coordinates) q)))) moved-to-alike
 
-  -- ---- many rounds
+      -- what the round leaves
+      step-alike : step rule C k a ≡ step rule D k a
+      step-alike =
+          ap₂ stateOf (ap (λ (f : ℕ → Point). laid k f (a .coordinates)) moved-to-alike)
+          (fill-same n _ _ (a .members) (λ i l. ap (nearestShade (a .coordinates) k) (places i l)))
 
-  -- what r rounds leave
-  pub after-alike : (k : ℕ) (a : State) (r : ℕ) → after toMean C k a r ≡ after toMean D k a r
-  unfolding after
-  after-alike k a zero = refl
-  after-alike k a (suc r) = ap (step toMean C k) (after-alike k a r) ∙ step-alike k (after toMean D k a r)
+    -- what r rounds leave
+    pub after-alike : (k : ℕ) (a : State) (r : ℕ) → after rule C k a r ≡ after rule D k a r
+    unfolding after
+    after-alike k a zero = refl
+    after-alike k a (suc r) = ap (step rule C k) (after-alike k a r) ∙ step-alike k (after rule D k a r)
 
-  -- which rounds are quiet
-  pub quiet-alike : (k : ℕ) (a : State) → quiet toMean C k a ≡ quiet toMean D k a
-  quiet-alike k a =
-      fun-ext (λ r. ap (λ x. eqb x 0)
-      (ap (movedOf toMean C k) (after-alike k a r) ∙ moved-alike k (after toMean D k a r)))
+    -- which rounds are quiet
+    pub quiet-alike : (k : ℕ) (a : State) → quiet rule C k a ≡ quiet rule D k a
+    quiet-alike k a =
+        fun-ext (λ r. ap (λ x. eqb x 0)
+        (ap (movedOf rule C k) (after-alike k a r) ∙ moved-alike k (after rule D k a r)))
 
   -- ---- where a run begins
 

@@ -5,7 +5,7 @@ use mathlib.Core.Bool.{cond}
 use mathlib.Core.List.{List}
 use lib.ListN.{getD}
 use lib.Dec.{eqb}
-use Rattle.number.specs.{sum, Group, S, Q, roundedMean}
+use Rattle.number.specs.{sum, Group, S, Q, roundedMean, leap}
 use Rattle.colour.specs.{Point, Within, distance, mostCoordinate, mostPixels}
 use Rattle.table_entries.specs.{mostEntries}
 use Rattle.shades.specs.{colourAt, levelsAt}
@@ -58,6 +58,14 @@ meanOf C = record {
   r = roundedMean (pixelsIn C) (sumsOf C .r);
   g = roundedMean (pixelsIn C) (sumsOf C .g);
   b = roundedMean (pixelsIn C) (sumsOf C .b);
+}
+
+-- Jancey's step from z, on each of the three coordinates
+abbrev pub leapOf : Colours → Point → Point
+leapOf C z = record {
+  r = leap mostCoordinate (pixelsIn C) (sumsOf C .r) (z .r);
+  g = leap mostCoordinate (pixelsIn C) (sumsOf C .g) (z .g);
+  b = leap mostCoordinate (pixelsIn C) (sumsOf C .b) (z .b);
 }
 
 -- the group of shade q, where m says which shade each colour has joined: the others weigh nothing

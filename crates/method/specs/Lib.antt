@@ -9,13 +9,18 @@
 --   leastOf C            W·Q - (S1² + S2² + S3²): W times the least that a fractional shade could cost
 --   costAt C z           what a shade at z costs: the sum of weight times distance
 --   meanOf C             the rounded mean on each coordinate
+--   leapOf C z           Jancey's step from z on each coordinate
 --   groupOf C m q        the colours whose member is q; the others weigh nothing
 --   drawn n C            the colours with every coordinate n times as large
 --   on f C               one coordinate of the colours
 --   Fair C               at most 16,777,216 pixels in at most 1,048,576 entries, all on the grid
 --   Rule, toMean         where a shade goes, given its number, its group and its place; Lloyd's rule
+--   leapTo, kindOf       Jancey's rule, and one of the two
 --   GoodRule rule        it costs the group no more than staying, and keeps to the grid
 --   Means f rule         from shade f on it goes to the mean
+--   Rests f rule         from shade f on it leaves a shade with a group only on the mean
+--   Move, moveOf         a rule on one coordinate, and both rules there
+--   Goes rule move       the rule goes so on each coordinate
 --   State, stateOf       coordinates and members
 --   frontOf k a          its first k shades, three coordinates each, and its members
 --   joins, grouped       the shade that a colour joins; the members after a grouping
@@ -48,6 +53,7 @@
 --   offSquare n x a      (n·x - a)², where a may lie below 0
 --   fractionCost C n a   the weighted sum of (n·coordinate - a)²: n² times what a shade at a / n costs
 pub mod Colouring
+pub mod Rules
 pub mod Rounding
 pub mod Starting
 pub mod Running
@@ -65,13 +71,14 @@ unfoldable pub use Colouring.{
   leastOf,
   costAt,
   meanOf,
+  leapOf,
   groupOf,
   drawn,
 }
-pub use Rounding.{State, GoodRule, Means, Fit}
+pub use Rules.{GoodRule, Means, Rests, Goes}
+unfoldable pub use Rules.{Rule, toMean, leapTo, kindOf, Move, moveOf}
+pub use Rounding.{State, Fit}
 unfoldable pub use Rounding.{
-  Rule,
-  toMean,
   stateOf,
   frontOf,
   joins,

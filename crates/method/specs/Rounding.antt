@@ -1,33 +1,14 @@
 -- A round: each colour joins its nearest shade, and each shade moves by a rule. And many rounds, one after the other.
 use Prim.Native.Nat.{ℕ, zero, suc, _*_, _≤_, _<_}
-use mathlib.Core.Bool.{Bool, cond, not}
+use mathlib.Core.Bool.{Bool, not}
 use mathlib.Core.List.{List}
-use mathlib.Core.Path.{_≡_}
 use lib.Dec.{eqb}
 use lib.ListN.{getD, length, take}
 use Rattle.number.specs.{sum, howMany, fill}
-use Rattle.colour.specs.{Point, Within, mostCoordinate}
+use Rattle.colour.specs.{Point}
 use Rattle.shades.specs.{shadeAt, laid, samePlace, Shades, toShade, nearestShade, worked}
-use Rattle.method.specs.Colouring.{Colours, pixelsIn, costAt, meanOf, groupOf}
-
--- where a shade goes: given its number, its group, and where it stands
-abbrev pub Rule : Type 0
-Rule = ℕ → Colours → Point → Point
-
--- Lloyd's rule: each shade moves to the rounded mean of its group, and a shade with no group stays
-abbrev pub toMean : Rule
-toMean q G z = cond (eqb (pixelsIn G) 0) z (meanOf G)
-
--- what a run asks of its rule: it costs a group no more than staying does, and it keeps to the grid a shade that stands
--- on it, among colours that do
-pub record GoodRule (rule : Rule) : Type 0 where
-  pub no-dearer : (q : ℕ) (G : Colours) (z : Point) → costAt G (rule q G z) ≤ costAt G z
-  pub keeps : (q : ℕ) (G : Colours) (z : Point) → ((i : ℕ) → Within mostCoordinate (G .c i))
-      → Within mostCoordinate z → Within mostCoordinate (rule q G z)
-
--- from shade f on the rule goes to the mean
-pub record Means (f : ℕ) (rule : Rule) : Type 0 where
-  pub means : (q : ℕ) (G : Colours) (z : Point) → f ≤ q → rule q G z ≡ toMean q G z
+use Rattle.method.specs.Colouring.{Colours, costAt, groupOf}
+use Rattle.method.specs.Rules.{Rule}
 
 -- the lent coordinates, in which the shades lie, and the lent members
 pub record State : Type 0 where

@@ -1,5 +1,5 @@
 -- Glossary.
---   goes t s n   where coordinate n of the shades s goes, by the sums t
---   stays t s q  the three coordinates of shade q stay
+--   goes move t s n   where coordinate n of the shades s goes, by the sums t and a rule on one coordinate
+--   stays move t s q  the three coordinates of shade q stay
 pub mod Reading
 unfoldable pub use Reading.{goes, stays}

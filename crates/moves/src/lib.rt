@@ -1,7 +1,8 @@
-// Where the shades of a grouping move.
+// Where the shades of a grouping move: each to the rounded mean of its group, or by Jancey's step
+// past it.
 //
 // Calls; none refuses, and what one requires stands above it
-//   move_shades    moves each shade to the rounded mean of its group   step.rt
+//   move_shades    moves each shade                     step.rt
 //   count_movers   how many of them that moves
 //
 // Read next: specs/Lib.antt (what the words mean), proofs/Lib.antt (what is shown).

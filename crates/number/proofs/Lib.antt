@@ -28,5 +28,7 @@ pub mod Costs
 pub mod Means
 -- Fractional shades: the least cost, and that the true mean attains it.
 pub mod Fractions
+-- Jancey's step: the only such number, no dearer than staying, in range, at rest on the rounded mean only.
+pub mod Leaps
 -- What a reader may ask for: each theorem in full, with the proof it cites.
 pub mod Promises

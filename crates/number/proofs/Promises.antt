@@ -1,10 +1,11 @@
 -- What is shown of searches and of weighted groups: each theorem in full, under a sentence that says it.
--- The proofs stand in Searches, Pigeonholes, Costs, Means and Fractions. W, S and Q are a group's pixel count, its
--- weighted sum of coordinates, and that of their squares.
+-- The proofs stand in Searches, Pigeonholes, Costs, Means, Leaps and Fractions. W, S and Q are a group's pixel count,
+-- its weighted sum of coordinates, and that of their squares.
 use mathlib.Core.Bool.{Bool}
 use mathlib.Core.Path.{_≡_}
-use Prim.Native.Nat.{ℕ, _+_, _-_, _*_, _≤_, _<_}
+use Prim.Native.Nat.{ℕ, _+_, _-_, _*_, _/_, _≤_, _<_}
 use Rattle.number.specs.Groups.{Group, W, S, Q, cost, roundedMean, Nearest, scale}
+use Rattle.number.specs.Past.{pastMean, leap, NearestPast, Leaps}
 use Rattle.number.specs.Search.{Best, least, most, firstThat, First}
 use Rattle.number.specs.Square.{gap, sq}
 use Rattle.number.proofs.Searches as Searches
@@ -12,6 +13,7 @@ use Rattle.number.proofs.Firsts as Firsts
 use Rattle.number.proofs.Pigeonholes as Pigeonholes
 use Rattle.number.proofs.Costs as Costs
 use Rattle.number.proofs.Means as Means
+use Rattle.number.proofs.Leaps as Leaping
 use Rattle.number.proofs.Fractions as Fractions
 
 -- ---- searches
@@ -93,6 +95,46 @@ rounded-mean-bound = Means.mean-bound
 pub rounded-mean-in-range : (G : Group) → 0 < W G → (top : ℕ) → ((i : ℕ) → i < G .n → G .x i ≤ top)
     → roundedMean (W G) (S G) ≤ top
 rounded-mean-in-range = Means.mean-fits
+
+-- ---- Jancey's step
+
+-- A place that is no farther from the true mean costs the group no more: from the cost in two parts.
+pub nearer-no-dearer : (G : Group) → 0 < W G → (y z : ℕ) → gap (S G) (y * W G) ≤ gap (S G) (z * W G)
+    → cost G y ≤ cost G z
+nearer-no-dearer = Costs.nearer-no-dearer
+
+-- Of the numbers from 0 on `pastMean` is the nearest to z + 9/5 · (s / w - z), a half going up.
+pub past-mean-is-nearest : (w s z : ℕ) → 0 < w → NearestPast w s z (pastMean w s z)
+past-mean-is-nearest = Leaping.past-is-nearest
+
+-- There is one such number only.
+pub past-mean-only : (w s z : ℕ) {x y : ℕ} → NearestPast w s z x → NearestPast w s z y → x ≡ y
+past-mean-only = Leaping.past-only
+
+-- It is the whole part of (18s + 5w - 8wz) / (10w), and 0 where that is negative.
+pub past-mean-whole-part : (w s z : ℕ) → 0 < w → pastMean w s z ≡ (18 * s + 5 * w - 8 * (w * z)) / (10 * w)
+past-mean-whole-part = Leaping.past-whole-part
+
+-- `leap` is Jancey's step.
+pub leap-is-step : (top w s z : ℕ) → 0 < w → Leaps top w s z (leap top w s z)
+leap-is-step = Leaping.leap-is-step
+
+-- There is one such step only.
+pub leap-only : (top w s z : ℕ) {x y : ℕ} → Leaps top w s z x → Leaps top w s z y → x ≡ y
+leap-only = Leaping.leap-only
+
+-- The step costs the group no more than staying.
+pub leap-no-dearer : (G : Group) → 0 < W G → (top z : ℕ) → cost G (leap top (W G) (S G) z) ≤ cost G z
+leap-no-dearer = Leaping.leap-no-dearer
+
+-- A step that leaves a place where it is has left it on the rounded mean.
+pub leap-rests : (top w s z : ℕ) → leap top w s z ≡ z → z ≡ roundedMean w s
+leap-rests = Leaping.leap-rests
+
+-- Among coordinates that are at most `top`, it goes to no place above `top`.
+pub leap-in-range : (G : Group) → 0 < W G → (top z : ℕ) → ((i : ℕ) → i < G .n → G .x i ≤ top)
+    → leap top (W G) (S G) z ≤ top
+leap-in-range G pos top z h = Leaping.leap-fits top (W G) (S G) z (Means.mean-fits G pos top h)
 
 -- ---- fractional shades
 

@@ -21,12 +21,18 @@
 --   roundedMean       the whole part of (2S + W) / (2W)
 --   Nearest w s x     x is the whole number nearest to s / w, a half going up
 --   scale             a group drawn k times as large
+--   pastMean          nine fifths of the way to the mean, rounded
+--   heldPast          that, held to a top
+--   leap              Jancey's step: there, where that is nearer to the mean, else the rounded mean
+--   NearestPast       a number is nine fifths of the way, to the nearest whole number, a half going up
+--   Leaps             a number is Jancey's step
 pub mod Sum
 pub mod Count
 pub mod Fill
 pub mod Search
 pub mod Square
 pub mod Groups
+pub mod Past
 unfoldable pub use Sum.{sum, sumOf, numbersBelow}
 unfoldable pub use Count.{bit, howMany}
 unfoldable pub use Fill.{fill, fillFrom}
@@ -35,3 +41,5 @@ pub use Search.{Best, Order, First}
 unfoldable pub use Square.{gap, sq}
 unfoldable pub use Groups.{W, S, Q, cost, roundedMean, scale}
 pub use Groups.{Group, Nearest}
+unfoldable pub use Past.{pastMean, heldPast, leap}
+pub use Past.{NearestPast, Leaps}

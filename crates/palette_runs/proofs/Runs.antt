@@ -1,5 +1,6 @@
--- The palette of an accepted run is never refused, and is that of its last grouping.
+-- The palette of a run that is made, by whatever rule, is never refused, and is that of its last grouping.
 use Prim.Native.Nat.{ℕ, _+_, _*_, _/_, _≤_, _<_}
+use mathlib.Core.Bool.{false}
 use mathlib.Core.List.{List}
 use mathlib.Core.Path.{_≡_, ap, _∙_}
 use native.Mathlib.Omega.{arith}
@@ -7,33 +8,33 @@ use lib.ListN.{getD, length}
 use lib.Seq.{getD-take}
 use Rattle.number.specs.{W, S, cost, Nearest}
 use Rattle.refusal.specs.{done}
-use Rattle.table_test.specs.{Record}
-use Rattle.method.specs.{Colours, coloursOf, frontOf}
+use Rattle.table_test.specs.{Record, badTable}
+use Rattle.method.specs.{Rule, Colours, State, coloursOf, frontOf}
 use Rattle.method.proofs.Fronts.{front-length, front-fit}
-use Rattle.lloyd.specs.{Ran, AcceptedRun, left}
-use Rattle.lloyd.proofs.Accepted.{tests}
-use Rattle.lloyd.proofs.Calls.{left-fit, left-joined}
+use Rattle.lloyd.specs.{Ran, left}
+use Rattle.lloyd.proofs.Made.{Making, left-fit, member-below}
 use Rattle.palette.specs.{levelOf}
 use Rattle.palette_groups.specs.{channelGroup}
 use Rattle.palette_groups.proofs.Promises.{groups-accepted, byte-is-nearest, byte-is-best, byte-of-none}
 use Rattle.palette_runs.specs.Palettes.{runPalette}
 
-module _ {rec : Record} {ks ws : List ℕ} {k limit : ℕ} {ms ts : List ℕ} {r : Ran} {members totals : List ℕ}
-    (h : AcceptedRun rec ks ws k limit ms ts r members totals) where
+module _ (rec : Record) (ks ws : List ℕ) {rule : Rule} {k limit : ℕ} {a : State} {ts : List ℕ} {r : Ran}
+    {members totals : List ℕ} (table : badTable rec ks ws ≡ false)
+    (m : Making rule (coloursOf (rec .used) ks ws) k limit a ts r members totals) where
   -- the table's colours
   abbrev C : Colours
   C = coloursOf (rec .used) ks ws
 
   -- three coordinates for each shade are lent
   three-each : length (frontOf k (left r members) .coordinates) ≡ 3 * k
-  three-each = front-length C k (left r members) (left-fit h)
+  three-each = front-length C k (left r members) (left-fit m)
 
   module _ (d : List ℕ) (room : 3 * k ≤ length d) where
     -- it is accepted
     pub run-accepted : runPalette rec ks ws k r members d .answer ≡ done
     run-accepted =
-        groups-accepted rec ks ws (frontOf k (left r members)) d k (tests h .table)
-        (front-fit C k (left r members) (left-fit h)) three-each (left-joined h) room
+        groups-accepted rec ks ws (frontOf k (left r members)) d k table
+        (front-fit C k (left r members) (left-fit m)) three-each (member-below m) room
 
     module _ (q e : ℕ) (few : q < k) (channel : e < 3) where
       -- so many shades there are

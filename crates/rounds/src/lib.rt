@@ -2,7 +2,7 @@
 // shade or to a limit, and the final total.
 //
 // Calls; none refuses, and what one requires stands above it
-//   make_run     a run from the table's mean   run.rt
+//   make_run     a run by either rule from the table's mean   run.rt
 // A run from any given shades stands in run.rt too, the members against the shades in total.rt.
 //
 // Read next: specs/Lib.antt (what the words mean), proofs/Lib.antt (what is shown).

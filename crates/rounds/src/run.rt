@@ -7,7 +7,7 @@ ghost use Rattle.shades.specs.{mostCoordinates, OnGrid};
 ghost use Rattle.method.specs.{
   stateOf,
   coloursOf,
-  toMean,
+  kindOf,
   listed,
   beginFrom,
   begin,
@@ -21,9 +21,9 @@ use colour::Point;
 use rounds_many::Series;
 use table_test::Record;
 
-// Makes a run from the given shades in `base` and coordinates that are required to be 192 zeros.
-// Requires a table with a colour, a given shade, all of them on the grid, 1 to 64 shades, a limit
-// of 1 to 200, and room for members and totals.
+// Makes a run, by Jancey's rule where the shades leap, from the given shades in `base` and
+// coordinates that are required to be 192 zeros. Requires a table with a colour, a given shade, all
+// of them on the grid, 1 to 64 shades, a limit of 1 to 200, and room for members and totals.
 pub fn run_from(
     keys: &[u32],
     weights: &[u32],
@@ -31,6 +31,7 @@ pub fn run_from(
     base: &[u32],
     shades: &mut [u32],
     count: usize,
+    leaps: bool,
     limit: usize,
     members: &mut [u32],
     totals: &mut [u64],
@@ -38,7 +39,7 @@ pub fn run_from(
     requires { ⌜ Runnable used (now keys) (now weights) count limit (now members) (now totals)
         × OnGrid (now base) × (3 ≤ length (now base))
         × (now shades ≡ replicate mostCoordinates 0) ⌝ }
-    ensures series { λ r. ⌜ SeriesMeets toMean
+    ensures series { λ r. ⌜ SeriesMeets (kindOf leaps)
         (coloursOf used (now (keys .entry)) (now (weights .entry))) count limit
         (beginFrom (listed (now (base .entry)))
         (coloursOf used (now (keys .entry)) (now (weights .entry))) count (now (members .entry)))
@@ -49,7 +50,17 @@ pub fn run_from(
         (stateOf (now (shades .exit)) (now (members .exit))) ⌝ }
 {
     starts::fill_starts(keys, used, base, shades, count, members);
-    let a = rounds_many::make_rounds(keys, weights, used, shades, count, limit, members, totals);
+    let a = rounds_many::make_rounds(
+        keys,
+        weights,
+        used,
+        shades,
+        count,
+        leaps,
+        limit,
+        members,
+        totals,
+    );
     let total = final_total(keys, weights, used, shades, count, members);
     Whole {
         rounds: a.rounds,
@@ -67,6 +78,7 @@ pub fn make_run(
     weights: &[u32],
     shades: &mut [u32],
     count: usize,
+    leaps: bool,
     limit: usize,
     members: &mut [u32],
     totals: &mut [u64],
@@ -74,7 +86,7 @@ pub fn make_run(
     requires { ⌜ Runnable (rec .used) (now keys) (now weights) count limit (now members)
         (now totals) × GoodTable rec (now keys) (now weights)
         × (now shades ≡ replicate mostCoordinates 0) ⌝ }
-    ensures series { λ r. ⌜ SeriesMeets toMean
+    ensures series { λ r. ⌜ SeriesMeets (kindOf leaps)
         (coloursOf (rec .used) (now (keys .entry)) (now (weights .entry))) count limit
         (begin (coloursOf (rec .used) (now (keys .entry)) (now (weights .entry))) count
         (now (members .entry)))
@@ -93,6 +105,7 @@ pub fn make_run(
         &base,
         shades,
         count,
+        leaps,
         limit,
         members,
         totals,

@@ -1,6 +1,6 @@
 -- One round: the grouping and the move together are a step of the method.
 use Prim.Native.Nat.{ℕ, _*_, _≤_}
-use mathlib.Core.Bool.{not}
+use mathlib.Core.Bool.{Bool, not}
 use mathlib.Core.List.{List}
 use mathlib.Core.Path.{_≡_, sym, ap₂, _∙_}
 use native.Mathlib.Omega.{arith}
@@ -8,7 +8,8 @@ use lib.ListN.{length}
 use Rattle.number.specs.{fill, howMany}
 use Rattle.number.proofs.Fills.{fill-at}
 use Rattle.shades.specs.{mostShades}
-use Rattle.method.specs.{State, stateOf, coloursOf, toMean, joins}
+use Rattle.method.specs.{State, stateOf, coloursOf, kindOf, moveOf, joins}
+use Rattle.method.proofs.Rules.{kind-goes}
 use Rattle.group_sums.specs.{Summed, Measured, memberAt}
 use Rattle.group_sums.proofs.Moving.{summed-same}
 use Rattle.group_sums.proofs.Parts.{measured}
@@ -27,18 +28,20 @@ module _ {used : ℕ} {ks ws s : List ℕ} {k : ℕ} {before after t : List ℕ}
     p .fit .shades .room,
   )
 
-  -- what the round leaves and answers
-  pub step-meets : (s′ : List ℕ) (moved counted : ℕ) (distances : State → ℕ) → s′ ≡ fill (3 * k) (goes t s) s
-      → moved ≡ howMany k (λ q. not (stays t s q)) → counted ≡ distances (stateOf s before)
-      → StepMeets toMean (coloursOf used ks ws) k distances (stateOf s before) (stateOf s′ after) total moved counted
-  step-meets s′ moved counted distances es em ec =
+  -- what the round leaves and answers, by one rule or the other
+  pub step-meets : (leaps : Bool) (s′ : List ℕ) (moved counted : ℕ) (distances : State → ℕ)
+      → s′ ≡ fill (3 * k) (goes (moveOf leaps) t s) s
+      → moved ≡ howMany k (λ q. not (stays (moveOf leaps) t s q)) → counted ≡ distances (stateOf s before)
+      → StepMeets (kindOf leaps) (coloursOf used ks ws) k distances (stateOf s before) (stateOf s′ after) total moved
+      counted
+  step-meets leaps s′ moved counted distances es em ec =
       let m = joins (coloursOf used ks ws) k s in
       record {
         state = ap₂ stateOf
-            (es ∙ moves-laid used ks ws (p .table) m t (g .sums) s k (p .fit .shades .few))
+            (es ∙ moves-laid used ks ws (p .table) m t (g .sums) (kind-goes leaps) s k (p .fit .shades .few))
             (g .members);
         total-is = g .total-is;
-        moved-is = em ∙ movers-are used ks ws (p .table) m t (g .sums) s k (p .fit .shades .few);
+        moved-is = em ∙ movers-are used ks ws (p .table) m t (g .sums) (kind-goes leaps) s k (p .fit .shades .few);
         distances-is = ec;
       }
 

@@ -1,5 +1,12 @@
 // One round: the grouping, by either search, and then the move.
-ghost use Rattle.method.specs.{stateOf, coloursOf, toMean, plainDistances, shortDistances};
+ghost use Rattle.method.specs.{
+  stateOf,
+  coloursOf,
+  toMean,
+  kindOf,
+  plainDistances,
+  shortDistances,
+};
 ghost use Rattle.group_sums.specs.{Summed, memberAt};
 ghost use Rattle.group_join.specs.{covered};
 ghost use Rattle.rounds_step.specs.Meeting.{Steppable, Walkable, StepMeets};
@@ -26,8 +33,8 @@ pub fn plain_step(
 {
     let mut sums = [0u64; 128];
     let a = group_all::group_plain(keys, weights, used, shades, count, members, &mut sums);
-    let moved = moves::count_movers(&sums, shades, count);
-    moves::move_shades(&sums, shades, count);
+    let moved = moves::count_movers(&sums, shades, count, false);
+    moves::move_shades(&sums, shades, count, false);
     Stepped {
         total: a.total,
         moved,
@@ -35,15 +42,16 @@ pub fn plain_step(
     }
 }
 
-// One round by the shortened search, which leaves the sums of its groups in `sums`. Requires the
-// same, that each member is a shade's number, and in `sums` those of the former groups, or zeros
-// where they are taken anew.
+// One round by the shortened search, by Jancey's rule where the shades leap, which leaves the sums
+// of its groups in `sums`. Requires the same, that each member is a shade's number, and in `sums`
+// those of the former groups, or zeros where they are taken anew.
 pub fn next_step(
     keys: &[u32],
     weights: &[u32],
     used: usize,
     shades: &mut [u32],
     count: usize,
+    leaps: bool,
     members: &mut [u32],
     anew: bool,
     sums: &mut [u64; 128],
@@ -51,7 +59,7 @@ pub fn next_step(
     requires { ⌜ Walkable used (now keys) (now weights) count (stateOf (now shades) (now members))
         × Summed (memberAt (now members)) (now keys) (now weights) (covered anew used 0)
         (now sums) ⌝ }
-    ensures step { λ r. ⌜ StepMeets toMean
+    ensures step { λ r. ⌜ StepMeets (kindOf leaps)
         (coloursOf used (now (keys .entry)) (now (weights .entry))) count
         (shortDistances (coloursOf used (now (keys .entry)) (now (weights .entry))) count)
         (stateOf (now (shades .entry)) (now (members .entry)))
@@ -72,8 +80,8 @@ pub fn next_step(
         anew,
         sums,
     );
-    let moved = moves::count_movers(sums, shades, count);
-    moves::move_shades(sums, shades, count);
+    let moved = moves::count_movers(sums, shades, count, leaps);
+    moves::move_shades(sums, shades, count, leaps);
     Stepped {
         total: a.total,
         moved,
@@ -100,5 +108,15 @@ pub fn short_step(
         (r .total) (r .moved) (r .distances) ⌝ }
 {
     let mut sums = [0u64; 128];
-    next_step(keys, weights, used, shades, count, members, true, &mut sums)
+    next_step(
+        keys,
+        weights,
+        used,
+        shades,
+        count,
+        false,
+        members,
+        true,
+        &mut sums,
+    )
 }

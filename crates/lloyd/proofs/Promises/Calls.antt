@@ -1,7 +1,7 @@
 -- What is shown of the calls beside one another: each theorem in full, under a sentence that says it. `frontOf k` of a
 -- state has its first k shades, three coordinates each, and its members: what a caller lends to a single round.
 use Prim.Native.Nat.{ℕ, _≤_, _<_}
-use mathlib.Core.Bool.{true}
+use mathlib.Core.Bool.{true, false}
 use mathlib.Core.List.{List}
 use mathlib.Core.Path.{_≡_, refl, sym, _∙_}
 use lib.ListN.{getD, length}
@@ -9,11 +9,14 @@ use Rattle.number.specs.{sum}
 use Rattle.refusal.specs.{done}
 use Rattle.table_test.specs.{Record, roomOf, badTable}
 use Rattle.method.specs.{mostRounds, coloursOf, frontOf, toMean, after, movedOf, begin}
+use Rattle.method.proofs.Costs.{to-mean-good}
+use Rattle.method.proofs.Rules.{kind-goes}
 use Rattle.lloyd_tests.specs.{usualLimit, limitOf}
 use Rattle.lloyd_rounds.specs.{plainRound, shortRound}
 use Rattle.lloyd.specs.Calling.{shortCalls, lentStart, Stays}
 use Rattle.lloyd.specs.Outcomes.{RunMeets, AcceptedRun, runOf, left}
 use Rattle.lloyd.specs.declared.Ran.{Ran}
+use Rattle.lloyd.proofs.Accepted.{by-mean}
 use Rattle.lloyd.proofs.Calls as calls
 use Rattle.lloyd.proofs.Limits as limits
 use Rattle.lloyd.proofs.Used as used
@@ -42,7 +45,9 @@ pub settled-at-any-limit : {rec : Record} {ks ws : List ℕ} {k limit : ℕ} {ms
     {members totals : List ℕ} → AcceptedRun rec ks ws k limit ms ts r members totals → r .settled ≡ true
     → (other : ℕ) → r .rounds ≤ limitOf other → other ≤ mostRounds → limitOf other ≤ length ts
     → runOf rec ks ws k other ms ts ≡ runOf rec ks ws k limit ms ts
-settled-at-any-limit = limits.settled-at-any-limit
+unfolding runOf
+settled-at-any-limit {rec} {ks} {ws} {k} {limit} {ms} {ts} h =
+    limits.settled-at-any-limit toMean to-mean-good rec ks ws k limit ms ts (by-mean h)
 
 -- ---- the used entries
 
@@ -52,13 +57,15 @@ pub run-of-used : (rec : Record) (ks ws ks′ ws′ : List ℕ) (k limit : ℕ) 
     → rec .used ≤ roomOf ks ws → rec .used ≤ roomOf ks′ ws′
     → ((i : ℕ) → i < rec .used → getD ks i 0 ≡ getD ks′ i 0) → ((i : ℕ) → i < rec .used → getD ws i 0 ≡ getD ws′ i 0)
     → runOf rec ks ws k limit ms ts ≡ runOf rec ks′ ws′ k limit ms ts
-run-of-used = used.run-of-used
+unfolding runOf
+run-of-used = used.run-of-used toMean (kind-goes false)
 
 -- Of the record it depends on how many entries are used, and on whether the record is true: by two records that use as
 -- many and are both BAD TABLE or both not, a run is refused by the same number, or answers and leaves the same.
 pub run-by-truth : (rec rec′ : Record) (ks ws : List ℕ) (k limit : ℕ) (ms ts : List ℕ) → rec .used ≡ rec′ .used
     → badTable rec ks ws ≡ badTable rec′ ks ws → runOf rec ks ws k limit ms ts ≡ runOf rec′ ks ws k limit ms ts
-run-by-truth = used.run-by-truth
+unfolding runOf
+run-by-truth = used.run-by-truth toMean
 
 module _ {rec : Record} {ks ws : List ℕ} {k limit : ℕ} {ms ts : List ℕ} {r : Ran} {members totals : List ℕ}
     (h : AcceptedRun rec ks ws k limit ms ts r members totals) where

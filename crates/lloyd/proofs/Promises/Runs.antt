@@ -4,7 +4,7 @@
 use Prim.Native.Nat.{ℕ, _+_, _-_, _*_, _≤_, _<_}
 use mathlib.Core.Bool.{true, false}
 use mathlib.Core.List.{List}
-use mathlib.Core.Path.{_≡_, sym, _∙_}
+use mathlib.Core.Path.{_≡_, _∙_}
 use native.Mathlib.Omega.{arith}
 use lib.ListN.{getD, length}
 use lib.Dec.{eqb}
@@ -48,7 +48,7 @@ use Rattle.lloyd.specs.Beginning.{FarthestColour}
 use Rattle.lloyd.specs.Outcomes.{AcceptedRun, runOf, madeRun, left}
 use Rattle.lloyd.specs.declared.Ran.{Ran}
 use Rattle.lloyd.proofs.Accepted as accepted
-use Rattle.lloyd.proofs.Accepted.{making}
+use Rattle.lloyd.proofs.Accepted.{tests, making}
 use Rattle.lloyd.proofs.Made as made
 use Rattle.lloyd.proofs.Wholes as wholes
 
@@ -68,25 +68,25 @@ module _ {rec : Record} {ks ws : List ℕ} {k limit : ℕ} {ms ts : List ℕ} {r
   -- The run begins with shade 0 on the rounded mean of the whole table, weights counted.
   pub first-is-mean : shadeAt (begin (coloursOf (rec .used) ks ws) k ms .coordinates) 0
       ≡ meanOf (coloursOf (rec .used) ks ws)
-  first-is-mean = accepted.first-is-mean h
+  first-is-mean = accepted.first-is-mean (tests h)
 
   -- And that is read from the record: 16 times each channel's sum over the pixels, rounded.
   pub first-by-sums : shadeAt (begin (coloursOf (rec .used) ks ws) k ms .coordinates) 0
       ≡ meanBySums (rec .pixels) (rec .red) (rec .green) (rec .blue)
-  first-by-sums = accepted.first-by-sums h
+  first-by-sums = accepted.first-by-sums (tests h)
 
   -- Each next shade begins on the table colour whose distance to its nearest shade before it, of those that the run
   -- begins with, is greatest; every colour with a lower key is strictly nearer.
   pub start-is-farthest : (q : ℕ) → q + 1 < k
       → FarthestColour (rec .used) ks (begin (coloursOf (rec .used) ks ws) k ms .coordinates) (q + 1)
       (shadeAt (begin (coloursOf (rec .used) ks ws) k ms .coordinates) (q + 1))
-  start-is-farthest = accepted.start-is-farthest h
+  start-is-farthest = accepted.start-is-farthest (tests h)
 
   -- No starting shade is chosen twice: the run begins with k shades in k different places.
   pub starts-differ : (p q : ℕ) → p < q → q < k
       → ¬ (shadeAt (begin (coloursOf (rec .used) ks ws) k ms .coordinates) p
       ≡ shadeAt (begin (coloursOf (rec .used) ks ws) k ms .coordinates) q)
-  starts-differ = accepted.starts-differ h
+  starts-differ = accepted.starts-differ (tests h)
 
   -- ---- its rounds and their totals
 
@@ -120,7 +120,7 @@ module _ {rec : Record} {ks ws : List ℕ} {k limit : ℕ} {ms ts : List ℕ} {r
 
   -- The summed distances are at most one for each shade, used entry and round.
   pub distances-at-most : r .distances ≤ r .rounds * (rec .used * k)
-  distances-at-most = made.distances-at-most (making h) (accepted.joined h)
+  distances-at-most = made.distances-at-most (making h) (accepted.joined (tests h))
 
   -- ---- its final total
 
@@ -155,12 +155,12 @@ module _ {rec : Record} {ks ws : List ℕ} {k limit : ℕ} {ms ts : List ℕ} {r
   -- above it by at most three quarters of a squared sixteenth for each of the record's pixels.
   pub total-bounded : SumBounded
       (leastSum (groupAt (coloursOf (rec .used) ks ws) (left r members)) (numbersBelow k)) (rec .pixels) (r .total)
-  total-bounded = rw (accepted.pixels-are h) (made.total-bounded (making h) to-mean-means)
+  total-bounded = rw (accepted.pixels-are (tests h)) (made.total-bounded (making h) to-mean-means)
 
   -- The groups' pixels add up to the record's.
   pub groups-have-all : rec .pixels
       ≡ sum k (λ q. pixelsIn (groupAt (coloursOf (rec .used) ks ws) (left r members) q))
-  groups-have-all = accepted.pixels-are h ∙ made.groups-have-all (making h)
+  groups-have-all = accepted.pixels-are (tests h) ∙ made.groups-have-all (making h)
 
   -- That this is the least: a shade at a / n costs the group no less; both sides stand here times W and n².
   pub group-fraction-at-least : (q n : ℕ) (a : Point)
@@ -232,7 +232,7 @@ module _ {rec : Record} {ks ws : List ℕ} {k limit : ℕ} {ms ts : List ℕ} {r
 
   -- Each round works out at most 65 distances for each entry of a full table.
   pub distances-most : r .distances ≤ r .rounds * (mostEntries * mostShades)
-  distances-most = made.distances-most (making h) (accepted.joined h)
+  distances-most = made.distances-most (making h) (accepted.joined (tests h))
 
   -- ---- where it is settled
 

@@ -3,15 +3,17 @@ use Prim.Native.Nat.{_-_}
 use mathlib.Core.Bool.{not}
 use native.Mathlib.Omega.{arith}
 use Rattle.number.proofs.Tallies.{Counting, counting-start, counting-done, counting-next}
+use Rattle.method.specs.{moveOf}
 use Rattle.moves.specs.Reading.{stays}
 use Rattle.moves.proofs.step.count_movers.Statement.{statement}
 use Rattle.moves.proofs.step.count_movers.Tie as tie
 
 abbrev Inv-loop : tie.InvT-loop
-Inv-loop sums shades count moved₀ q₀ moved q = Counting count (λ j. not (stays sums shades j)) moved q
+Inv-loop sums shades count leaps moved₀ q₀ moved q =
+    Counting count (λ j. not (stays (moveOf leaps) sums shades j)) moved q
 
 abbrev μ-loop : tie.MeasureT-loop
-μ-loop sums shades count moved₀ q₀ moved q = count - q
+μ-loop sums shades count leaps moved₀ q₀ moved q = count - q
 
 loop-holds : tie.Need-loop-holds Inv-loop μ-loop
 loop-holds c = counting-start _ _

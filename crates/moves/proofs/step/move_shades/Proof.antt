@@ -6,15 +6,17 @@ use native.Mathlib.Omega.{arith}
 use lib.ListN.{length}
 use Rattle.number.specs.{fill}
 use Rattle.number.proofs.Fills.{fill-more, fill-length, fill-kept}
+use Rattle.method.specs.{moveOf}
 use Rattle.moves.specs.Reading.{goes}
 use Rattle.moves.proofs.step.move_shades.Statement.{statement}
 use Rattle.moves.proofs.step.move_shades.Tie as tie
 
 abbrev Inv-loop : tie.InvT-loop
-Inv-loop sums shades₀ count end i₀ shades i = (i ≤ end) × (shades ≡ fill i (goes sums shades₀) shades₀)
+Inv-loop sums shades₀ count leaps end i₀ shades i =
+    (i ≤ end) × (shades ≡ fill i (goes (moveOf leaps) sums shades₀) shades₀)
 
 abbrev μ-loop : tie.MeasureT-loop
-μ-loop sums shades₀ count end i₀ shades i = end - i
+μ-loop sums shades₀ count leaps end i₀ shades i = end - i
 
 mul-end : tie.Need-mul-end Inv-loop μ-loop
 mul-end c = omega arith

@@ -1,4 +1,5 @@
--- `new_coordinate` answers where the coordinate goes: it stays where the group is empty.
+-- `new_coordinate` answers where the coordinate goes: it stays where the group is empty, and else leaps or goes to the
+-- mean.
 use Prim.Native.Nat.{_*_, _/_, _%_, _≤_, _<_}
 use mathlib.Core.Path.{sym, _∙_}
 use native.Mathlib.Omega.{arith}
@@ -36,17 +37,45 @@ returns c =
 level-sum-requires : tie.Need-level-sum-requires
 level-sum-requires c κs = search needs
 
-mul-rounded-mean : tie.Need-mul-rounded-mean
-mul-rounded-mean c = let m = asked c in omega (arith, m .1, m .2)
+mul-coords : tie.Need-mul-coords
+mul-coords c = let m = asked c in omega (arith, m .1, m .2)
 
-rounded-mean-requires : tie.Need-rounded-mean-requires
-rounded-mean-requires c κs = let m = asked c in (m .0, m .1, omega (arith, m .2))
+mul-leap : tie.Need-mul-leap
+mul-leap c = search needs
+
+shared-slice-read-leap : tie.Need-shared-slice-read-leap
+shared-slice-read-leap c = search needs
+
+leap-requires : tie.Need-leap-requires
+leap-requires c κs = let m = asked (c .before .before) in (m .0, m .1, omega (arith, m .2))
 
 returns-2 : tie.Need-returns-2
 returns-2 c =
-    let e = c .before .before in
-    let p = e .before .pixels-of in
-    rw (ne-eqb _ 0 (λ z. e .if1 .left (p .ensures ∙ z)), ← c .before .level-sum .ensures, ← p .ensures)
+    let t = c .before .before in
+    let l = t .before in
+    let p = l .before .before .pixels-of in
+    rw (
+      ne-eqb _ 0 (λ z. l .before .if1 .left (p .ensures ∙ z)),
+      t .if2 .taken,
+      ← l .level-sum .ensures,
+      ← p .ensures,
+    )
+    (c .leap .ensures)
+
+rounded-mean-requires : tie.Need-rounded-mean-requires
+rounded-mean-requires c κs = let m = asked (c .before) in (m .0, m .1, omega (arith, m .2))
+
+returns-3 : tie.Need-returns-3
+returns-3 c =
+    let t = c .before in
+    let l = t .before in
+    let p = l .before .before .pixels-of in
+    rw (
+      ne-eqb _ 0 (λ z. l .before .if1 .left (p .ensures ∙ z)),
+      t .if2 .left,
+      ← l .level-sum .ensures,
+      ← p .ensures,
+    )
     (c .rounded-mean .ensures .0)
 
 pub new-coordinate-spec : {M : Type 1} → statement M
@@ -58,6 +87,10 @@ new-coordinate-spec =
     shared-slice-read-result
     returns
     level-sum-requires
-    mul-rounded-mean
+    mul-coords
+    mul-leap
+    shared-slice-read-leap
+    leap-requires
+    returns-2
     rounded-mean-requires
-    returns-2)
+    returns-3)

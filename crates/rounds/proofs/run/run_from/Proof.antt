@@ -6,8 +6,8 @@ use lib.ListN.{length-replicate}
 use denote.Ref.{now}
 use borrow.Author.Needs.{needs}
 use Rattle.colour.specs.{Within, mostCoordinate}
-use Rattle.method.specs.{stateOf, coloursOf, toMean, listed, beginFrom}
-use Rattle.method.proofs.Costs.{to-mean-good}
+use Rattle.method.specs.{stateOf, coloursOf, kindOf, listed, beginFrom}
+use Rattle.method.proofs.Rules.{kind-good}
 use Rattle.method.proofs.Startings.{listed-within}
 use Rattle.rounds_many.specs.{SeriesMeets}
 use Rattle.rounds.proofs.Beginnings.{begin-walkable, begun, series-walkable}
@@ -40,11 +40,11 @@ starting c = c .before .before .before .before .before .before .before .before
 -- and are those of a run that begins there
 series : (c : tie.After-make-rounds)
     → (let a = st (starting c) .args in
-    SeriesMeets toMean (coloursOf (a .used) (now (a .keys)) (now (a .weights))) (a .count) (a .limit)
+    SeriesMeets (kindOf (a .leaps)) (coloursOf (a .used) (now (a .keys)) (now (a .weights))) (a .count) (a .limit)
     (beginFrom (listed (now (a .base))) (coloursOf (a .used) (now (a .keys)) (now (a .weights))) (a .count)
     (now (a .members)))
-    (stateOf (c .make-rounds .last .1 .1 .1 .0) (c .make-rounds .last .1 .1 .1 .1 .1 .1 .0))
-    (now (a .totals)) (c .make-rounds .last .1 .1 .1 .1 .1 .1 .1 .0)
+    (stateOf (c .make-rounds .last .1 .1 .1 .0) (c .make-rounds .last .1 .1 .1 .1 .1 .1 .1 .0))
+    (now (a .totals)) (c .make-rounds .last .1 .1 .1 .1 .1 .1 .1 .1 .0)
     (c .make-rounds .result .rounds) (c .make-rounds .result .settled) (c .make-rounds .result .distances))
 series c = rw (has-begun (starting c)) at (c .make-rounds .ensures)
 
@@ -69,7 +69,8 @@ final-total-requires : tie.Need-final-total-requires
 final-total-requires c κs =
     let r = c .before .before .before .before .before .before .before .before in
     let s = st (starting r) in
-    series-walkable (s .pre .0) _ (given-low s) toMean to-mean-good (series r)
+    series-walkable (s .pre .0) _ (given-low s) (kindOf (s .args .leaps))
+    (kind-good (s .args .leaps)) (series r)
 
 same-length : tie.Need-same-length
 same-length c = search needs

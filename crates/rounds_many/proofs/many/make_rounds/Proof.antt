@@ -5,8 +5,8 @@ use mathlib.Core.Path.{_≡_, refl}
 use native.Mathlib.Omega.{arith}
 use lib.ListN.{length}
 use borrow.Author.Needs.{needs}
-use Rattle.method.specs.{stateOf, coloursOf, toMean}
-use Rattle.method.proofs.Costs.{to-mean-good}
+use Rattle.method.specs.{stateOf, coloursOf, kindOf}
+use Rattle.method.proofs.Rules.{kind-good}
 use Rattle.method.proofs.Sizes.{fair-of-table}
 use Rattle.group_sums.specs.{Summed, memberAt}
 use Rattle.group_sums.proofs.Summing.{summed-none}
@@ -25,15 +25,15 @@ use Rattle.rounds_many.proofs.many.make_rounds.Statement.{statement}
 use Rattle.rounds_many.proofs.many.make_rounds.Tie as tie
 
 abbrev Inv-loop : tie.InvT-loop
-Inv-loop keys weights used shades₀ count limit members₀ totals₀ sums₀ anew₀ r₀ go₀ moved₀ distances₀ shades members
-    totals sums anew r go moved distances =
-    Going toMean (coloursOf used keys weights) count limit (stateOf shades₀ members₀) totals₀ (stateOf shades members)
-    totals r go moved distances
+Inv-loop keys weights used shades₀ count leaps limit members₀ totals₀ sums₀ anew₀ r₀ go₀ moved₀ distances₀ shades
+    members totals sums anew r go moved distances =
+    Going (kindOf leaps) (coloursOf used keys weights) count limit (stateOf shades₀ members₀) totals₀
+    (stateOf shades members) totals r go moved distances
     × (length shades ≡ length shades₀) × (length members ≡ length members₀)
     × Summed (memberAt members) keys weights (covered anew used 0) sums
 
 abbrev μ-loop : tie.MeasureT-loop
-μ-loop keys weights used shades₀ count limit members₀ totals₀ sums₀ anew₀ r₀ go₀ moved₀ distances₀ shades members
+μ-loop keys weights used shades₀ count leaps limit members₀ totals₀ sums₀ anew₀ r₀ go₀ moved₀ distances₀ shades members
     totals sums anew r go moved distances =
     limit - r
 
@@ -63,7 +63,10 @@ loop-holds c = (
 next-step-requires : tie.Need-next-step-requires Inv-loop μ-loop
 next-step-requires c κs =
     let l = c .before .before .before .before in
-    (rw (l .loop .inv .0 .state) (after-walkable toMean to-mean-good (st l .pre .0) _), l .loop .inv .3)
+    let leaps = st l .args .leaps in (
+      rw (l .loop .inv .0 .state) (after-walkable (kindOf leaps) (kind-good leaps) (st l .pre .0) _),
+      l .loop .inv .3,
+    )
 
 mul-totals : tie.Need-mul-totals Inv-loop μ-loop
 mul-totals c =

@@ -43,7 +43,8 @@ returns c =
     let g = regrouped (counted m) in
     let p = st g .pre .0 .steppable in
     let e = g .regroup .ensures in (
-      step-meets p (e .0) _ _ _ _ (m .move-shades .ensures) (counted m .count-movers .ensures) (e .1),
+      step-meets p (e .0) (st g .args .leaps) _ _ _ _ (m .move-shades .ensures) (counted m .count-movers .ensures)
+          (e .1),
       step-sums p (e .0),
     )
 

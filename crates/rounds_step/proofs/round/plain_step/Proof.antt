@@ -1,4 +1,5 @@
 -- `plain_step` meets its contract: a grouping by the plain search and the move are a step.
+use mathlib.Core.Bool.{false}
 use borrow.Author.Needs.{needs}
 use Rattle.rounds_step.proofs.Stepping.{move-asked, step-meets}
 use Rattle.rounds_step.proofs.round.plain_step.Statement.{statement}
@@ -39,7 +40,7 @@ returns c =
     let m = c .before .before in
     let g = grouped (counted m) in
     let e = g .group-plain .ensures in
-    step-meets (st g .pre) (e .0) _ _ _ _ (m .move-shades .ensures) (counted m .count-movers .ensures) (e .1)
+    step-meets (st g .pre) (e .0) false _ _ _ _ (m .move-shades .ensures) (counted m .count-movers .ensures) (e .1)
 
 pub plain-step-spec : {M : Type 1} → statement M
 plain-step-spec =

@@ -1,0 +1,2 @@
+-- Jancey's step as it is worked out.
+pub mod Steps
