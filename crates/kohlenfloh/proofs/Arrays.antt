@@ -67,6 +67,18 @@ run-crosses same meets laid = record {
   answer-is = laid ∙ ap runNumbers (meets .answer) ∙ ap (λ b. runNumbers (b .answer)) same;
 }
 
+-- and there is one of each, whatever the run's rule
+pub run-only : {o : RunOutcome} {r r′ : ℕ} {x x′ y y′ shades shades′ t t′ : List ℕ}
+    → RunCrosses o r x y shades t → RunCrosses o r′ x′ y′ shades′ t′
+    → (r ≡ r′) × (x ≡ x′) × (y ≡ y′) × (shades ≡ shades′) × (t ≡ t′)
+run-only a b = (
+  a .number ∙ sym (b .number),
+  a .members-are ∙ sym (b .members-are),
+  a .totals-are ∙ sym (b .totals-are),
+  a .shades-are ∙ sym (b .shades-are),
+  a .answer-is ∙ sym (b .answer-is),
+)
+
 -- a mapping
 pub map-crosses : {o : MapOutcome} {a : Mapped} {index answer : List ℕ} {means : List Float}
     → MapMeets o a index → answer ≡ mapNumbers a → means ≡ mapFigures a

@@ -11,11 +11,11 @@ use lib.ListN.{getD, length, take, replicate}
 use Rattle.number.specs.{sum, W, S, Nearest}
 use Rattle.refusal.specs.{Refusal, numberOf, done, TWIN-SHADE}
 use Rattle.colour.specs.{Point, distance}
-use Rattle.shades.specs.{mostCoordinates, colourAt}
+use Rattle.shades.specs.{mostCoordinates, shadeAt, colourAt}
 use Rattle.figures.specs.{zeroFigure}
 use Rattle.table.specs.{Record, handsBack, addStrip}
-use Rattle.method.specs.{Bounded, State, stateOf, coloursOf, groupAt, groupCost}
-use Rattle.lloyd.specs.{plainRound, shortRound, runOf}
+use Rattle.method.specs.{Bounded, State, stateOf, coloursOf, pixelsIn, meanOf, groupAt, groupCost}
+use Rattle.lloyd.specs.{plainRound, shortRound, runOf, janceyRun}
 use Rattle.palette.specs.{PaletteMeets}
 use Rattle.palette_groups.specs.{channelGroup, paletteFromGroups}
 use Rattle.palette_groups.proofs.Promises as groups
@@ -64,13 +64,15 @@ pub run-only : (s ks ws : List ℕ) (k limit : ℕ) (ms ts : List ℕ) {r r′ :
     → RunCrosses (runOf (recordIn s) ks ws k limit ms ts) r x y shades t
     → RunCrosses (runOf (recordIn s) ks ws k limit ms ts) r′ x′ y′ shades′ t′
     → (r ≡ r′) × (x ≡ x′) × (y ≡ y′) × (shades ≡ shades′) × (t ≡ t′)
-run-only s ks ws k limit ms ts a b = (
-  a .number ∙ sym (b .number),
-  a .members-are ∙ sym (b .members-are),
-  a .totals-are ∙ sym (b .totals-are),
-  a .shades-are ∙ sym (b .shades-are),
-  a .answer-is ∙ sym (b .answer-is),
-)
+run-only s ks ws k limit ms ts = arrays.run-only
+
+-- Of kf_run_jancey.
+pub jancey-only : (s ks ws : List ℕ) (k limit : ℕ) (ms ts : List ℕ)
+    {r r′ : ℕ} {x x′ y y′ shades shades′ t t′ : List ℕ}
+    → RunCrosses (janceyRun (recordIn s) ks ws k limit ms ts) r x y shades t
+    → RunCrosses (janceyRun (recordIn s) ks ws k limit ms ts) r′ x′ y′ shades′ t′
+    → (r ≡ r′) × (x ≡ x′) × (y ≡ y′) × (shades ≡ shades′) × (t ≡ t′)
+jancey-only s ks ws k limit ms ts = arrays.run-only
 
 -- Of kf_palette_from_groups. That of kf_palette_from_shades is `palette-only` of palette: its contract is the one
 -- beneath.
@@ -131,6 +133,12 @@ pub run-refused : (rec : Record) (ks ws : List ℕ) (k limit : ℕ) (ms ts : Lis
     {ms′ ts′ shades s : List ℕ} → RunCrosses (runOf rec ks ws k limit ms ts) (numberOf n) ms′ ts′ shades s
     → (ms′ ≡ ms) × (ts′ ≡ ts) × (shades ≡ replicate mostCoordinates 0) × (s ≡ 0 ∷ 0 ∷ 0 ∷ 0 ∷ [])
 run-refused = refusing.run-refused
+
+-- And so does a refused Jancey run.
+pub jancey-refused : (rec : Record) (ks ws : List ℕ) (k limit : ℕ) (ms ts : List ℕ) (n : Refusal)
+    {ms′ ts′ shades s : List ℕ} → RunCrosses (janceyRun rec ks ws k limit ms ts) (numberOf n) ms′ ts′ shades s
+    → (ms′ ≡ ms) × (ts′ ≡ ts) × (shades ≡ replicate mostCoordinates 0) × (s ≡ 0 ∷ 0 ∷ 0 ∷ 0 ∷ [])
+jancey-refused = refusing.jancey-refused
 
 -- A refused palette of groups leaves every byte as it came.
 pub groups-refused : (rec : Record) (ks ws : List ℕ) (a : State) (d : List ℕ) (n : Refusal) {x : List ℕ}
@@ -205,3 +213,27 @@ module _ (s ks ws : List ℕ) (k limit : ℕ) (ms ts : List ℕ) {members totals
         → Nearest (W (channelGroup (recordIn s) ks ws (stateOf shades members) q e))
         (S (channelGroup (recordIn s) ks ws (stateOf shades members) q e)) (getD x (3 * q + e) 0)
     palette-is-nearest = runs.palette-is-nearest s ks ws k limit ms ts h d room p
+
+-- ---- what an accepted Jancey run leaves: in the answer's array settled stands at place 1, as 1 or 0
+
+module _ (s ks ws : List ℕ) (k limit : ℕ) (ms ts : List ℕ) {members totals shades answer : List ℕ}
+    (h : RunCrosses (janceyRun (recordIn s) ks ws k limit ms ts) done members totals shades answer) where
+  -- The recorded totals never rise.
+  pub jancey-totals-never-rise : (n : ℕ) → n + 1 < getD answer 0 0 → getD totals (n + 1) 0 ≤ getD totals n 0
+  jancey-totals-never-rise = runs.jancey-totals-never-rise s ks ws k limit ms ts h
+
+  -- The final total is not above the last recorded one.
+  pub jancey-final-at-most-last : getD answer 3 0 ≤ getD totals (getD answer 0 0 - 1) 0
+  jancey-final-at-most-last = runs.jancey-final-at-most-last s ks ws k limit ms ts h
+
+  -- Where it is settled, each shade with a group stands on the rounded mean of its group.
+  pub jancey-settled-on-mean : getD answer 1 0 ≡ 1 → (q : ℕ) → q < k
+      → 0 < pixelsIn (groupAt (coloursOf (recordIn s .used) ks ws) (stateOf shades members) q)
+      → shadeAt shades q ≡ meanOf (groupAt (coloursOf (recordIn s .used) ks ws) (stateOf shades members) q)
+  jancey-settled-on-mean = runs.jancey-settled-on-mean s ks ws k limit ms ts h
+
+  -- kf_palette_from_groups on the same table, the first 3k of the coordinates and the members, with three bytes for
+  -- each shade, is never refused.
+  pub jancey-palette-accepted : (d : List ℕ) {r : ℕ} {x : List ℕ} → 3 * k ≤ length d
+      → PaletteMeets (paletteFromGroups (recordIn s) ks ws (stateOf (take (3 * k) shades) members) d) r x → r ≡ done
+  jancey-palette-accepted = runs.jancey-palette-accepted s ks ws k limit ms ts h

@@ -11,7 +11,7 @@ use Rattle.figures.specs.{zeroFigure}
 use Rattle.table.specs.{Record, handsBack, addStrip}
 use Rattle.table.proofs.Promises as table
 use Rattle.method.specs.{State}
-use Rattle.lloyd.specs.{RoundOutcome, keptRound, plainRound, shortRound, runOf}
+use Rattle.lloyd.specs.{RoundOutcome, RunOutcome, keptRound, keptRun, plainRound, shortRound, runOf, janceyRun}
 use Rattle.lloyd.proofs.Promises as lloyd
 use Rattle.palette_twins.specs.{noTwins, AreTwins, AllDiffer}
 use Rattle.mapping.specs.{MapOutcome, twinsTold, mapStrip}
@@ -73,17 +73,30 @@ pub short-refused : (rec : Record) (ks ws : List ℕ) (a : State) (n : Refusal) 
 short-refused rec ks ws a n c =
     round-refused a (numberOf n) (lloyd.short-refused rec ks ws a n (sym (c .number))) c
 
+-- a run whose outcome is that of a refusal
+run-kept : {o : RunOutcome} (ms ts : List ℕ) (n : ℕ) → o ≡ keptRun ms ts n → {r : ℕ} {ms′ ts′ shades s : List ℕ}
+    → RunCrosses o r ms′ ts′ shades s
+    → (ms′ ≡ ms) × (ts′ ≡ ts) × (shades ≡ replicate mostCoordinates 0) × (s ≡ 0 ∷ 0 ∷ 0 ∷ 0 ∷ [])
+run-kept ms ts n e c = (
+  c .members-are ∙ ap (λ (o : RunOutcome). o .members) e,
+  c .totals-are ∙ ap (λ (o : RunOutcome). o .totals) e,
+  c .shades-are ∙ ap (λ (o : RunOutcome). o .answer .shades) e,
+  c .answer-is ∙ ap (λ (o : RunOutcome). runNumbers (o .answer)) e,
+)
+
 -- a run
 pub run-refused : (rec : Record) (ks ws : List ℕ) (k limit : ℕ) (ms ts : List ℕ) (n : Refusal)
     {ms′ ts′ shades s : List ℕ} → RunCrosses (runOf rec ks ws k limit ms ts) (numberOf n) ms′ ts′ shades s
     → (ms′ ≡ ms) × (ts′ ≡ ts) × (shades ≡ replicate mostCoordinates 0) × (s ≡ 0 ∷ 0 ∷ 0 ∷ 0 ∷ [])
 run-refused rec ks ws k limit ms ts n c =
-    let e = lloyd.run-refused rec ks ws k limit ms ts n (sym (c .number)) in (
-      c .members-are ∙ ap (λ o. o .members) e,
-      c .totals-are ∙ ap (λ o. o .totals) e,
-      c .shades-are ∙ ap (λ o. o .answer .shades) e,
-      c .answer-is ∙ ap (λ o. runNumbers (o .answer)) e,
-    )
+    run-kept ms ts (numberOf n) (lloyd.run-refused rec ks ws k limit ms ts n (sym (c .number))) c
+
+-- and Jancey's
+pub jancey-refused : (rec : Record) (ks ws : List ℕ) (k limit : ℕ) (ms ts : List ℕ) (n : Refusal)
+    {ms′ ts′ shades s : List ℕ} → RunCrosses (janceyRun rec ks ws k limit ms ts) (numberOf n) ms′ ts′ shades s
+    → (ms′ ≡ ms) × (ts′ ≡ ts) × (shades ≡ replicate mostCoordinates 0) × (s ≡ 0 ∷ 0 ∷ 0 ∷ 0 ∷ [])
+jancey-refused rec ks ws k limit ms ts n c =
+    run-kept ms ts (numberOf n) (lloyd.jancey-refused rec ks ws k limit ms ts n (sym (c .number))) c
 
 -- a mapping
 pub map-refused : (strip p d : List ℕ) (first : ℕ) (n : Refusal) {x s : List ℕ} {m : List Float}

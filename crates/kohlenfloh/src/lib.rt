@@ -5,6 +5,7 @@
 //   kf_plain_round          lloyd::plain_round                    refuses 2, 4, 8, 7     round.rt
 //   kf_short_round          lloyd::short_round                    refuses 2, 4, 8, 7, 9
 //   kf_run                  lloyd::run                            refuses 2, 4, 5, 6, 7
+//   kf_run_jancey           lloyd::run_jancey                     refuses 2, 4, 5, 6, 7
 //   kf_palette_from_shades  palette::palette_from_shades          refuses 4, 8, 7        picture.rt
 //   kf_palette_from_groups  palette_groups::palette_from_groups   refuses 2, 4, 8, 7, 9
 //   kf_map_strip            mapping::map_strip                    refuses 1, 10, 18, 11, 7
@@ -27,4 +28,5 @@ pub use picture::kf_palette_from_shades;
 pub use picture::kf_read_picture;
 pub use round::kf_plain_round;
 pub use round::kf_run;
+pub use round::kf_run_jancey;
 pub use round::kf_short_round;

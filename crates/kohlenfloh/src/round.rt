@@ -1,6 +1,6 @@
 // Rounds and runs across the boundary.
 ghost use Rattle.method.specs.{stateOf};
-ghost use Rattle.lloyd.specs.{plainRound, shortRound, runOf};
+ghost use Rattle.lloyd.specs.{plainRound, shortRound, runOf, janceyRun};
 ghost use Rattle.arrays.specs.{recordIn};
 ghost use Rattle.kohlenfloh.specs.Crossing.{RoundCrosses, RunCrosses};
 
@@ -69,6 +69,39 @@ pub extern "C" fn kf_run(
         r (now (members .exit)) (now (totals .exit)) (now (shades .exit)) (now (answer .exit)) ⌝ }
 {
     let a = lloyd::run(
+        arrays::record_in(rec),
+        keys,
+        weights,
+        count,
+        limit,
+        members,
+        totals,
+    );
+    let made = a.shades;
+    *shades = made;
+    *answer = arrays::run_numbers(a);
+    a.refusal as u32
+}
+
+// A run with shades that step past the mean: lloyd::run_jancey. Reads, writes and refuses what
+// kf_run does.
+#[no_mangle]
+pub extern "C" fn kf_run_jancey(
+    rec: &[u64; 5],
+    keys: &[u32],
+    weights: &[u32],
+    count: usize,
+    limit: usize,
+    members: &mut [u32],
+    totals: &mut [u64],
+    shades: &mut [u32; 192],
+    answer: &mut [u64; 4],
+) -> u32
+    ensures { λ r. ⌜ RunCrosses (janceyRun (recordIn (now (rec .entry))) (now (keys .entry))
+        (now (weights .entry)) count limit (now (members .entry)) (now (totals .entry)))
+        r (now (members .exit)) (now (totals .exit)) (now (shades .exit)) (now (answer .exit)) ⌝ }
+{
+    let a = lloyd::run_jancey(
         arrays::record_in(rec),
         keys,
         weights,

@@ -33,7 +33,7 @@ each-as-written = each-of-all scopeTable as-written
 pub add-order : (rec : Record) (ks ws s : List ℕ) → orderOf (addRows rec ks ws s) ≡ 1 ∷ 2 ∷ 3 ∷ []
 add-order rec ks ws s = refl
 
--- Run: 2, 4, 5, 6, 7.
+-- Run: 2, 4, 5, 6, 7; Jancey's run (document 02) goes by the same rows.
 pub run-order : (rec : Record) (ks ws : List ℕ) (k limit : ℕ) (ms ts : List ℕ)
     → orderOf (runRows rec ks ws k limit ms ts) ≡ 2 ∷ 4 ∷ 5 ∷ 6 ∷ 7 ∷ []
 run-order rec ks ws k limit ms ts = refl

@@ -1,6 +1,6 @@
 -- The numbers that the documents name: limits, the grid, the rounding of a mean and of a palette byte, and bytes.
 use mathlib.Core.List.{List, [], _∷_, map}
-use Rattle.number.specs.{roundedMean, numbersBelow}
+use Rattle.number.specs.{roundedMean, leap, numbersBelow}
 use Rattle.colour.specs.{
   mostLevel,
   mostKey,
@@ -51,6 +51,12 @@ constants =
     -- rounded mean, of 2 and of 3 pixels: halves go up
     ∷ lists (map (roundedMean 2) (0 ∷ 1 ∷ 2 ∷ 3 ∷ [])) (0 ∷ 1 ∷ 1 ∷ 2 ∷ [])
     ∷ lists (map (roundedMean 3) (0 ∷ 1 ∷ 2 ∷ 3 ∷ [])) (0 ∷ 0 ∷ 1 ∷ 1 ∷ [])
+    -- Jancey's step (document 02), of 2 pixels about a mean of 3 1/2: nine fifths of the way, halves up, held to 0;
+    -- where that is as far from the mean, the rounded mean, 4
+    ∷ lists (map (leap mostCoordinate 2 7) (0 ∷ 1 ∷ 2 ∷ 3 ∷ 4 ∷ 5 ∷ [])) (6 ∷ 4 ∷ 4 ∷ 4 ∷ 4 ∷ 4 ∷ [])
+    ∷ lists (map (leap mostCoordinate 2 7) (6 ∷ 7 ∷ 20 ∷ [])) (2 ∷ 1 ∷ 0 ∷ [])
+    -- and of 5 pixels about 4079 2/5, from 4077 on: held to 4080 before it is compared
+    ∷ lists (map (leap mostCoordinate 5 20397) (4077 ∷ 4078 ∷ 4079 ∷ 4080 ∷ [])) (4080 ∷ 4080 ∷ 4079 ∷ 4079 ∷ [])
     -- shades 1 to 64, coordinates to 192
     ∷ says mostShades 64
     ∷ says mostCoordinates 192

@@ -37,3 +37,16 @@ pub fn run(
 ) -> Ran {
     lloyd::run(rec, keys, weights, count, limit, members, totals)
 }
+
+// A Jancey run.
+pub fn run_jancey(
+    rec: Record,
+    keys: &[u32],
+    weights: &[u32],
+    count: usize,
+    limit: usize,
+    members: &mut [u32],
+    totals: &mut [u64],
+) -> Ran {
+    lloyd::run_jancey(rec, keys, weights, count, limit, members, totals)
+}
