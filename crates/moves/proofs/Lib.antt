@@ -1,2 +1,4 @@
 -- The sums of a grouping say where the shades move.
 pub mod Moving
+-- Shade after shade is moved.
+pub mod Turns

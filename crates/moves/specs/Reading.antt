@@ -3,7 +3,7 @@ use Prim.Native.Nat.{ℕ, _+_, _*_, _/_, _%_}
 use mathlib.Core.Bool.{Bool, _&&_}
 use mathlib.Core.List.{List}
 use lib.Dec.{eqb}
-use lib.ListN.{getD}
+use lib.ListN.{getD, set}
 use Rattle.colour.specs.{sixteenth}
 use Rattle.method.specs.{Move}
 use Rattle.group_sums.specs.{groupPixels, levelSum}
@@ -19,3 +19,9 @@ stays move t s q =
     eqb (goes move t s (3 * q)) (getD s (3 * q) 0)
     && (eqb (goes move t s (3 * q + 1)) (getD s (3 * q + 1) 0)
     && eqb (goes move t s (3 * q + 2)) (getD s (3 * q + 2) 0))
+
+-- the shades s with shade q moved: its three coordinates where they go
+abbrev pub withMoved : Move → List ℕ → List ℕ → ℕ → List ℕ
+withMoved move t s q =
+    set (set (set s (3 * q) (goes move t s (3 * q))) (3 * q + 1) (goes move t s (3 * q + 1))) (3 * q + 2)
+    (goes move t s (3 * q + 2))

@@ -2,12 +2,10 @@
 // past it.
 //
 // Calls; none refuses, and what one requires stands above it
-//   move_shades    moves each shade                     step.rt
-//   count_movers   how many of them that moves
+//   move_shades    moves each shade, and answers how many that took elsewhere   step.rt
 //
 // Read next: specs/Lib.antt (what the words mean), proofs/Lib.antt (what is shown).
 
 mod step;
 
-pub use step::count_movers;
 pub use step::move_shades;

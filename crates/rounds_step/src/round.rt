@@ -33,8 +33,7 @@ pub fn plain_step(
 {
     let mut sums = [0u64; 128];
     let a = group_all::group_plain(keys, weights, used, shades, count, members, &mut sums);
-    let moved = moves::count_movers(&sums, shades, count, false);
-    moves::move_shades(&sums, shades, count, false);
+    let moved = moves::move_shades(&sums, shades, count, false);
     Stepped {
         total: a.total,
         moved,
@@ -80,8 +79,7 @@ pub fn next_step(
         anew,
         sums,
     );
-    let moved = moves::count_movers(sums, shades, count, leaps);
-    moves::move_shades(sums, shades, count, leaps);
+    let moved = moves::move_shades(sums, shades, count, leaps);
     Stepped {
         total: a.total,
         moved,

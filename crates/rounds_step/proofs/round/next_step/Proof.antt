@@ -8,12 +8,9 @@ use Rattle.rounds_step.proofs.round.next_step.Tie as tie
 abbrev st : tie.After-regroup → tie.Start
 st c = c .before .before .before .before .before .before .before .before .before
 
--- the grouping, from the count of movers and from the move
-abbrev regrouped : tie.After-count-movers → tie.After-regroup
+-- the grouping, from the move
+abbrev regrouped : tie.After-move-shades → tie.After-regroup
 regrouped c = c .before .before .before .before .before .before
-
-abbrev counted : tie.After-move-shades → tie.After-count-movers
-counted c = c .before .before .before
 
 slice-aggregate-regroup : tie.Need-slice-aggregate-regroup
 slice-aggregate-regroup c = search needs
@@ -21,14 +18,9 @@ slice-aggregate-regroup c = search needs
 regroup-requires : tie.Need-regroup-requires
 regroup-requires c κs = search needs
 
-count-movers-requires : tie.Need-count-movers-requires
-count-movers-requires c κs =
-    let g = c .before .before .before .before .before in
-    move-asked (st g .pre .0 .steppable) (g .regroup .ensures .0)
-
 move-shades-requires : tie.Need-move-shades-requires
 move-shades-requires c κs =
-    let g = regrouped (c .before .before) in
+    let g = c .before .before .before .before .before in
     move-asked (st g .pre .0 .steppable) (g .regroup .ensures .0)
 
 same-length : tie.Need-same-length
@@ -40,11 +32,11 @@ same-length-2 c = search needs
 returns : tie.Need-returns
 returns c =
     let m = c .before .before in
-    let g = regrouped (counted m) in
+    let g = regrouped m in
     let p = st g .pre .0 .steppable in
-    let e = g .regroup .ensures in (
-      step-meets p (e .0) (st g .args .leaps) _ _ _ _ (m .move-shades .ensures) (counted m .count-movers .ensures)
-          (e .1),
+    let e = g .regroup .ensures in
+    let moved = m .move-shades .ensures in (
+      step-meets p (e .0) (st g .args .leaps) _ _ _ _ (moved .0) (moved .1) (e .1),
       step-sums p (e .0),
     )
 
@@ -54,7 +46,6 @@ next-step-spec =
     (tie.spec
     slice-aggregate-regroup
     regroup-requires
-    count-movers-requires
     move-shades-requires
     same-length
     same-length-2

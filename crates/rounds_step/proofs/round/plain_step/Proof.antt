@@ -9,24 +9,16 @@ use Rattle.rounds_step.proofs.round.plain_step.Tie as tie
 abbrev st : tie.After-group-plain → tie.Start
 st c = c .before .before .before .before .before .before .before .before
 
--- the grouping, from the count of movers, and that from the move
-abbrev grouped : tie.After-count-movers → tie.After-group-plain
+-- the grouping, from the move
+abbrev grouped : tie.After-move-shades → tie.After-group-plain
 grouped c = c .before .before .before .before .before
-
-abbrev counted : tie.After-move-shades → tie.After-count-movers
-counted c = c .before .before .before
 
 group-plain-requires : tie.Need-group-plain-requires
 group-plain-requires c κs = search needs
 
-count-movers-requires : tie.Need-count-movers-requires
-count-movers-requires c κs =
-    let g = c .before .before .before .before in
-    move-asked (st g .pre) (g .group-plain .ensures .0)
-
 move-shades-requires : tie.Need-move-shades-requires
 move-shades-requires c κs =
-    let g = grouped (c .before .before) in
+    let g = c .before .before .before .before in
     move-asked (st g .pre) (g .group-plain .ensures .0)
 
 same-length : tie.Need-same-length
@@ -38,16 +30,16 @@ same-length-2 c = search needs
 returns : tie.Need-returns
 returns c =
     let m = c .before .before in
-    let g = grouped (counted m) in
+    let g = grouped m in
     let e = g .group-plain .ensures in
-    step-meets (st g .pre) (e .0) false _ _ _ _ (m .move-shades .ensures) (counted m .count-movers .ensures) (e .1)
+    let moved = m .move-shades .ensures in
+    step-meets (st g .pre) (e .0) false _ _ _ _ (moved .0) (moved .1) (e .1)
 
 pub plain-step-spec : {M : Type 1} → statement M
 plain-step-spec =
     tie.close
     (tie.spec
     group-plain-requires
-    count-movers-requires
     move-shades-requires
     same-length
     same-length-2
