@@ -42,7 +42,7 @@ extern "C" {
 #endif
 
 /* The version of the library that this header belongs to. */
-#define KF_VERSION "0.6.0"
+#define KF_VERSION "0.6.1"
 
 /* The refusals. */
 enum kf_refusal {
@@ -183,7 +183,7 @@ uint32_t kf_short_round(const uint64_t record[KF_RECORD_PLACES], const uint32_t 
                         const uint32_t *weights, size_t weights_len, uint32_t *coordinates, size_t coordinates_len,
                         uint32_t *members, size_t members_len, uint64_t answer[KF_ROUND_PLACES]);
 
-/* The places of the answer of kf_run. */
+/* The places of the answer of kf_run and kf_run_jancey. */
 enum kf_run_place {
     KF_RUN_ROUNDS = 0,    /* rounds made */
     KF_RUN_SETTLED = 1,   /* 1 if the last round moved no shade, 0 if it moved one */
@@ -201,6 +201,21 @@ enum kf_run_place {
 uint32_t kf_run(const uint64_t record[KF_RECORD_PLACES], const uint32_t *keys, size_t keys_len, const uint32_t *weights,
                 size_t weights_len, size_t count, size_t limit, uint32_t *members, size_t members_len, uint64_t *totals,
                 size_t totals_len, uint32_t shades[KF_MOST_COORDINATES], uint64_t answer[KF_RUN_PLACES]);
+
+/* A run by Jancey's rule, like kf_run in everything but where a shade with a group moves: it steps past the mean of its
+ * group. Per coordinate the value it moves to is old + 9/5 * (mean - old) with the exact mean, rounded to the nearest
+ * sixteenth, halves up, then held to 0 to 4080. If that lies as far from the exact mean as the old value did, or
+ * farther, the rounded mean is used instead. A shade with no group stays.
+ * The totals never rise, and the final total is not above the last of them; in a settled run each shade with a group
+ * stands on its group's rounded mean. Two promises are kf_run's alone: that no other shades give the last grouping a
+ * smaller total, and that this total is at most three quarters of the pixels above the least that fractional shades
+ * could give it. The two can end with different shades, and either can make fewer rounds.
+ * Reads and writes what kf_run does, and the places of its answer are the same.
+ * Refuses, in this order: KF_BAD_TABLE, KF_BAD_COUNT, KF_FEW_COLOURS, KF_BAD_LIMIT, KF_SHORT_ROOM. */
+uint32_t kf_run_jancey(const uint64_t record[KF_RECORD_PLACES], const uint32_t *keys, size_t keys_len,
+                       const uint32_t *weights, size_t weights_len, size_t count, size_t limit, uint32_t *members,
+                       size_t members_len, uint64_t *totals, size_t totals_len, uint32_t shades[KF_MOST_COORDINATES],
+                       uint64_t answer[KF_RUN_PLACES]);
 
 /* The palette of some shades: three bytes each, in whole levels, (coordinate + 8) / 16. The count is a third of
  * coordinates_len; of a run's shades lend the first 3 * count coordinates. Palette bytes past the last shade's stay.

@@ -17,8 +17,8 @@ _kohlenfloh() {
     if [ "$COMP_CWORD" -eq 1 ]; then
         mapfile -t COMPREPLY < <(compgen -W 'shades --help --version' -- "$word")
     elif [[ $word == -* ]]; then
-        mapfile -t COMPREPLY < <(compgen -W '--limit --in-use --index --palette --preview --sheet --csv --json --help
-            --version' -- "$word")
+        mapfile -t COMPREPLY < <(compgen -W '--limit --in-use --jancey --index --palette --preview --sheet --csv --json
+            --help --version' -- "$word")
     else
         compopt -o filenames
         mapfile -t COMPREPLY < <(compgen -f -X '!*.ppm' -- "$word"; compgen -d -- "$word")

@@ -47,6 +47,12 @@ static void run(void) {
     refusal = kf_run(record, keys, PIXELS, weights, PIXELS, SHADES, 3, members, PIXELS, totals, 200, shades, answer);
 }
 
+static void run_jancey(void) {
+    uint64_t answer[KF_RUN_PLACES];
+    refusal = kf_run_jancey(record, keys, PIXELS, weights, PIXELS, SHADES, 3, members, PIXELS, totals, 200, shades,
+                            answer);
+}
+
 static void plain_round(void) {
     uint64_t answer[KF_ROUND_PLACES];
     refusal = kf_plain_round(record, keys, PIXELS, weights, PIXELS, shades, 192, members, PIXELS, answer);
@@ -97,6 +103,7 @@ int main(void) {
         {"kf_read_picture", read_picture},
         {"kf_add_strip, 31 pixels", add_few},
         {"kf_add_strip, 65536 pixels", add_strip},
+        {"kf_run_jancey", run_jancey},
         {"kf_run", run},
         {"kf_plain_round", plain_round},
         {"kf_short_round", short_round},

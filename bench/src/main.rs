@@ -12,8 +12,8 @@ mod pictures;
 mod race;
 mod table;
 
-use jobs::rounds::Kind;
-use jobs::{mapping, palettes, rounds, tables};
+use jobs::rounds::{Kind, JANCEY, LLOYD};
+use jobs::{kinds, mapping, palettes, rounds, tables};
 use pictures::Picture;
 use race::Pace;
 use table::Table;
@@ -77,10 +77,12 @@ fn every_job(pace: Pace, picture: &Picture) {
         rounds::single(pace, Kind::Plain, picture, &table, &late);
         rounds::single(pace, Kind::First, picture, &table, &start);
         rounds::single(pace, Kind::Late, picture, &table, &late);
-        rounds::whole(pace, picture, &table, count, 1);
+        rounds::whole(pace, LLOYD, picture, &table, [count, 1]);
     }
-    for count in COUNTS {
-        rounds::whole(pace, picture, &table, count, 20);
+    for kind in [LLOYD, JANCEY] {
+        for count in COUNTS {
+            rounds::whole(pace, kind, picture, &table, [count, 20]);
+        }
     }
     for count in COUNTS {
         palettes::from_groups(pace, picture, &table, count);
@@ -92,6 +94,21 @@ fn every_job(pace: Pace, picture: &Picture) {
         mapping::twins(pace, picture, &palettes::palette(&table, count));
     }
     mapping::read(pace, picture);
+}
+
+/// Both kinds of run on every picture: what a round costs, and the rounds to rest.
+fn kinds_of_run(pace: Pace, pictures: &[Picture]) {
+    let tables: Vec<Table> = pictures.iter().map(tables::table_of).collect();
+    println!("\n{}", kinds::COSTS);
+    for (picture, table) in pictures.iter().zip(&tables) {
+        for count in [6, 16, 64] {
+            [1, 5, 20].iter().for_each(|limit| kinds::cost(pace, picture, table, [count, *limit]));
+        }
+    }
+    println!("\n{}", kinds::ROUNDS);
+    for (picture, table) in pictures.iter().zip(&tables) {
+        [2, 6, 16, 32, 64].iter().for_each(|count| kinds::rounds(picture, table, *count));
+    }
 }
 
 /// A table as lines of key and weight.
@@ -133,5 +150,6 @@ fn main() -> std::io::Result<()> {
     pictures.iter().for_each(|picture| every_job(pace, picture));
     println!("\n{FLOORS}");
     pictures.iter().for_each(|picture| println!("{}", tables::floor(pace, picture)));
+    kinds_of_run(pace, &pictures);
     Ok(())
 }

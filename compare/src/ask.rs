@@ -51,6 +51,13 @@ pub struct Round {
     pub members: Vec<u32>,
 }
 
+/// The two rules by which a shade with a group moves in a run: to the mean of its group, and past it.
+#[derive(Clone, Copy, PartialEq)]
+pub enum Rule {
+    Lloyd,
+    Jancey,
+}
+
 /// A run.
 #[derive(Clone, Debug)]
 pub struct Run {

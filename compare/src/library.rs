@@ -2,7 +2,7 @@
 #![allow(unsafe_code)]
 use kohlenfloh::raw;
 
-use crate::ask::{Add, Map, Palette, PaletteFromGroups, Picture, Round, Run, Search, Table};
+use crate::ask::{Add, Map, Palette, PaletteFromGroups, Picture, Round, Rule, Run, Search, Table};
 use crate::guarded::Guarded;
 use crate::outcome::{Difference, Outcome, Values};
 
@@ -98,14 +98,28 @@ pub fn round(ask: &Round) -> Seen {
 
 /// `kf_run`.
 pub fn run(ask: &Run) -> Seen {
+    run_by(Rule::Lloyd, ask)
+}
+
+/// `kf_run_jancey`.
+pub fn run_jancey(ask: &Run) -> Seen {
+    run_by(Rule::Jancey, ask)
+}
+
+/// A run by one of the rules.
+fn run_by(rule: Rule, ask: &Run) -> Seen {
     let (record, keys, weights) = lent(&ask.table);
     let mut members = Guarded::new("members", &ask.members, WORD);
     let mut totals = Guarded::new("totals", &ask.totals, LONG);
     let mut shades = Guarded::new("shades", &[RUBBISH as u32; raw::KF_MOST_COORDINATES], WORD);
     let mut answer = answer::<{ raw::KF_RUN_PLACES }>("answer");
+    let call = match rule {
+        Rule::Lloyd => raw::kf_run,
+        Rule::Jancey => raw::kf_run_jancey,
+    };
     // SAFETY: the pointers are those of live, apart buffers of the lengths told.
     let refusal = unsafe {
-        raw::kf_run(
+        call(
             record.begin().cast(),
             keys.begin(),
             keys.len(),

@@ -20,18 +20,18 @@ fn noticed_by(slip: Option<Slip>) -> Vec<&'static str> {
 fn due_in(slip: Slip) -> &'static [&'static str] {
     match slip {
         Slip::SkipsAShadeAtExactlyFourD | Slip::RoundsMeansDown | Slip::RecordsTheTotalAfterTheMove => {
-            &["rounds", "run"]
+            &["rounds", "run", "jancey"]
         }
-        Slip::ResetsAnEmptyShade | Slip::LeavesWeightsOutOfAGroupsMean => &["rounds", "run"],
-        Slip::LeavesWeightsOutOfShadeZero => &["run"],
-        Slip::TakesALimitOfZeroAsTwenty | Slip::TakesALimitOfZeroAsNinetyNine => &["run"],
-        Slip::ReadsShadeZeroWithoutHalvesUp => &["run"],
-        Slip::TakesAnyRedSum => &["add", "rounds", "run", "groups", "tables"],
+        Slip::ResetsAnEmptyShade | Slip::LeavesWeightsOutOfAGroupsMean => &["rounds", "run", "jancey"],
+        Slip::LeavesWeightsOutOfShadeZero => &["run", "jancey"],
+        Slip::TakesALimitOfZeroAsTwenty | Slip::TakesALimitOfZeroAsNinetyNine => &["run", "jancey"],
+        Slip::ReadsShadeZeroWithoutHalvesUp => &["run", "jancey"],
+        Slip::TakesAnyRedSum => &["add", "rounds", "run", "jancey", "groups", "tables"],
         Slip::SwapsGreenAndBlueSums | Slip::LeavesWeightsOutOfTheSums => {
-            &["add", "rounds", "run", "groups", "strips", "tables"]
+            &["add", "rounds", "run", "jancey", "groups", "strips", "tables"]
         }
         Slip::SumsPixelsThatWereNotTaken | Slip::KeepsTheSumsOfTheRecordBefore => &["add", "strips", "tables"],
-        Slip::TakesTheHighestNumberAtATie => &["rounds", "run", "map", "twins", "strips"],
+        Slip::TakesTheHighestNumberAtATie => &["rounds", "run", "jancey", "map", "twins", "strips"],
         Slip::CutsPaletteBytes => &["palette", "groups"],
         Slip::PutsTheOffsetOneTooFar => &["picture"],
         Slip::EndsACommentAtLfAlone | Slip::TakesACommentAfterTheDepth => &["picture"],
@@ -47,6 +47,11 @@ fn due_in(slip: Slip) -> &'static [&'static str] {
         Slip::ComparesRedAndGreenAlone => &["map", "twins", "strips"],
         Slip::TellsTwinsWithAnyRefusal => &["map", "twins"],
         Slip::NamesTheTwinWithTheSmallestLower | Slip::TestsTwinsAfterManyPixels => &["twins"],
+        Slip::StepsFromTheRoundedMean | Slip::StepsTwiceTheWay | Slip::RoundsAStepDownAtAHalf => &["jancey"],
+        Slip::HoldsNothingTo0 | Slip::HoldsNothingTo4080 => &["jancey"],
+        Slip::ComparesBeforeHolding | Slip::ComparesWithTheRoundedMean => &["jancey"],
+        Slip::KeepsAValueAsFar | Slip::TakesTheOldValueWhereAsFar | Slip::FallsBackByTheWholeShade => &["jancey"],
+        Slip::LeapsAnEmptyShade | Slip::RunsByLloyd => &["jancey"],
     }
 }
 

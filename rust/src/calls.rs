@@ -62,6 +62,12 @@ enum Search {
     Short,
 }
 
+/// The two rules by which the shades of a run move.
+enum Rule {
+    Lloyd,
+    Jancey,
+}
+
 /// The answer to a number: 0 is done, every other one its refusal, with what it carries of these values.
 #[inline]
 fn answer_to(number: u32, values: Values) -> Result<(), Refusal> {
@@ -179,12 +185,62 @@ pub fn run(
     members: &mut [u32],
     totals: &mut [u64],
 ) -> Result<Ran, Refusal> {
+    run_by(Rule::Lloyd, (record, keys, weights), count, limit, members, totals)
+}
+
+/// A run by Jancey's rule, like [`run`] in everything but where a shade with a group moves: nine fifths of the way to
+/// the mean of its group. [`Table::run_jancey`](crate::Table::run_jancey) says what that is to the sixteenth, and what
+/// is promised of it.
+///
+/// ```
+/// use kohlenfloh::{calls, Record, RunOptions};
+///
+/// # fn main() -> Result<(), kohlenfloh::Refusal> {
+/// // Pixels (0,0,0) and (10,0,0), two shades: the first one starts half-way, and steps past (10,0,0) and back.
+/// let (record, keys, weights) = (Record::new(2, 2, [10, 0, 0]), [0, 655_360], [1, 1]);
+/// let (mut members, mut totals) = ([0; 2], [0; 3]);
+/// let ran = calls::run_jancey(record, &keys, &weights, 2, 3, &mut members, &mut totals)?;
+/// assert_eq!((ran.rounds, ran.settled, totals), (3, false, [6400, 4096, 2601]));
+/// assert_eq!((ran.shades[0], ran.total), (201, 1681));
+/// # Ok(())
+/// # }
+/// ```
+///
+/// # Refusals
+/// BAD TABLE, BAD COUNT, FEW COLOURS, BAD LIMIT, SHORT ROOM.
+#[inline]
+pub fn run_jancey(
+    record: Record,
+    keys: &[u32],
+    weights: &[u32],
+    count: usize,
+    limit: usize,
+    members: &mut [u32],
+    totals: &mut [u64],
+) -> Result<Ran, Refusal> {
+    run_by(Rule::Jancey, (record, keys, weights), count, limit, members, totals)
+}
+
+/// A run by either rule, on a table by its record, keys and weights.
+#[inline]
+fn run_by(
+    rule: Rule,
+    (record, keys, weights): (Record, &[u32], &[u32]),
+    count: usize,
+    limit: usize,
+    members: &mut [u32],
+    totals: &mut [u64],
+) -> Result<Ran, Refusal> {
+    let call = match rule {
+        Rule::Lloyd => kf_run,
+        Rule::Jancey => kf_run_jancey,
+    };
     let mut shades = [0; KF_MOST_COORDINATES];
     let mut answer = [0; KF_RUN_PLACES];
     // SAFETY: each pointer and length is that of a slice or array of this call; members, totals, shades and answer are
     // exclusive.
     let number = unsafe {
-        kf_run(
+        call(
             &record.to_array(),
             keys.as_ptr(),
             keys.len(),

@@ -58,7 +58,7 @@
 //! |---|---|
 //! | [`Picture::read`] | 12 BAD HEADER, 13 BAD SIZE, 14 BAD DEPTH, 15 BAD RASTER |
 //! | [`Table::add`] | 1 BAD STRIP, 3 FULL |
-//! | [`Table::run`] | 4 BAD COUNT, 5 FEW COLOURS, 6 BAD LIMIT |
+//! | [`Table::run`], [`Table::run_jancey`] | 4 BAD COUNT, 5 FEW COLOURS, 6 BAD LIMIT |
 //! | [`Table::plain_round`] | 7 SHORT ROOM |
 //! | [`Table::short_round`] | 7 SHORT ROOM, 9 BAD MEMBER |
 //! | [`Table::palette_from_groups`] | 7 SHORT ROOM, 9 BAD MEMBER |

@@ -137,6 +137,23 @@ extern "C" {
         answer: *mut [u64; KF_RUN_PLACES],
     ) -> u32;
 
+    /// The run by Jancey's rule, which reads and writes what the run does.
+    pub fn kf_run_jancey(
+        record: *const [u64; KF_RECORD_PLACES],
+        keys: *const u32,
+        keys_len: usize,
+        weights: *const u32,
+        weights_len: usize,
+        count: usize,
+        limit: usize,
+        members: *mut u32,
+        members_len: usize,
+        totals: *mut u64,
+        totals_len: usize,
+        shades: *mut [u32; KF_MOST_COORDINATES],
+        answer: *mut [u64; KF_RUN_PLACES],
+    ) -> u32;
+
     /// The palette of some shades, three bytes each.
     pub fn kf_palette_from_shades(
         coordinates: *const u32,

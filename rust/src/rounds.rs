@@ -1,8 +1,8 @@
-//! Single rounds and the run: a table's colours join their nearest shades, and the shades move.
-use crate::calls;
+//! Single rounds and the two kinds of run: a table's colours join their nearest shades, and the shades move.
+use crate::calls::{self, Ran};
 use crate::refusal::Refusal;
 use crate::shades::Shades;
-use crate::table::Table;
+use crate::table::{Record, Table};
 
 /// What is asked of a run: how many shades, and in how many rounds at most.
 ///
@@ -86,8 +86,12 @@ pub struct Run {
     pub total: u64,
 }
 
+/// A call that makes a run.
+type Call = fn(Record, &[u32], &[u32], usize, usize, &mut [u32], &mut [u64]) -> Result<Ran, Refusal>;
+
 impl Table {
-    /// Looks for shades: maximin starting shades, then rounds to the first one that moves no shade, or to the limit.
+    /// Looks for shades: maximin starting shades, then rounds to the first one that moves no shade, or to the limit. In
+    /// a round each shade moves to the mean of its group; by [`Table::run_jancey`] it steps past it.
     ///
     /// ```
     /// use kohlenfloh::{Refusal, RunOptions, Table};
@@ -104,10 +108,49 @@ impl Table {
     /// # Refusals
     /// BAD COUNT, FEW COLOURS, BAD LIMIT.
     pub fn run(&self, options: RunOptions) -> Result<Run, Refusal> {
+        self.run_by(calls::run, options)
+    }
+
+    /// Looks for shades by Jancey's rule: like [`Table::run`] in everything but where a shade with a group moves, which
+    /// is past the mean of its group.
+    ///
+    /// Per coordinate the value it moves to is old + 9/5 × (mean − old) with the exact mean, rounded to the nearest
+    /// sixteenth, halves up, then held to 0 to 4080. If that lies as far from the exact mean as the old value did, or
+    /// farther, the rounded mean is used instead. A shade with no group stays.
+    ///
+    /// The totals never rise, and the final total is not above the last of them; in a settled run each shade with a
+    /// group stands on its group's rounded mean. Two promises are those of [`Table::run`] alone: that no other shades
+    /// give the last grouping a smaller total, and that this total is at most three quarters of the pixels above the
+    /// least that fractional shades could give it. The two can end with different shades, and either can make fewer
+    /// rounds.
+    ///
+    /// ```
+    /// use kohlenfloh::{RunOptions, Table};
+    ///
+    /// let mut table = Table::with_room(16);
+    /// table.add(&[0, 0, 0, 10, 0, 0])?;
+    /// let run = table.run_jancey(RunOptions::shades(2))?;
+    /// assert_eq!(run.totals, [6400, 4096, 2601, 1681, 1089, 676, 441, 289, 196, 121, 81, 49, 36, 25, 16, 9, 4, 0]);
+    /// assert_eq!((run.rounds, run.settled), (18, true));
+    ///
+    /// let lloyd = table.run(RunOptions::shades(2))?;
+    /// assert_eq!((lloyd.rounds, lloyd.settled), (2, true));
+    /// assert_eq!(lloyd.shades, run.shades);
+    /// # Ok::<(), kohlenfloh::Refusal>(())
+    /// ```
+    ///
+    /// # Refusals
+    /// BAD COUNT, FEW COLOURS, BAD LIMIT.
+    pub fn run_jancey(&self, options: RunOptions) -> Result<Run, Refusal> {
+        self.run_by(calls::run_jancey, options)
+    }
+
+    /// A run by one of the calls that make one.
+    fn run_by(&self, call: Call, options: RunOptions) -> Result<Run, Refusal> {
         let RunOptions { count, limit } = options;
         let mut members = vec![0; self.used()];
         let mut totals = vec![0; RunOptions::MOST_ROUNDS];
-        let ran = calls::run(self.record(), self.keys(), self.weights(), count, limit, &mut members, &mut totals)?;
+        let ran = call(self.record(), self.keys(), self.weights(), count, limit, &mut members, &mut totals)?;
         totals.truncate(ran.rounds);
         Ok(Run {
             shades: Shades::held(ran.shades[..3 * count].to_vec()),

@@ -94,7 +94,7 @@ fn the_object_tells_what_the_sheet_tells() {
     assert_eq!(figure(sheet, "average colour"), "108  81  69  #6c5145");
     lines.push(format!("average: {}", figure(sheet, "average colour")));
     assert_eq!(figure(sheet, "shades"), "6 of 7 shades in use");
-    lines.extend(["shades: 7", "in_use: 6", "wanted_in_use: None", "limit: 100"].map(String::from));
+    lines.extend(["shades: 7", "in_use: 6", "wanted_in_use: None", "limit: 100", "jancey: False"].map(String::from));
     lines.push(format!("rounds: {}", figure(sheet, "rounds")));
     assert_eq!(figure(sheet, "settled"), "yes");
     lines.extend(["settled: True".into(), "distances: 302".into(), "final_total: 21345408".into()]);
@@ -113,9 +113,9 @@ fn the_object_tells_what_the_sheet_tells() {
 #[test]
 fn the_object_tells_the_limit_in_force() {
     for (limit, lines) in [
-        ("0", "  \"limit\": 100,\n  \"rounds\": 2,\n  \"settled\": true,\n"),
-        ("1", "  \"limit\": 1,\n  \"rounds\": 1,\n  \"settled\": false,\n"),
-        ("200", "  \"limit\": 200,\n  \"rounds\": 2,\n  \"settled\": true,\n"),
+        ("0", "  \"limit\": 100,\n  \"jancey\": false,\n  \"rounds\": 2,\n  \"settled\": true,\n"),
+        ("1", "  \"limit\": 1,\n  \"jancey\": false,\n  \"rounds\": 1,\n  \"settled\": false,\n"),
+        ("200", "  \"limit\": 200,\n  \"jancey\": false,\n  \"rounds\": 2,\n  \"settled\": true,\n"),
     ] {
         let output = run(&["shades", "7", RUG, "--limit", limit, "--json", "-"], b"");
         assert!(printed(&output).contains(lines), "{}", printed(&output));
@@ -167,11 +167,14 @@ fn the_help_tells_of_every_option_and_of_what_is_refused() {
         assert!(usage.contains(&format!("[{option} FILE]")), "{option}");
         assert!(printed(&help).contains(&format!("\n  {option} FILE ")), "{option}");
     }
-    assert!(usage.contains("[--limit N]"));
+    assert!(usage.contains("[--limit N]") && usage.contains("[--jancey]"));
     assert!([printed(&help), usage].iter().all(|text| text.lines().all(|line| line.len() <= 80)));
     let words = printed(&help).split_whitespace().collect::<Vec<_>>().join(" ");
     for part in [
         "--limit N at most N rounds",
+        "shades step past the mean of their group, nine fifths of the way",
+        "Runs of both kinds end settled or at the limit, and can find different shades",
+        "limit (the one in force), jancey (true or false), rounds",
         "--help, -h",
         "--version, -V",
         "as in --limit=3",

@@ -99,9 +99,11 @@ fn bad_table_by_a_channel_sum_in_every_call_that_takes_a_table() {
         let (mut shades, mut members, mut totals, mut palette) = ([0; 3], [0; 2], [0; 100], [9; 3]);
         let plain = calls::plain_round(untrue, &keys, &weights, &mut shades, &mut members);
         let short = calls::short_round(untrue, &keys, &weights, &mut shades, &mut members);
-        let run = calls::run(untrue, &keys, &weights, 1, 0, &mut members, &mut totals);
         assert_eq!((plain, short), (Err(Refusal::BadTable), Err(Refusal::BadTable)), "{sums:?}");
-        assert_eq!(run, Err(Refusal::BadTable), "{sums:?}");
+        for run in [calls::run, calls::run_jancey] {
+            let run = run(untrue, &keys, &weights, 1, 0, &mut members, &mut totals);
+            assert_eq!(run, Err(Refusal::BadTable), "{sums:?}");
+        }
         let made = calls::palette_from_groups(untrue, &keys, &weights, &shades, &members, &mut palette);
         assert_eq!((made, palette), (Err(Refusal::BadTable), [9; 3]), "{sums:?}");
         assert_eq!((keys, weights), (vec![255, 66_051], vec![3, 2]));

@@ -1,4 +1,5 @@
-//! The sums of the groups, the move of the shades to their groups' rounded means, and these in whole levels.
+//! The sums of the groups, the move of the shades to their groups' rounded means or past the means, and the means in
+//! whole levels.
 use super::palette::level_of;
 use super::Point;
 
@@ -25,6 +26,27 @@ impl Shades {
         for (three, shade) in coordinates.chunks_exact_mut(3).zip(&self.at[..self.count]) {
             three.copy_from_slice(&shade.map(|c| c as u32));
         }
+    }
+}
+
+/// Where a coordinate moves, given its group's pixels, their sum of levels, and where it stands.
+pub type Rule = fn(u64, u64, i32) -> i32;
+
+/// Lloyd's rule: to the rounded mean.
+pub fn to_mean(pixels: u64, sum: u64, _: i32) -> i32 {
+    ((32 * sum + pixels) / (2 * pixels)) as i32
+}
+
+/// Jancey's rule: nine fifths of the way to the mean, rounded and held to the grid, where that is nearer to the exact
+/// mean; else to the rounded mean.
+pub fn past_mean(pixels: u64, sum: u64, old: i32) -> i32 {
+    let (weight, coordinates, from) = (pixels as i64, 16 * sum as i64, i64::from(old));
+    let far = (18 * coordinates - 8 * weight * from + 5 * weight).div_euclid(10 * weight).clamp(0, 4080);
+    let off = |place: i64| (weight * place - coordinates).abs();
+    if off(far) < off(from) {
+        far as i32
+    } else {
+        to_mean(pixels, sum, old)
     }
 }
 
@@ -73,16 +95,16 @@ impl Groups {
         (pixels > 0).then(|| sums.map(|sum| level_of(sum, pixels)))
     }
 
-    /// Moves each shade with a group to its rounded mean: how many moved.
-    pub fn move_shades(&self, shades: &mut Shades) -> u64 {
+    /// Moves each shade with a group by a rule: how many moved.
+    pub fn move_shades(&self, rule: Rule, shades: &mut Shades) -> u64 {
         let count = shades.count;
         let mut moved = 0;
         for (number, shade) in shades.at[..count].iter_mut().enumerate() {
             let (pixels, sums) = self.sums_of(number);
             if pixels > 0 {
-                let mean = sums.map(|sum| ((32 * sum + pixels) / (2 * pixels)) as i32);
-                moved += (mean != *shade) as u64;
-                *shade = mean;
+                let place = [0, 1, 2].map(|channel| rule(pixels, sums[channel], shade[channel]));
+                moved += (place != *shade) as u64;
+                *shade = place;
             }
         }
         moved

@@ -1,5 +1,5 @@
 //! Single rounds: plain, in blocks of colours; and shortened, along rows of shades sorted by distance.
-use super::groups::{Groups, Shades};
+use super::groups::{to_mean, Groups, Shades};
 use super::{colour_of, distance, table};
 use kohlenfloh::Record;
 
@@ -105,7 +105,7 @@ pub fn round(
     let count = shades.count as u32;
     assert!(members.len() >= used && members[..used].iter().all(|member| *member < count), "bad member");
     let (groups, distances) = grouping(&keys[..used], &weights[..used], &shades, &mut members[..used]);
-    let moved = groups.move_shades(&mut shades);
+    let moved = groups.move_shades(to_mean, &mut shades);
     shades.write(coordinates);
     [groups.total, moved, distances]
 }

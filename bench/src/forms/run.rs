@@ -1,5 +1,5 @@
 //! The run: starting shades with a distance kept for each colour in the members, then rounds.
-use super::groups::{Groups, Shades};
+use super::groups::{to_mean, Groups, Rule, Shades};
 use super::onward::group_onward;
 use super::rounds::{group_short, Grouping};
 use super::{colour_of, distance, table, Point};
@@ -42,15 +42,17 @@ fn starts(record: Record, keys: &[u32], count: usize, members: &mut [u32]) -> Sh
     shades
 }
 
-/// How the rounds of a run are made: the first by a grouping, the others along rows, with sums taken anew or going on.
+/// How the rounds of a run are made: the first by a grouping, the others along rows, with sums taken anew or going on;
+/// and the rule by which shades move.
 #[derive(Clone, Copy)]
 pub struct Way {
     pub first: Grouping,
     pub onward: bool,
+    pub rule: Rule,
 }
 
 /// The usual way.
-pub const USUAL: Way = Way { first: group_short, onward: false };
+pub const USUAL: Way = Way { first: group_short, onward: false, rule: to_mean };
 
 /// A run of `count` shades; totals lent are the limit. The answer is rounds, settled, distances, final total.
 pub fn run(
@@ -80,7 +82,7 @@ pub fn run(
         totals[rounds] = groups.total;
         rounds += 1;
         distances += worked;
-        settled = (groups.move_shades(&mut shades) == 0) as u64;
+        settled = (groups.move_shades(way.rule, &mut shades) == 0) as u64;
     }
     shades.write(&mut coordinates[..3 * count]);
     let entries = keys.iter().zip(weights).zip(members.iter());

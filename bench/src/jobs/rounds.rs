@@ -1,21 +1,40 @@
 //! Jobs of rounds and runs.
 use super::ACCEPTED;
 use crate::forms::first::group_counted;
+use crate::forms::groups::{past_mean, to_mean, Rule};
 use crate::forms::rounds::{self, group_plain, group_short, Grouping};
 use crate::forms::run::{self, Way, USUAL};
 use crate::pictures::Picture;
 use crate::race::{race, row, timed, Form, Pace};
 use crate::table::Table;
-use kohlenfloh::calls;
+use kohlenfloh::calls::{self, Ran};
 use kohlenfloh::raw::KF_MOST_COORDINATES;
+use kohlenfloh::{Record, Refusal};
+
+/// A call of the proved library that makes a run.
+type Call = fn(Record, &[u32], &[u32], usize, usize, &mut [u32], &mut [u64]) -> Result<Ran, Refusal>;
+
+/// A kind of run: its job's name, the call, and the rule of the forms in Rust.
+#[derive(Clone, Copy)]
+pub struct RunKind {
+    job: &'static str,
+    call: Call,
+    rule: Rule,
+}
+
+/// The run in which shades move to the means.
+pub const LLOYD: RunKind = RunKind { job: "run", call: calls::run, rule: to_mean };
+
+/// The run in which they step past them.
+pub const JANCEY: RunKind = RunKind { job: "Jancey run", call: calls::run_jancey, rule: past_mean };
 
 /// What a run leaves in the memory it is lent, and its answer: rounds made, settled as 1 or 0, distances, final total.
 #[derive(Clone, PartialEq)]
-struct Run {
+pub struct Run {
     shades: Vec<u32>,
     members: Vec<u32>,
     totals: Vec<u64>,
-    answer: [u64; 4],
+    pub answer: [u64; 4],
 }
 
 impl Run {
@@ -26,10 +45,11 @@ impl Run {
 }
 
 /// A run of `count` shades by the proved library: the seconds of the call, and what it leaves.
-fn proved_run(table: &Table, count: usize, limit: usize) -> (f64, Run) {
+pub fn proved_run(kind: RunKind, table: &Table, count: usize, limit: usize) -> (f64, Run) {
     let mut done = Run::room(table.used(), limit);
     let (members, totals) = (&mut done.members, &mut done.totals);
-    let (seconds, ran) = timed(|| calls::run(table.record, &table.keys, &table.weights, count, limit, members, totals));
+    let (seconds, ran) =
+        timed(|| (kind.call)(table.record, &table.keys, &table.weights, count, limit, members, totals));
     let ran = ran.expect(ACCEPTED);
     done.shades.copy_from_slice(&ran.shades);
     done.answer = [ran.rounds as u64, u64::from(ran.settled), ran.distances, ran.total];
@@ -56,7 +76,7 @@ pub struct State {
 /// The state after so many rounds of a run; after none, starting shades and every colour in shade 0.
 pub fn state(table: &Table, count: usize, rounds_made: usize) -> State {
     let done = if rounds_made > 0 {
-        proved_run(table, count, rounds_made).1
+        proved_run(LLOYD, table, count, rounds_made).1
     } else {
         let mut done = Run::room(table.used(), 0);
         let entries = (&table.keys[..], &table.weights[..]);
@@ -113,7 +133,7 @@ pub fn single(pace: Pace, kind: Kind, picture: &Picture, table: &Table, before: 
 }
 
 /// A whole run.
-pub fn whole(pace: Pace, picture: &Picture, table: &Table, count: usize, limit: usize) {
+pub fn whole(pace: Pace, kind: RunKind, picture: &Picture, table: &Table, [count, limit]: [usize; 2]) {
     let rust = |way: Way| {
         let mut done = Run::room(table.used(), limit);
         let (seconds, answer) = timed(|| {
@@ -122,10 +142,12 @@ pub fn whole(pace: Pace, picture: &Picture, table: &Table, count: usize, limit: 
         });
         (seconds, Run { answer, ..done })
     };
-    let mut proved = || proved_run(table, count, limit);
-    let other = Way { first: group_counted, onward: true };
-    let times = race(pace, "run", &mut [&mut proved, &mut || rust(USUAL), &mut || rust(other)]);
+    let mut proved = || proved_run(kind, table, count, limit);
+    let usual = Way { rule: kind.rule, ..USUAL };
+    let other = Way { first: group_counted, onward: true, ..usual };
+    let times = race(pace, kind.job, &mut [&mut proved, &mut || rust(usual), &mut || rust(other)]);
     let [rounds, ..] = proved().1.answer;
     let unit = ("colour and round", table.used() as f64 * rounds as f64);
-    row(&format!("run, limit {limit}, k = {count}"), &picture.name, unit, &times, "first round in blocks, sums go on");
+    let job = format!("{}, limit {limit}, k = {count}", kind.job);
+    row(&job, &picture.name, unit, &times, "first round in blocks, sums go on");
 }

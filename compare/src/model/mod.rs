@@ -4,6 +4,7 @@
 //! Nothing here is quick: full searches, wide sums, no packed numbers. The model notes which edge cases it meets, and
 //! can be bent by one slip, to show that the comparison notices it.
 pub mod groups;
+pub mod jancey;
 pub mod listing;
 pub mod mapping;
 pub mod palette;

@@ -2,8 +2,11 @@
 use super::shade::{bad_centre, bad_coordinates, colours_of, coordinates_of, distance, shades_of, Colour, Point};
 use super::slip::Slip;
 use super::{when, Model, BAD_CENTRE, BAD_COUNT, BAD_MEMBER, BAD_TABLE, SHORT_ROOM};
-use crate::ask::{Round, Search};
+use crate::ask::{Round, Rule, Search};
 use crate::outcome::{Outcome, Values};
+
+/// A colour of one pixel whose levels are 0.
+const BLACK: Colour = Colour { point: [0; 3], weight: 1 };
 
 /// What a round makes: the grouping, the moved shades, and the answer's three numbers.
 pub struct Made {
@@ -40,8 +43,9 @@ impl Model {
         some
     }
 
-    /// "Each shade moves to the rounded mean of its group. A shade with no group stays."
-    fn moved(&mut self, colours: &[Colour], members: &[usize], shades: &[Point]) -> Vec<Point> {
+    /// "Each shade moves to the rounded mean of its group. A shade with no group stays." By Jancey's rule it moves past
+    /// the mean, and "Empty groups stay" (document 02).
+    fn moved(&mut self, rule: Rule, colours: &[Colour], members: &[usize], shades: &[Point]) -> Vec<Point> {
         let mut moved = Vec::new();
         for (number, &shade) in shades.iter().enumerate() {
             let joined = colours.iter().zip(members).filter(|pair| *pair.1 == number).map(|pair| *pair.0);
@@ -49,18 +53,20 @@ impl Model {
             if self.slips(Slip::LeavesWeightsOutOfAGroupsMean) {
                 group.iter_mut().for_each(|colour| colour.weight = 1);
             }
-            if !group.is_empty() {
-                moved.push(self.mean_of(&group));
-                continue;
-            }
-            self.meet("an empty group");
-            moved.push(if self.slips(Slip::ResetsAnEmptyShade) { [0; 3] } else { shade });
+            self.meet_if(group.is_empty(), "an empty group");
+            moved.push(match (rule, group.is_empty(), self.slip) {
+                (_, true, Some(Slip::ResetsAnEmptyShade)) => [0; 3],
+                (Rule::Jancey, true, Some(Slip::LeapsAnEmptyShade)) => self.past_mean(&[BLACK], shade),
+                (_, true, _) => shade,
+                (Rule::Lloyd, false, _) => self.mean_of(&group),
+                (Rule::Jancey, false, _) => self.past_mean(&group, shade),
+            });
         }
         moved
     }
 
-    /// A round on good input; formers are given where it is the shortened one.
-    pub fn one_round(&mut self, colours: &[Colour], shades: &[Point], formers: Option<&[usize]>) -> Made {
+    /// A round by a rule on good input; formers are given where it is the shortened one.
+    pub fn one_round(&mut self, rule: Rule, colours: &[Colour], shades: &[Point], formers: Option<&[usize]>) -> Made {
         let mut members = Vec::new();
         let mut distances = 0;
         for (place, colour) in colours.iter().enumerate() {
@@ -71,7 +77,7 @@ impl Model {
             // "Each table colour joins the nearest shade; at a tie, the lowest number."
             members.push(self.nearest(colour.point, &looked_at));
         }
-        let after = self.moved(colours, &members, shades);
+        let after = self.moved(rule, colours, &members, shades);
         self.meet_if((1..shades.len()).any(|q| shades[..q].contains(&shades[q])), "twin shades");
         // "against the shades as they stood before step 3"
         let before = if self.slips(Slip::RecordsTheTotalAfterTheMove) { &after } else { shades };
@@ -106,7 +112,7 @@ impl Model {
             let formers = (ask.search == Search::Shortened).then_some(&former_numbers[..]);
             let shades = shades_of(&ask.coordinates);
             self.meet_if(used == 0, "a round on an empty table");
-            let made = self.one_round(&colours_of(&ask.table), &shades, formers);
+            let made = self.one_round(Rule::Lloyd, &colours_of(&ask.table), &shades, formers);
             outcome = [made.total as u64, made.moved, made.distances];
             coordinates = coordinates_of(&made.shades);
             // "members past the used entries keep their values"

@@ -1,10 +1,10 @@
-//! Starting shades and the run.
+//! Starting shades and the run, of either kind.
 use super::round::total_of;
 use super::shade::{colours_of, coordinates_of, distance, Colour, Point};
 use super::slip::Slip;
 use super::table::sums_told;
 use super::{when, Model, BAD_COUNT, BAD_LIMIT, BAD_TABLE, FEW_COLOURS, MOST_COORDINATE, MOST_SHADES, SHORT_ROOM};
-use crate::ask::{Run, Table};
+use crate::ask::{Rule, Run, Table};
 use crate::outcome::{Outcome, Values};
 
 /// What an accepted run makes.
@@ -67,13 +67,13 @@ impl Model {
 
     /// "A run starts with every colour in shade 0, uses shortened rounds, and ends with the first round that moves no
     /// shade ("settled") or at the round limit."
-    fn rounds(&mut self, table: &Table, count: usize, limit: usize) -> Made {
+    fn rounds(&mut self, rule: Rule, table: &Table, count: usize, limit: usize) -> Made {
         let colours = &colours_of(table);
         let mut shades = self.starts(table, count);
         let mut made =
             Made { members: vec![0; colours.len()], totals: vec![], shades: vec![], settled: false, distances: 0 };
         while made.totals.len() < limit && !made.settled {
-            let round = self.one_round(colours, &shades, Some(&made.members));
+            let round = self.one_round(rule, colours, &shades, Some(&made.members));
             made.totals.push(round.total as u64);
             made.distances += round.distances;
             made.settled = round.moved == 0;
@@ -95,8 +95,18 @@ impl Model {
         }
     }
 
-    /// "Run: 2, 4, 5, 6, 7."
+    /// The run of document 01.
     pub fn run(&mut self, ask: &Run) -> Outcome {
+        self.run_by(Rule::Lloyd, ask)
+    }
+
+    /// "a second kind of run, like document 01's in everything but where a shade with a group moves" (document 02).
+    pub fn run_jancey(&mut self, ask: &Run) -> Outcome {
+        self.run_by(Rule::Jancey, ask)
+    }
+
+    /// "Run: 2, 4, 5, 6, 7." and "Refusals: as for a run." (document 02)
+    fn run_by(&mut self, rule: Rule, ask: &Run) -> Outcome {
         let used = u128::from(ask.table.record.used);
         let limit = self.limit_of(ask.limit);
         // "members fewer than the used entries; totals fewer than the round limit (100 for 0)"
@@ -119,7 +129,7 @@ impl Model {
         let mut members = ask.members.clone();
         let mut totals = ask.totals.clone();
         if refusal == 0 {
-            let made = self.rounds(&ask.table, ask.count, limit);
+            let made = self.rounds(rule, &ask.table, ask.count, limit);
             self.meet_if(ask.limit == 0 && made.totals.len() > 20, "a limit of 0 and more than 20 rounds");
             // "the final total: the last grouping against the final shades"
             let total = total_of(&colours_of(&ask.table), &made.members, &made.shades);

@@ -25,6 +25,12 @@ pub fn colours_of(table: &Table) -> Vec<Colour> {
     used.map(|(&key, &weight)| Colour { point: point_of_key(key), weight: weight.into() }).collect()
 }
 
+/// The pixels of some colours, and the weighted sum of each coordinate.
+pub fn sums_of_colours(colours: &[Colour]) -> (u128, [u128; 3]) {
+    let sum = |channel: usize| colours.iter().map(|colour| colour.weight * colour.point[channel] as u128).sum();
+    (colours.iter().map(|colour| colour.weight).sum(), [0, 1, 2].map(sum))
+}
+
 /// "Distance always means the sum of three squared differences".
 pub fn distance(one: Point, other: Point) -> i64 {
     (0..3).map(|channel| (one[channel] - other[channel]).pow(2)).sum()
@@ -69,11 +75,8 @@ impl Model {
 
     /// The rounded mean of some colours in each coordinate, weights counted.
     pub fn mean_of(&mut self, colours: &[Colour]) -> Point {
-        let pixels = colours.iter().map(|colour| colour.weight).sum();
-        [0, 1, 2].map(|channel| {
-            let sum = colours.iter().map(|colour| colour.weight * colour.point[channel] as u128).sum();
-            self.rounded_mean(sum, pixels)
-        })
+        let (pixels, sums) = sums_of_colours(colours);
+        sums.map(|sum| self.rounded_mean(sum, pixels))
     }
 
     /// The nearest of some numbered shades (numbers rising); "at a tie, the lowest number"..

@@ -45,10 +45,23 @@ pub enum Slip {
     ComparesRedAndGreenAlone,
     TellsTwinsWithAnyRefusal,
     TestsTwinsAfterManyPixels,
+    StepsFromTheRoundedMean,
+    StepsTwiceTheWay,
+    RoundsAStepDownAtAHalf,
+    HoldsNothingTo0,
+    HoldsNothingTo4080,
+    ComparesBeforeHolding,
+    ComparesWithTheRoundedMean,
+    KeepsAValueAsFar,
+    TakesTheOldValueWhereAsFar,
+    FallsBackByTheWholeShade,
+    /// An empty group's shade steps as if its mean were 0.
+    LeapsAnEmptyShade,
+    RunsByLloyd,
 }
 
 /// Every slip.
-pub const SLIPS: [Slip; 42] = [
+pub const SLIPS: [Slip; 54] = [
     Slip::SkipsAShadeAtExactlyFourD,
     Slip::RoundsMeansDown,
     Slip::RecordsTheTotalAfterTheMove,
@@ -91,6 +104,18 @@ pub const SLIPS: [Slip; 42] = [
     Slip::ComparesRedAndGreenAlone,
     Slip::TellsTwinsWithAnyRefusal,
     Slip::TestsTwinsAfterManyPixels,
+    Slip::StepsFromTheRoundedMean,
+    Slip::StepsTwiceTheWay,
+    Slip::RoundsAStepDownAtAHalf,
+    Slip::HoldsNothingTo0,
+    Slip::HoldsNothingTo4080,
+    Slip::ComparesBeforeHolding,
+    Slip::ComparesWithTheRoundedMean,
+    Slip::KeepsAValueAsFar,
+    Slip::TakesTheOldValueWhereAsFar,
+    Slip::FallsBackByTheWholeShade,
+    Slip::LeapsAnEmptyShade,
+    Slip::RunsByLloyd,
 ];
 
 /// Slips of the listing program, which the calls of the library do not show.

@@ -32,6 +32,8 @@ pub const SUBJECT: Subject = Subject {
         "a group's mean at a half",
         "a group's mean just below a half",
         "a group's mean just above a half",
+        "a step held to 0",
+        "a step held to 4080",
         "64 entries, no two of them equal",
         "twins at 0 and 63",
         "all entries equal",
@@ -52,6 +54,7 @@ fn one_case(bench: &mut Bench, chance: &mut Chance) -> Result<(), Difference> {
     greatest_sums(bench)?;
     greatest_groups(bench)?;
     halves_of_most_pixels(bench)?;
+    greatest_steps(bench)?;
     room_for_a_palette(bench)?;
     numbers_of_shades(bench, chance)?;
     numbers_of_rounds(bench, chance)?;
@@ -119,9 +122,16 @@ fn on_most_entries(bench: &mut Bench, chance: &mut Chance, table: Table) -> Resu
     ask.members.pop();
     palette(bench, SHORT_ROOM, &ask)?;
     let mut run = Run { table, count: 4, limit: 3, members: chance.words(ENTRIES), totals: vec![7; 3] };
-    refused_by(0, bench.compare(&run, library::run, Model::run)?)?;
+    runs(bench, 0, &run)?;
     run.members.pop();
-    refused_by(SHORT_ROOM, bench.compare(&run, library::run, Model::run)?).map(drop)
+    runs(bench, SHORT_ROOM, &run).map(drop)
+}
+
+/// Runs by both rules that answer this number: what they leave, Lloyd's first.
+fn runs(bench: &mut Bench, number: u32, ask: &Run) -> Result<[Outcome; 2], Difference> {
+    let lloyd = refused_by(number, bench.compare(ask, library::run, Model::run)?)?;
+    let jancey = refused_by(number, bench.compare(ask, library::run_jancey, Model::run_jancey)?)?;
+    Ok([lloyd, jancey])
 }
 
 /// A palette from groups that answers this number: its bytes then.
@@ -147,7 +157,7 @@ fn bad_for_all(bench: &mut Bench, table: &Table) -> Result<(), Difference> {
     };
     palette(bench, BAD_TABLE, &of_groups)?;
     let run = Run { table: table.clone(), count: 2, limit: 1, members, totals: vec![7; 1] };
-    refused_by(BAD_TABLE, bench.compare(&run, library::run, Model::run)?).map(drop)
+    runs(bench, BAD_TABLE, &run).map(drop)
 }
 
 /// 1,048,576 weights of 2^32 - 1 each: the record tells total and sums as they are, or the most pixels; and one weight
@@ -176,8 +186,9 @@ fn greatest_sums(bench: &mut Bench) -> Result<(), Difference> {
     Difference::unless_equal("the greatest sum", greatest, 4_278_190_080)?;
     let table = add(bench, FULL, &Add { table, strip: vec![255; 3] })?;
     let run = Run { table: table.clone(), count: 1, limit: 0, members: vec![9; 1], totals: vec![7; 100] };
-    let seen = refused_by(0, bench.compare(&run, library::run, Model::run)?)?;
-    Difference::unless_equal("the shade of white", &seen.words("shades")[..3], &[4080; 3])?;
+    for seen in runs(bench, 0, &run)? {
+        Difference::unless_equal("the shade of white", &seen.words("shades")[..3], &[4080; 3])?;
+    }
     for sum in [greatest - 1, greatest + 1, greatest + (1 << 32), 0] {
         for channel in 0..3 {
             let mut sums = [greatest; 3];
@@ -227,6 +238,20 @@ fn halves_of_most_pixels(bench: &mut Bench) -> Result<(), Difference> {
     Ok(())
 }
 
+/// Of 16,777,216 pixels half black and half white, or a few thousand more of either, in two shades: by Jancey's rule
+/// the first one steps from between them past the end of the grid, and is held there.
+fn greatest_steps(bench: &mut Bench) -> Result<(), Difference> {
+    let half = PIXELS as u32 / 2;
+    for (black, held) in [(half - 3000, 4080), (half, 4080), (half + 3000, 0)] {
+        let table = table_of([(0, black), (0xFF_FFFF, PIXELS as u32 - black)].into_iter());
+        let run = Run { table, count: 2, limit: 1, members: vec![9; 2], totals: vec![7; 1] };
+        for seen in runs(bench, 0, &run)? {
+            Difference::unless_equal("a shade at the end of the grid", &seen.words("shades")[..3], &[held; 3])?;
+        }
+    }
+    Ok(())
+}
+
 /// Members as many as used entries and one fewer, bytes 3 a shade and one fewer, a member at the count and below it, a
 /// coordinate of 4081: which refusal comes first of any that hold.
 fn room_for_a_palette(bench: &mut Bench) -> Result<(), Difference> {
@@ -271,12 +296,12 @@ fn colours(count: usize) -> Table {
     Table { record: record_of(&keys, &weights), keys, weights }
 }
 
-/// 64 shades are accepted and 65 are not, by the run, by both rounds and by both palettes.
+/// 64 shades are accepted and 65 are not, by both kinds of run, by both rounds and by both palettes.
 fn numbers_of_shades(bench: &mut Bench, chance: &mut Chance) -> Result<(), Difference> {
     for (count, number) in [(64, 0), (65, BAD_COUNT)] {
         let table = colours(100);
         let run = Run { table: table.clone(), count, limit: 0, members: chance.words(100), totals: vec![7; 100] };
-        refused_by(number, bench.compare(&run, library::run, Model::run)?)?;
+        runs(bench, number, &run)?;
         let coordinates = shades::coordinates(chance, &[1, 2, 3], count);
         let of_shades = Palette { coordinates: coordinates.clone(), palette: chance.bytes(195) };
         refused_by(number, bench.compare(&of_shades, library::palette, Model::palette)?)?;
@@ -309,23 +334,25 @@ fn numbers_of_rounds(bench: &mut Bench, chance: &mut Chance) -> Result<(), Diffe
         (20, 19, SHORT_ROOM),
     ] {
         let run = Run { table: colours(60), count: 9, limit, members: chance.words(60), totals: vec![7; totals] };
-        refused_by(number, bench.compare(&run, library::run, Model::run)?)?;
+        runs(bench, number, &run)?;
     }
     Ok(())
 }
 
-/// A run that would settle in its 131st round: a limit of 0 ends it after 100, and 200 does not.
+/// A run that would settle in its 131st round, and by Jancey's rule in its 81st: a limit of 0 ends it after 100, and
+/// 200 does not.
 fn rounds_past_the_usual_limit(bench: &mut Bench) -> Result<(), Difference> {
     let pixel = |n: usize| [n * n % 251, n * n / 251 % 256, n * 7919 % 253].map(|level| level as u8);
     let strip: Vec<u8> = (0..128 * 128).flat_map(pixel).collect();
     let table = Table { record: Record::default(), keys: vec![0; 128 * 128], weights: vec![0; 128 * 128] };
     let table = add(bench, 0, &Add { table, strip })?;
-    for (limit, rounds, settled) in [(0, 100, 0), (20, 20, 0), (200, 131, 1)] {
+    for (limit, due) in [(0, [[100, 0], [81, 1]]), (20, [[20, 0], [20, 0]]), (200, [[131, 1], [81, 1]])] {
         let members = vec![9; table.used()];
         let run = Run { table: table.clone(), count: 12, limit, members, totals: vec![7; 200] };
-        let seen = refused_by(0, bench.compare(&run, library::run, Model::run)?)?;
-        let answer = &seen.longs("rounds, settled, distances, final total")[..2];
-        Difference::unless_equal("rounds and settled at a boundary", answer, &[rounds, settled])?;
+        for (seen, due) in runs(bench, 0, &run)?.iter().zip(due) {
+            let answer = &seen.longs("rounds, settled, distances, final total")[..2];
+            Difference::unless_equal("rounds and settled at a boundary", answer, &due)?;
+        }
     }
     Ok(())
 }

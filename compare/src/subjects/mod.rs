@@ -3,6 +3,7 @@
 mod add;
 mod boundaries;
 mod groups;
+mod jancey;
 mod map;
 mod netpbm;
 mod palette;
@@ -28,10 +29,11 @@ pub struct Subject {
 }
 
 /// Every subject.
-pub const SUBJECTS: [Subject; 12] = [
+pub const SUBJECTS: [Subject; 13] = [
     add::SUBJECT,
     rounds::SUBJECT,
     run::SUBJECT,
+    jancey::SUBJECT,
     palette::SUBJECT,
     groups::SUBJECT,
     map::SUBJECT,

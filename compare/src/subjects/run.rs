@@ -1,7 +1,7 @@
 //! Runs: held against the model, against single rounds from the model's starts, and against the claims on totals,
 //! shades and least costs.
 use super::Subject;
-use crate::ask::{Round, Run, Search};
+use crate::ask::{Round, Run, Search, Table};
 use crate::bench::Bench;
 use crate::chance::Chance;
 use crate::library;
@@ -38,11 +38,15 @@ pub const SUBJECT: Subject = Subject {
     refuses: &[2, 4, 5, 6, 7],
 };
 
-/// What a good run is asked, by chance; the members and totals hold rubbish.
-fn good_run(chance: &mut Chance) -> Run {
+/// A good table, by chance.
+pub fn good_table(chance: &mut Chance) -> Table {
     let levels = levels(chance);
     let most = chance.one_of(&[1, 5, 15, 40, 40, 90, 500]);
-    let table = table::table(chance, &levels, most);
+    table::table(chance, &levels, most)
+}
+
+/// What a good run is asked of a table, by chance; the members and totals hold rubbish.
+pub fn good_run(chance: &mut Chance, table: Table) -> Run {
     let count = shades::count(chance).min(table.used()).max(1);
     let limit = chance.one_of(&[0, 0, 1, 2, 3, 5, 20, 200]);
     let spare = chance.one_of(&[0, 1, 7]);
@@ -52,7 +56,7 @@ fn good_run(chance: &mut Chance) -> Run {
 }
 
 /// Damages what is asked of a run in one of its parts.
-fn damage(chance: &mut Chance, ask: &mut Run) {
+pub fn damage(chance: &mut Chance, ask: &mut Run) {
     match chance.below(7) {
         0 => table::damage(chance, &mut ask.table),
         1 => ask.count = chance.one_of(&[0, 65, usize::MAX, 1 << 32]),
@@ -66,7 +70,8 @@ fn damage(chance: &mut Chance, ask: &mut Run) {
 
 /// One run.
 fn one_case(bench: &mut Bench, chance: &mut Chance) -> Result<(), Difference> {
-    let mut ask = good_run(chance);
+    let table = good_table(chance);
+    let mut ask = good_run(chance, table);
     let damages = chance.one_of(&[0, 0, 0, 0, 1, 2]);
     (0..damages).for_each(|_| damage(chance, &mut ask));
     let seen = bench.compare(&ask, library::run, Model::run)?;

@@ -84,12 +84,13 @@ fn refused_by_a_palette(bench: &mut Bench, chance: &mut Chance, bad: &Table, lev
     refused(BAD_TABLE, bench.compare(&ask, library::palette_from_groups, Model::palette_from_groups)?)
 }
 
-/// A run, at times with a bad count, limit or room too.
+/// A run of either kind, at times with a bad count, limit or room too.
 fn refused_by_a_run(bench: &mut Bench, chance: &mut Chance, bad: Table) -> Result<(), Difference> {
     let (count, limit) = (chance.one_of(&[1, 1, 2, 0, 65]), chance.one_of(&[0, 0, 5, 201]));
     let (members, totals) = (vec![7; bad.keys.len()], vec![7; chance.one_of(&[100, 100, 4])]);
     let ask = Run { table: bad, count, limit, members, totals };
-    refused(BAD_TABLE, bench.compare(&ask, library::run, Model::run)?)
+    refused(BAD_TABLE, bench.compare(&ask, library::run, Model::run)?)?;
+    refused(BAD_TABLE, bench.compare(&ask, library::run_jancey, Model::run_jancey)?)
 }
 
 /// A strip added to a good table: the sums are those before, and the levels of the pixels taken.

@@ -3,7 +3,7 @@ use kohlenfloh::{made, Refusal};
 
 /// The lines that a wrong command line is answered with.
 pub const USAGE: &str = "\
-usage: kohlenfloh shades K [PICTURE.ppm] [--limit N] [--index FILE]
+usage: kohlenfloh shades K [PICTURE.ppm] [--limit N] [--jancey] [--index FILE]
                   [--palette FILE] [--preview FILE] [--sheet FILE]
                   [--csv FILE] [--json FILE]
        kohlenfloh shades --in-use N [PICTURE.ppm] [the same options]
@@ -77,6 +77,10 @@ Options
                    picture uses exactly N of them; a run is made for each count,
                    and one that leaves two equal shades is passed over
   --limit N        at most N rounds, 1 to 200; 0 means 100, as does no --limit
+  --jancey         makes the run by Jancey's rule: shades step past the mean of
+                   their group, nine fifths of the way, in place of moving to
+                   it. Runs of both kinds end settled or at the limit, and can
+                   find different shades; the sheet says which kind it was
   --index FILE     the index picture, P5: each pixel's shade as its number
   --palette FILE   the shades as a P6 picture, 1 high, a pixel for each shade
   --preview FILE   the picture in its shades, P6
@@ -104,11 +108,11 @@ each shade: its number, its levels, these as # and six hexadecimal digits, the
 pixels that have it, their share in percent, and whether there are any, yes or
 no. JSON is one object with picture, width, height, pixels, colours, average
 (an object with red, green, blue and hex), shades, in_use (the shades that have
-pixels), wanted_in_use (as asked for, or null), limit (the one in force),
-rounds, settled, distances (worked out in all rounds), final_total, error,
-mean_square_error; order, a list with the columns of the CSV for each shade,
-used being true or false; and made, which holds version, toolchain, proof and
-sources.
+pixels), wanted_in_use (as asked for, or null), limit (the one in force), jancey
+(true or false), rounds, settled, distances (worked out in all rounds),
+final_total, error, mean_square_error; order, a list with the columns of the CSV
+for each shade, used being true or false; and made, which holds version,
+toolchain, proof and sources.
 
 On the order sheet, the average colour is that of the picture: in each channel
 the level nearest to the mean of all pixels, halves up. The levels of a shade

@@ -1,7 +1,7 @@
 //! The smallest count of shades whose picture uses as many of them as are wanted.
 use std::fmt;
 
-use kohlenfloh::{Palette, Refusal, Run, RunOptions, Table};
+use kohlenfloh::{Palette, Refusal, Run, Table};
 
 use crate::twins::{palette_of, Twins};
 
@@ -38,16 +38,15 @@ impl From<Refusal> for Failed {
     }
 }
 
-/// Makes an ordinary run for each count from the wanted number on, to the first whose picture uses exactly that many
-/// shades. The first count is refused as any count is; where a later one is, there are no more to be tried. A count
-/// whose run leaves twins is passed over.
-pub fn find(table: &Table, wanted: usize, limit: usize, tell: impl Fn(usize)) -> Result<Run, Failed> {
+/// Has a run made for each count from the wanted number on, to the first whose picture uses exactly that many shades.
+/// The first count is refused as any count is; where a later one is, there are no more to be tried. A count whose run
+/// leaves twins is passed over.
+pub fn find(table: &Table, wanted: usize, run: impl Fn(usize) -> Result<Run, Refusal>) -> Result<Run, Failed> {
     let colours = colours_of(table);
     let mut unmet = Unmet { wanted, tried: Vec::new() };
     let mut count = wanted;
     loop {
-        tell(count);
-        let run = match table.run(RunOptions::shades(count).limit(limit)) {
+        let run = match run(count) {
             Ok(run) => run,
             Err(refusal) if unmet.tried.is_empty() => return Err(refusal.into()),
             Err(_) => return Err(Failed::Unmet(unmet)),

@@ -65,7 +65,7 @@ fn shades(options: &Options) -> Result<(), Failure> {
     let picture = options.picture.as_deref();
     let bytes = input::read(picture)?;
     let work = work::find_shades(&input::path_of(picture).to_string_lossy(), &bytes, options)?;
-    let order = Order::of(input::name(picture), &work, &options.wanted);
+    let order = Order::of(input::name(picture), &work, options);
     let limit = if options.limit.value == 0 { RunOptions::USUAL_LIMIT } else { options.limit.value };
     let answer = Answer { work, order, limit };
     files::write_all(&options.outputs, |output, to| answer.write(output, to))

@@ -1,6 +1,7 @@
 //! The command line.
 use std::ffi::{OsStr, OsString};
 use std::fmt;
+use std::mem;
 use std::os::unix::ffi::OsStrExt;
 use std::path::PathBuf;
 
@@ -12,6 +13,8 @@ use crate::outputs::Output;
 const LIMIT: &str = "--limit";
 /// The option that gives the shades in use.
 const IN_USE: &str = "--in-use";
+/// The option that has shades move by Jancey's rule.
+const JANCEY: &str = "--jancey";
 
 /// What the command line asks for.
 pub enum Request {
@@ -29,6 +32,8 @@ pub struct Options {
     pub wanted: Wanted,
     /// The round limit; 0 where none is given.
     pub limit: Number,
+    /// Whether shades move by Jancey's rule.
+    pub jancey: bool,
     /// The picture's file; none for standard input.
     pub picture: Option<PathBuf>,
     /// The outputs, each with its file; none for standard output, to which exactly one of them goes.
@@ -65,6 +70,7 @@ impl fmt::Display for Wanted {
 struct Given {
     limit: Option<Number>,
     in_use: Option<Number>,
+    jancey: bool,
     outputs: Vec<(Output, Option<PathBuf>)>,
     names: Vec<OsString>,
 }
@@ -99,13 +105,17 @@ fn read_shades(mut arguments: impl Iterator<Item = OsString>) -> Result<Request,
 }
 
 impl Given {
-    /// Takes an option with its value: the one behind its `=`, or the argument that follows.
+    /// Takes an option with its value, where it has one: the one behind its `=`, or the argument that follows.
     fn take(
         &mut self,
         option: &str,
         value: Option<&OsStr>,
         arguments: &mut impl Iterator<Item = OsString>,
     ) -> Result<(), Failure> {
+        if option == JANCEY {
+            without_value(option, value)?;
+            return once(mem::replace(&mut self.jancey, true), option);
+        }
         if let Some((place, what)) = self.number_of(option) {
             let value = match value {
                 Some(value) => value.into(),
@@ -166,7 +176,8 @@ impl Given {
             return Err(usage(format!("one picture is read, and {} is one too many", more.display())));
         }
         let picture = picture.filter(|name| name != "-").map(PathBuf::from);
-        Ok(Options { wanted, limit: self.limit.unwrap_or(Number::ZERO), picture, outputs: self.outputs })
+        let limit = self.limit.unwrap_or(Number::ZERO);
+        Ok(Options { wanted, limit, jancey: self.jancey, picture, outputs: self.outputs })
     }
 }
 
@@ -184,9 +195,14 @@ fn alone(option: &str, value: Option<&OsStr>) -> Result<Option<Request>, Failure
         "--version" | "-V" => Request::Version,
         _ => return Ok(None),
     };
+    without_value(option, value).map(|()| Some(request))
+}
+
+/// Refuses a value of an option that takes none.
+fn without_value(option: &str, value: Option<&OsStr>) -> Result<(), Failure> {
     match value {
         Some(_) => Err(usage(format!("{option} takes no value"))),
-        None => Ok(Some(request)),
+        None => Ok(()),
     }
 }
 
@@ -215,7 +231,7 @@ fn following_file(option: &str, arguments: &mut impl Iterator<Item = OsString>) 
         return Ok(value);
     }
     let (name, _) = parts(&value);
-    let known = [LIMIT, IN_USE].contains(&&*name)
+    let known = [LIMIT, IN_USE, JANCEY].contains(&&*name)
         || Output::of_option(&name).is_some()
         || !matches!(alone(&name, None), Ok(None));
     let what = if known { "is an option" } else { "begins as options do" };

@@ -5,7 +5,7 @@ use kohlenfloh::{made, RunOptions};
 
 use crate::digits::{percent, quotient};
 use crate::help::MADE;
-use crate::options::Wanted;
+use crate::options::{Options, Wanted};
 use crate::work::Work;
 
 /// What is said of a shade that no pixel has.
@@ -25,6 +25,8 @@ pub struct Order {
     pub average: [u8; 3],
     /// Rounds made.
     pub rounds: usize,
+    /// Whether they were made by Jancey's rule.
+    pub jancey: bool,
     /// Whether the last round moved no shade.
     pub settled: bool,
     /// The mapping's error.
@@ -57,7 +59,7 @@ impl Line {
 
 impl Order {
     /// The order for a picture. The pixels of each shade are counted from the index picture.
-    pub fn of(name: String, work: &Work<'_>, wanted: &Wanted) -> Order {
+    pub fn of(name: String, work: &Work<'_>, options: &Options) -> Order {
         let mut lines: Vec<Line> = work.palette.entries().map(|levels| Line { levels, pixels: 0 }).collect();
         for number in &work.index {
             lines[usize::from(*number)].pixels += 1;
@@ -69,9 +71,10 @@ impl Order {
             colours: work.colours,
             average: work.average,
             rounds: work.run.rounds,
+            jancey: options.jancey,
             settled: work.run.settled,
             error: work.error,
-            wanted_in_use: match wanted {
+            wanted_in_use: match &options.wanted {
                 Wanted::Count(_) => None,
                 Wanted::InUse(number) => Some(number.value),
             },
@@ -98,6 +101,11 @@ impl Order {
     fn reason(&self) -> String {
         let reason = |wanted| format!("; {} is the smallest count that uses {wanted}", self.lines.len());
         self.wanted_in_use.map(reason).unwrap_or_default()
+    }
+
+    /// How many rounds were made, and by which rule where it is not the usual one.
+    pub fn rounds_in_words(&self) -> String {
+        format!("{}{}", self.rounds, if self.jancey { ", by Jancey's rule" } else { "" })
     }
 
     /// Whether more rounds can be asked for, and may lower the error.
@@ -156,7 +164,7 @@ impl Order {
             hex(self.average),
             self.use_in_words(),
             self.reason(),
-            self.rounds,
+            self.rounds_in_words(),
             self.settled_in_words(),
             self.error,
             self.mean(),
@@ -194,9 +202,10 @@ mod tests {
     #[test]
     fn the_most_rounds_are_told_as_such() {
         let (average, lines) = ([0; 3], vec![Line { levels: [0; 3], pixels: 1 }]);
-        let (name, rounds, settled, wanted_in_use) = (String::new(), 200, false, None);
+        let (name, rounds, jancey, settled, wanted_in_use) = (String::new(), 200, false, false, None);
+        let (width, height, colours, error) = (1, 1, 1, 0);
         let mut order =
-            Order { name, width: 1, height: 1, colours: 1, average, rounds, settled, error: 0, wanted_in_use, lines };
+            Order { name, width, height, colours, average, rounds, jancey, settled, error, wanted_in_use, lines };
         assert!(order.sheet().contains("\nsettled            no, and 200 rounds are the most there can be\n"));
         order.rounds = 199;
         assert!(order.sheet().contains("\nsettled            no: more rounds may lower the error, ask for them by"));

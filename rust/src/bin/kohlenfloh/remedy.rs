@@ -38,7 +38,8 @@ impl Way {
             Some(name) => format!("{of_file} {name}"),
             None => format!("... | {of_pipe}"),
         };
-        format!("With {package} installed, {does}:\n    {first}{rest} | kohlenfloh shades {}", options.wanted)
+        let shades = format!("kohlenfloh shades {}{}", options.wanted, if options.jancey { " --jancey" } else { "" });
+        format!("With {package} installed, {does}:\n    {first}{rest} | {shades}")
     }
 }
 

@@ -112,9 +112,9 @@ fn average(levels: [u8; 3]) -> String {
     )
 }
 
-/// Rounds made, whether the shades are settled, and under it, where they are not, what can be asked for.
+/// Rounds made and their rule, whether the shades are settled, and under it, where they are not, what can be asked for.
 fn rounds(order: &Order) -> String {
-    let (rounds, most) = (order.rounds, RunOptions::MOST_ROUNDS);
+    let (rounds, most) = (order.rounds_in_words(), RunOptions::MOST_ROUNDS);
     if order.settled {
         return format!("{rounds}, settled");
     }

@@ -35,6 +35,7 @@ pub fn json(order: &Order, run: &Run, limit: usize) -> String {
         ("in_use", order.in_use().to_string()),
         ("wanted_in_use", order.wanted_in_use.map_or("null".into(), |wanted| wanted.to_string())),
         ("limit", limit.to_string()),
+        ("jancey", order.jancey.to_string()),
         ("rounds", order.rounds.to_string()),
         ("settled", order.settled.to_string()),
         ("distances", run.distances.to_string()),

@@ -68,17 +68,16 @@ fn make<'a>(table: &mut Table, input: &'a [u8], options: &Options) -> Result<Wor
     Ok(Work { picture, colours: table.used(), average, run, palette, index, error })
 }
 
-/// The run that is wanted: one of so many shades, or the first of those whose picture uses so many.
+/// The run that is wanted, by its rule: one of so many shades, or the first of those whose picture uses so many.
 fn run_of(table: &Table, options: &Options, progress: &Progress) -> Result<Run, Failed> {
-    let Options { wanted, limit, .. } = options;
-    let tell = |count: usize| {
+    let Options { wanted, limit, jancey, .. } = options;
+    let run_by_rule = if *jancey { Table::run_jancey } else { Table::run };
+    let run = |count: usize| {
         progress.say(&format!("looking for {count} shades of {} colours", grouped(table.used() as u64)));
+        run_by_rule(table, RunOptions::shades(count).limit(limit.value))
     };
     match wanted {
-        Wanted::InUse(number) => in_use::find(table, number.value, limit.value, tell),
-        Wanted::Count(number) => {
-            tell(number.value);
-            Ok(table.run(RunOptions::shades(number.value).limit(limit.value))?)
-        }
+        Wanted::InUse(number) => in_use::find(table, number.value, run),
+        Wanted::Count(number) => Ok(run(number.value)?),
     }
 }
