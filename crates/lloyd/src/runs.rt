@@ -94,7 +94,10 @@ pub fn run(
 // A run in which a shade with a group steps past the mean: on each coordinate nine fifths of the
 // way from where it stands to the exact mean of its group, to the nearest sixteenth, halves up, and
 // held to 0 and 4080; where that ends as far from the exact mean as it began, or farther, on the
-// rounded mean. In all else it is `run`: it begins, counts, ends and refuses as that does.
+// rounded mean. In all else it is `run`: it begins, counts and ends as that does.
+// Refuses, in this order: 2 BAD TABLE, 4 BAD COUNT, 5 FEW COLOURS, 6 BAD LIMIT, 7 SHORT ROOM, each
+// where `run` does. Leaves in members and totals what `run` leaves there; a refusal leaves both as
+// they came.
 pub fn run_jancey(
     rec: Record,
     keys: &[u32],
