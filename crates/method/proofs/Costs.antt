@@ -1,9 +1,11 @@
 -- What a shade costs weighted colours: the laws of one coordinate, added up over the three.
+use mathlib.Core.Bool.{Bool, true, false, cond}
 use mathlib.Core.Path.{_≡_, refl, ap, _∙_}
-use Prim.Native.Nat.{ℕ, zero, suc, _+_, _*_, _≤_, _<_}
-use native.Mathlib.Nat.{mul-sub}
+use Prim.Native.Nat.{ℕ, _+_, _*_, _≤_, _<_}
+use native.Mathlib.Nat.{mul-sub, pos-of-ne-zero}
 use native.Mathlib.Omega.{arith}
-use borrow.Author.Tests.{eq-eqb, ne-eqb}
+use lib.Dec.{eqb}
+use borrow.Author.Tests.{eq-eqb, ne-eqb, eqb-true, eqb-false}
 use Rattle.number.specs.{sq, cost}
 use Rattle.number.proofs.Costs.{cauchy, cost-parts}
 use Rattle.number.proofs.Fractions.{fraction-exact, fraction-parts}
@@ -104,6 +106,18 @@ module _ (C : Colours) where
     b-low = mean-fits (on (λ p. p .b) C) pos m (λ i l. h i .b-low);
   }
 
+-- ---- rules by which a shade with no group stays
+
+-- what holds of a shade that stays, where the group is empty, and of where it goes, where it is not, holds of where the
+-- rule puts it
+pub put-by-group : (P : Point → Type 0) (G : Colours) (z there : Point) → (pixelsIn G ≡ 0 → P z)
+    → (0 < pixelsIn G → P there) → P (cond (eqb (pixelsIn G) 0) z there)
+put-by-group P G z there stays goes = by (eqb (pixelsIn G) 0) refl
+  where
+    by : (t : Bool) → eqb (pixelsIn G) 0 ≡ t → P (cond t z there)
+    by true e = stays (eqb-true (pixelsIn G) 0 e)
+    by false e = goes (pos-of-ne-zero (eqb-false (pixelsIn G) 0 e))
+
 -- ---- Lloyd's rule
 
 -- a shade with a group goes to its rounded mean
@@ -116,20 +130,14 @@ to-mean-stays q G z e = rw (eq-eqb (pixelsIn G) 0 e)
 
 -- whatever place a shade could have, its group costs no more where Lloyd's rule puts it
 pub to-mean-least : (q : ℕ) (G : Colours) (y z : Point) → costAt G (toMean q G y) ≤ costAt G z
-to-mean-least q G y z = go (pixelsIn G) refl
-  where
-    go : (w : ℕ) → pixelsIn G ≡ w → costAt G (toMean q G y) ≤ costAt G z
-    go zero e = omega (arith, empty-costs-nothing G e (toMean q G y))
-    go (suc w) e = rw (to-mean-moves q G y (omega arith)) (mean-costs-least G (omega arith) z)
+to-mean-least q G y z =
+    put-by-group (λ p. costAt G p ≤ costAt G z) G y (meanOf G) (λ e. omega (arith, empty-costs-nothing G e y))
+    (λ pos. mean-costs-least G pos z)
 
 -- where neither the shade nor a colour is above m, it does not go above m
 pub to-mean-within : (m q : ℕ) (G : Colours) (z : Point) → ((i : ℕ) → Within m (G .c i)) → Within m z
     → Within m (toMean q G z)
-to-mean-within m q G z h w = go (pixelsIn G) refl
-  where
-    go : (n : ℕ) → pixelsIn G ≡ n → Within m (toMean q G z)
-    go zero e = rw (to-mean-stays q G z e) w
-    go (suc n) e = rw (to-mean-moves q G z (omega arith)) (mean-within G m h (omega arith))
+to-mean-within m q G z h w = put-by-group (Within m) G z (meanOf G) (λ e. w) (mean-within G m h)
 
 -- so it costs the group no more than staying; and it keeps to the grid
 pub to-mean-good : GoodRule toMean

@@ -14,7 +14,7 @@ use Rattle.shades.specs.{axis}
 use Rattle.method.specs.Colouring.{Colours, on, pixelsIn, sumsOf, costAt, meanOf, leapOf}
 use Rattle.method.specs.Rules.{Rule, leapTo, kindOf, GoodRule, Rests, Move, Goes, moveOf}
 use Rattle.method.proofs.Axes.{choice-axis, to-mean-axis}
-use Rattle.method.proofs.Costs.{costs-no-more, mean-within, to-mean-good}
+use Rattle.method.proofs.Costs.{costs-no-more, mean-within, put-by-group, to-mean-good}
 
 -- ---- Jancey's rule
 
@@ -48,18 +48,10 @@ leap-within G z h pos =
 -- so the rule costs a group no more than staying, and keeps to the grid
 pub leap-to-good : GoodRule leapTo
 leap-to-good = record {
-  no-dearer = λ q G z. cheap q G z (pixelsIn G) refl;
-  keeps = λ q G z h w. low q G z h w (pixelsIn G) refl;
+  no-dearer = λ q G z.
+      put-by-group (λ p. costAt G p ≤ costAt G z) G z (leapOf G z) (λ e. le-refl _) (leap-costs-no-more G z);
+  keeps = λ q G z h w. put-by-group (Within mostCoordinate) G z (leapOf G z) (λ e. w) (leap-within G z h);
 }
-  where
-    cheap : (q : ℕ) (G : Colours) (z : Point) (n : ℕ) → pixelsIn G ≡ n → costAt G (leapTo q G z) ≤ costAt G z
-    cheap q G z zero e = rw (leap-to-stays q G z e) (le-refl _)
-    cheap q G z (suc n) e = rw (leap-to-moves q G z (omega arith)) (leap-costs-no-more G z (omega arith))
-
-    low : (q : ℕ) (G : Colours) (z : Point) → ((i : ℕ) → Within mostCoordinate (G .c i)) → Within mostCoordinate z
-        → (n : ℕ) → pixelsIn G ≡ n → Within mostCoordinate (leapTo q G z)
-    low q G z h w zero e = rw (leap-to-stays q G z e) w
-    low q G z h w (suc n) e = rw (leap-to-moves q G z (omega arith)) (leap-within G z h (omega arith))
 
 -- a shade that the step leaves where it stands is on the rounded mean
 leap-of-rests : (G : Colours) (z : Point) → leapOf G z ≡ z → z ≡ meanOf G
