@@ -42,6 +42,7 @@ use Rattle.lloyd.specs.Calling.{shortCalls, lentStart, Stays}
 use Rattle.lloyd.specs.Outcomes.{AcceptedRun, left}
 use Rattle.lloyd.specs.declared.Ran.{Ran}
 use Rattle.lloyd.proofs.Accepted.{tests, making, joined}
+use Rattle.lloyd.proofs.Ends.{settled-final}
 use Rattle.lloyd.proofs.Made.{
   rounds-made,
   rounds-within,
@@ -50,7 +51,6 @@ use Rattle.lloyd.proofs.Made.{
   left-is,
   left-fit,
   member-below,
-  settled-final,
 }
 
 -- ---- what a single round makes of the front of a state

@@ -8,6 +8,8 @@ pub mod Wholes
 pub mod Beginnings
 -- What a run that is made leaves and answers.
 pub mod Made
+-- Where it ends: what its last grouping costs, and a settled one.
+pub mod Ends
 -- What every accepted run answers and leaves.
 pub mod Accepted
 -- A run depends on the used entries alone.

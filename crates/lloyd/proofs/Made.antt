@@ -1,61 +1,41 @@
--- What a run that is made leaves and answers: from any state that is fit for a round, by any good rule. What
--- more a law asks of the rule stands in front of it.
+-- What a run that is made leaves and answers: from any state that is fit for a round, by any good rule.
 use Prim.Native.Nat.{ℕ, _+_, _-_, _*_, _≤_, _<_}
-use mathlib.Core.Bool.{true, false}
+use mathlib.Core.Bool.{false}
 use mathlib.Core.List.{List}
 use mathlib.Core.Path.{_≡_, sym, ap, ap₂, _∙_}
 use native.Mathlib.Nat.{le-refl, le-trans, mul-le-mul, mul-le-mul-left}
 use native.Mathlib.Omega.{arith}
 use lib.ListN.{getD, length}
 use lib.Dec.{eqb}
-use borrow.Author.Tests.{eqb-true}
-use Rattle.number.specs.{sum, sumOf, numbersBelow}
+use Rattle.number.specs.{sum}
 use Rattle.number.proofs.Fills.{fill-at, fill-kept}
-use Rattle.number.proofs.ListSums.{sumOf-numbers}
 use Rattle.number.proofs.Sums.{sum-bound}
-use Rattle.colour.specs.{Point, distance, mostPixels, mostDistance}
+use Rattle.colour.specs.{mostPixels, mostDistance}
 use Rattle.table_entries.specs.{mostEntries}
 use Rattle.shades.specs.{shadeAt, mostShades, OnGrid}
 use Rattle.method.specs.{
   Rule,
   GoodRule,
-  Means,
-  Rests,
   Colours,
   Fair,
   State,
   stateOf,
   Fit,
   Joined,
-  Bounded,
-  SumBounded,
-  leastSum,
-  From,
   groupAt,
   groupCost,
   groupIn,
   pixelsIn,
-  meanOf,
   step,
   after,
   quiet,
   totalOf,
   movedOf,
   finalOf,
-  joins,
   shortDistances,
   roundsMade,
 }
-use Rattle.method.proofs.Bounds.{from-zero, sum-bounded}
-use Rattle.method.proofs.Ends.{
-  shade-on-mean,
-  shade-bounded,
-  final-by-groups,
-  final-least,
-  still-final,
-  still-joined,
-  still-on-mean,
-}
+use Rattle.method.proofs.Ends.{final-by-groups}
 use Rattle.method.proofs.Falls.{
   after-more,
   after-fit,
@@ -107,7 +87,7 @@ module _ {rule : Rule} {C : Colours} {k limit : ℕ} {a : State} {ts : List ℕ}
       ∙ sym (made-last limit (quiet rule C k a) (r .rounds) (rounds-within .0) rounds-made)
 
   -- each state on the way is fit
-  fit-at : (n : ℕ) → Fit C k (after rule C k a n)
+  pub fit-at : (n : ℕ) → Fit C k (after rule C k a n)
   fit-at = after-fit rule C k a (m .good) (m .fair) (m .fit)
 
   -- each round moves a shade by the rule
@@ -127,15 +107,15 @@ module _ {rule : Rule} {C : Colours} {k limit : ℕ} {a : State} {ts : List ℕ}
       ap (after rule C k a) e ∙ after-more rule C k a (r .rounds - 1)
 
   -- the shades are its shades
-  shades-last : r .shades ≡ step rule C k (after rule C k a (r .rounds - 1)) .coordinates
+  pub shades-last : r .shades ≡ step rule C k (after rule C k a (r .rounds - 1)) .coordinates
   shades-last = ap (λ (x : Ran). x .shades) (m .meets .answer) ∙ ap (λ (z : State). z .coordinates) by-last
 
   -- the members are its members
-  members-last : members ≡ step rule C k (after rule C k a (r .rounds - 1)) .members
+  pub members-last : members ≡ step rule C k (after rule C k a (r .rounds - 1)) .members
   members-last = m .meets .members-are ∙ ap (λ (z : State). z .members) by-last
 
   -- and the final total is that of both
-  total-last : r .total ≡ finalOf C (step rule C k (after rule C k a (r .rounds - 1)))
+  pub total-last : r .total ≡ finalOf C (step rule C k (after rule C k a (r .rounds - 1)))
   total-last = ap (λ (x : Ran). x .total) (m .meets .answer) ∙ ap (finalOf C) by-last
 
   -- it leaves what it has after its rounds
@@ -244,70 +224,3 @@ module _ {rule : Rule} {C : Colours} {k limit : ℕ} {a : State} {ts : List ℕ}
         total-recorded (r .rounds - 1) (omega (arith, rounds-within)),
         rounds-end rule C k a (m .good) (m .fair) (m .fit) (r .rounds - 1),
       )
-
-  -- ---- the shades from f on, of a rule that goes to the mean there
-
-  module _ (f : ℕ) (mean : Means f rule) where
-    -- with the others where they are, no other shades give the last grouping a smaller total
-    pub final-is-least : (s : ℕ → Point) → ((q : ℕ) → q < f → s q ≡ shadeAt (r .shades) q)
-        → r .total ≤ sum (C .n) (λ i. C .w i * distance (C .c i) (s (getD members i 0)))
-    final-is-least s fixed =
-        rw (total-last, members-last)
-        (final-least rule C k (after rule C k a (r .rounds - 1)) (fit-at (r .rounds - 1)) f mean s
-        (λ q l. fixed q l ∙ ap (λ c. shadeAt c q) shades-last))
-
-    -- the cost of each group from f on is bounded by its least
-    pub group-bounded : (q : ℕ) → f ≤ q → Bounded (groupAt C (left r members) q) (groupCost C (left r members) q)
-    group-bounded q free =
-        rw (shades-last, members-last)
-        (shade-bounded rule C k (after rule C k a (r .rounds - 1)) (fit-at (r .rounds - 1)) f mean q free)
-
-    -- and so is the sum over any of them
-    pub groups-bounded : (qs : List ℕ) → From f qs
-        → SumBounded (leastSum (groupAt C (left r members)) qs)
-        (sumOf (λ q. pixelsIn (groupAt C (left r members) q)) qs) (sumOf (groupCost C (left r members)) qs)
-    groups-bounded qs free =
-        sum-bounded f (groupAt C (left r members)) (groupCost C (left r members)) qs free group-bounded
-
-    -- a shade with a group stands on its rounded mean
-    pub stands-on-mean : (q : ℕ) → f ≤ q → q < k → 0 < pixelsIn (groupAt C (left r members) q)
-        → shadeAt (r .shades) q ≡ meanOf (groupAt C (left r members) q)
-    stands-on-mean q free l =
-        rw (shades-last, members-last)
-        (shade-on-mean rule C k (after rule C k a (r .rounds - 1)) (fit-at (r .rounds - 1)) f mean q free l)
-
-  -- where the rule goes to the mean throughout, the final total is bounded by the leasts of all groups
-  pub total-bounded : Means 0 rule
-      → SumBounded (leastSum (groupAt C (left r members)) (numbersBelow k)) (pixelsIn C) (r .total)
-  total-bounded mean =
-      let pixels = sumOf-numbers k (λ q. pixelsIn (groupAt C (left r members) q)) ∙ sym groups-have-all in
-      let cost = sumOf-numbers k (groupCost C (left r members)) ∙ sym total-is-groups in
-      rw (pixels, cost) at (groups-bounded 0 mean (numbersBelow k) (from-zero (numbersBelow k)))
-
-  -- ---- a settled run
-
-  module _ (settled : r .settled ≡ true) where
-    -- the last round moves no shade
-    still : movedOf rule C k (after rule C k a (r .rounds - 1)) ≡ 0
-    still = eqb-true _ 0 (sym settled-is ∙ settled)
-
-    -- then the final total is the last recorded one
-    pub settled-final : r .total ≡ getD totals (r .rounds - 1) 0
-    settled-final =
-        total-last
-        ∙ still-final rule C k (after rule C k a (r .rounds - 1)) (fit-at (r .rounds - 1)) still
-        ∙ sym (total-recorded (r .rounds - 1) (omega (arith, rounds-within)))
-
-    -- each member is the nearest of the final shades
-    pub settled-joined : (i : ℕ) → i < C .n → getD members i 0 ≡ joins C k (r .shades) i
-    settled-joined i l =
-        rw (members-last, shades-last)
-        (still-joined rule C k (after rule C k a (r .rounds - 1)) (fit-at (r .rounds - 1)) still i l)
-
-    -- and each shade with a group from f on stands on its rounded mean, where the rule rests only there
-    pub settled-on-mean : (f : ℕ) → Rests f rule → (q : ℕ) → f ≤ q → q < k
-        → 0 < pixelsIn (groupAt C (left r members) q)
-        → shadeAt (r .shades) q ≡ meanOf (groupAt C (left r members) q)
-    settled-on-mean f resting q free l =
-        rw (shades-last, members-last)
-        (still-on-mean rule C k (after rule C k a (r .rounds - 1)) (fit-at (r .rounds - 1)) still f resting q free l)

@@ -74,7 +74,8 @@ pub use Jancey.{jancey-only}
 -- limit 0 is limit 100, a settled one is the same with any limit that has its rounds, and no more is read than used
 pub use Jancey.{jancey-of-usual, jancey-settled-at-any-limit, jancey-of-used, jancey-by-truth}
 -- an accepted one makes rounds of Jancey's rule from the starting shades of a run
-pub use Jancey.{jancey-accepted, jancey-first-is-mean, jancey-start-is-farthest}
+pub use Jancey.{jancey-accepted, jancey-first-is-mean, jancey-first-by-sums}
+pub use Jancey.{jancey-start-is-farthest, jancey-starts-differ}
 -- the step, coordinate by coordinate, in whole numbers; a shade with no group stays
 pub use Jancey.{jancey-steps, jancey-stays}
 -- its rounds and totals: these never rise, and the final one is not above the last

@@ -34,6 +34,7 @@ use Rattle.method.specs.{
 }
 use Rattle.method.proofs.Begins.{begin-past, begin-kept}
 use Rattle.method.proofs.Rules.{kind-goes, leap-to-good, leap-to-rests, leap-to-steps, leap-to-stays}
+use Rattle.starts.specs.{meanBySums}
 use Rattle.lloyd_tests.specs.{usualLimit, limitOf}
 use Rattle.lloyd_refusal.specs.{runRows}
 use Rattle.lloyd.specs.Beginning.{FarthestColour}
@@ -41,6 +42,7 @@ use Rattle.lloyd.specs.Outcomes.{RunMeets, AcceptedJancey, runOf, jancey
 use Rattle.lloyd.specs.declared.Ran.{Ran}
 use Rattle.lloyd.proofs.Accepted as accepted
 use Rattle.lloyd.proofs.Accepted.{by-leaps, jancey-tests, jancey-making}
+use Rattle.lloyd.proofs.Ends as ends
 use Rattle.lloyd.proofs.Limits as limits
 use Rattle.lloyd.proofs.Made as made
 use Rattle.lloyd.proofs.Used as used
@@ -126,12 +128,23 @@ module _ {rec : Record} {ks ws : List ℕ} {k limit : ℕ} {ms ts : List ℕ} {r
       ≡ meanOf (coloursOf (rec .used) ks ws)
   jancey-first-is-mean = accepted.first-is-mean (jancey-tests h)
 
+  -- And that is read from the record's channel sums.
+  pub jancey-first-by-sums : shadeAt (begin (coloursOf (rec .used) ks ws) k ms .coordinates) 0
+      ≡ meanBySums (rec .pixels) (rec .red) (rec .green) (rec .blue)
+  jancey-first-by-sums = accepted.first-by-sums (jancey-tests h)
+
   -- Each next shade begins on the table colour whose distance to its nearest shade before it is greatest; every colour
   -- with a lower key is strictly nearer.
   pub jancey-start-is-farthest : (q : ℕ) → q + 1 < k
       → FarthestColour (rec .used) ks (begin (coloursOf (rec .used) ks ws) k ms .coordinates) (q + 1)
       (shadeAt (begin (coloursOf (rec .used) ks ws) k ms .coordinates) (q + 1))
   jancey-start-is-farthest = accepted.start-is-farthest (jancey-tests h)
+
+  -- It begins with k shades in k different places.
+  pub jancey-starts-differ : (p q : ℕ) → p < q → q < k
+      → ¬ (shadeAt (begin (coloursOf (rec .used) ks ws) k ms .coordinates) p
+      ≡ shadeAt (begin (coloursOf (rec .used) ks ws) k ms .coordinates) q)
+  jancey-starts-differ = accepted.starts-differ (jancey-tests h)
 
   -- ---- its steps
 
@@ -233,13 +246,13 @@ module _ {rec : Record} {ks ws : List ℕ} {k limit : ℕ} {ms ts : List ℕ} {r
       → 0 < pixelsIn (groupAt (coloursOf (rec .used) ks ws) (left r members) q)
       → shadeAt (r .shades) q ≡ meanOf (groupAt (coloursOf (rec .used) ks ws) (left r members) q)
   jancey-settled-on-mean settled q =
-      made.settled-on-mean (jancey-making h) settled 0 leap-to-rests q (omega arith)
+      ends.settled-on-mean (jancey-making h) settled 0 leap-to-rests q (omega arith)
 
   -- The final total is then the last recorded one.
   pub jancey-settled-final : r .settled ≡ true → r .total ≡ getD totals (r .rounds - 1) 0
-  jancey-settled-final = made.settled-final (jancey-making h)
+  jancey-settled-final = ends.settled-final (jancey-making h)
 
   -- And each used member is the nearest of the answered shades, the lowest number at a tie.
   pub jancey-settled-joined : r .settled ≡ true → (i : ℕ) → i < rec .used
       → getD members i 0 ≡ nearestShade (r .shades) k (colourAt ks i)
-  jancey-settled-joined = made.settled-joined (jancey-making h)
+  jancey-settled-joined = ends.settled-joined (jancey-making h)

@@ -49,6 +49,7 @@ use Rattle.lloyd.specs.Outcomes.{AcceptedRun, runOf, madeRun, left}
 use Rattle.lloyd.specs.declared.Ran.{Ran}
 use Rattle.lloyd.proofs.Accepted as accepted
 use Rattle.lloyd.proofs.Accepted.{tests, making}
+use Rattle.lloyd.proofs.Ends as ends
 use Rattle.lloyd.proofs.Made as made
 use Rattle.lloyd.proofs.Wholes as wholes
 
@@ -131,7 +132,7 @@ module _ {rec : Record} {ks ws : List ℕ} {k limit : ℕ} {ms ts : List ℕ} {r
   -- For the last round's grouping no other shades, with any whole coordinates, give a smaller total.
   pub final-is-least : (s : ℕ → Point)
       → r .total ≤ sum (rec .used) (λ i. getD ws i 0 * distance (colourAt ks i) (s (getD members i 0)))
-  final-is-least s = made.final-is-least (making h) 0 to-mean-means s (λ q l. absurd (omega arith))
+  final-is-least s = ends.final-is-least (making h) 0 to-mean-means s (λ q l. absurd (omega arith))
 
   -- The final total is the sum over the shades of what each costs its group.
   pub total-is-groups : r .total ≡ sum k (groupCost (coloursOf (rec .used) ks ws) (left r members))
@@ -142,20 +143,20 @@ module _ {rec : Record} {ks ws : List ℕ} {k limit : ℕ} {ms ts : List ℕ} {r
   pub group-bounded : (q : ℕ)
       → Bounded (groupAt (coloursOf (rec .used) ks ws) (left r members) q)
       (groupCost (coloursOf (rec .used) ks ws) (left r members) q)
-  group-bounded q = made.group-bounded (making h) 0 to-mean-means q (omega arith)
+  group-bounded q = ends.group-bounded (making h) 0 to-mean-means q (omega arith)
 
   -- The same in sum, over any list of groups, the leasts added up as a fraction.
   pub groups-bounded : (qs : List ℕ)
       → SumBounded (leastSum (groupAt (coloursOf (rec .used) ks ws) (left r members)) qs)
       (sumOf (λ q. pixelsIn (groupAt (coloursOf (rec .used) ks ws) (left r members) q)) qs)
       (sumOf (groupCost (coloursOf (rec .used) ks ws) (left r members)) qs)
-  groups-bounded qs = made.groups-bounded (making h) 0 to-mean-means qs (from-zero qs)
+  groups-bounded qs = ends.groups-bounded (making h) 0 to-mean-means qs (from-zero qs)
 
   -- In one line, over all groups: the final total is never below what fractional shades could give this grouping, and
   -- above it by at most three quarters of a squared sixteenth for each of the record's pixels.
   pub total-bounded : SumBounded
       (leastSum (groupAt (coloursOf (rec .used) ks ws) (left r members)) (numbersBelow k)) (rec .pixels) (r .total)
-  total-bounded = rw (accepted.pixels-are (tests h)) (made.total-bounded (making h) to-mean-means)
+  total-bounded = rw (accepted.pixels-are (tests h)) (ends.total-bounded (making h) to-mean-means)
 
   -- The groups' pixels add up to the record's.
   pub groups-have-all : rec .pixels
@@ -194,7 +195,7 @@ module _ {rec : Record} {ks ws : List ℕ} {k limit : ℕ} {ms ts : List ℕ} {r
   -- Each shade with a group stands on the rounded mean of its group.
   pub stands-on-mean : (q : ℕ) → q < k → 0 < pixelsIn (groupAt (coloursOf (rec .used) ks ws) (left r members) q)
       → shadeAt (r .shades) q ≡ meanOf (groupAt (coloursOf (rec .used) ks ws) (left r members) q)
-  stands-on-mean q = made.stands-on-mean (making h) 0 to-mean-means q (omega arith)
+  stands-on-mean q = ends.stands-on-mean (making h) 0 to-mean-means q (omega arith)
 
   -- Every answered coordinate is on the grid.
   pub shades-low : OnGrid (r .shades)
@@ -230,7 +231,7 @@ module _ {rec : Record} {ks ws : List ℕ} {k limit : ℕ} {ms ts : List ℕ} {r
   pub total-most : r .total ≤ mostPixels * mostDistance
   total-most = made.total-most (making h)
 
-  -- Each round works out at most 65 distances for each entry of a full table.
+  -- Each round works out at most 64 distances for each entry of a full table.
   pub distances-most : r .distances ≤ r .rounds * (mostEntries * mostShades)
   distances-most = made.distances-most (making h) (accepted.joined (tests h))
 
@@ -238,9 +239,9 @@ module _ {rec : Record} {ks ws : List ℕ} {k limit : ℕ} {ms ts : List ℕ} {r
 
   -- Where the run is settled, the final total is the last recorded one.
   pub settled-final : r .settled ≡ true → r .total ≡ getD totals (r .rounds - 1) 0
-  settled-final = made.settled-final (making h)
+  settled-final = ends.settled-final (making h)
 
   -- And each used member is the nearest of the answered shades, the lowest number at a tie.
   pub settled-joined : r .settled ≡ true → (i : ℕ) → i < rec .used
       → getD members i 0 ≡ nearestShade (r .shades) k (colourAt ks i)
-  settled-joined = made.settled-joined (making h)
+  settled-joined = ends.settled-joined (making h)
