@@ -49,6 +49,7 @@ pub fn make_rounds(
         (stateOf (now (shades .exit)) (now (members .exit)))
         (now (totals .entry)) (now (totals .exit)) (r .rounds) (r .settled) (r .distances) ⌝ }
 {
+    let mut rows = [0u32; 4096];
     let mut sums = [0u64; 128];
     let mut anew = true;
     let mut r = 0;
@@ -63,6 +64,7 @@ pub fn make_rounds(
             shades,
             count,
             leaps,
+            &mut rows,
             members,
             anew,
             &mut sums,

@@ -1,4 +1,7 @@
 // One round: the grouping, by either search, and then the move.
+ghost use Prim.Native.Nat.{_*_, _≤_};
+ghost use lib.ListN.{length};
+ghost use Rattle.shades.specs.{mostShades};
 ghost use Rattle.method.specs.{
   stateOf,
   coloursOf,
@@ -42,8 +45,9 @@ pub fn plain_step(
 }
 
 // One round by the shortened search, by Jancey's rule where the shades leap, which leaves the sums
-// of its groups in `sums`. Requires the same, that each member is a shade's number, and in `sums`
-// those of the former groups, or zeros where they are taken anew.
+// of its groups in `sums`. What `rows` holds afterwards is not said. Requires the same, that each
+// member is a shade's number, in `sums` those of the former groups, or zeros where they are taken
+// anew, and room in `rows`.
 pub fn next_step(
     keys: &[u32],
     weights: &[u32],
@@ -51,11 +55,13 @@ pub fn next_step(
     shades: &mut [u32],
     count: usize,
     leaps: bool,
+    rows: &mut [u32],
     members: &mut [u32],
     anew: bool,
     sums: &mut [u64; 128],
 ) -> Stepped
     requires { ⌜ Walkable used (now keys) (now weights) count (stateOf (now shades) (now members))
+        × (mostShades * count ≤ length (now rows))
         × Summed (memberAt (now members)) (now keys) (now weights) (covered anew used 0)
         (now sums) ⌝ }
     ensures step { λ r. ⌜ StepMeets (kindOf leaps)
@@ -67,14 +73,13 @@ pub fn next_step(
     ensures sums { λ _. ⌜ Summed (memberAt (now (members .exit))) (now (keys .entry))
         (now (weights .entry)) used (now (sums .exit)) ⌝ }
 {
-    let mut rows = [0u32; 4096];
     let a = groups::regroup(
         keys,
         weights,
         used,
         shades,
         count,
-        &mut rows,
+        rows,
         members,
         anew,
         sums,
@@ -105,6 +110,7 @@ pub fn short_step(
         (stateOf (now (shades .exit)) (now (members .exit)))
         (r .total) (r .moved) (r .distances) ⌝ }
 {
+    let mut rows = [0u32; 4096];
     let mut sums = [0u64; 128];
     next_step(
         keys,
@@ -113,6 +119,7 @@ pub fn short_step(
         shades,
         count,
         false,
+        &mut rows,
         members,
         true,
         &mut sums,

@@ -6,21 +6,18 @@ use Rattle.rounds_step.proofs.round.next_step.Tie as tie
 
 -- where the call began, from the grouping
 abbrev st : tie.After-regroup → tie.Start
-st c = c .before .before .before .before .before .before .before .before .before
+st c = c .before .before .before .before .before .before .before .before .before .before
 
 -- the grouping, from the move
 abbrev regrouped : tie.After-move-shades → tie.After-regroup
-regrouped c = c .before .before .before .before .before .before
-
-slice-aggregate-regroup : tie.Need-slice-aggregate-regroup
-slice-aggregate-regroup c = search needs
+regrouped c = c .before .before .before .before .before .before .before
 
 regroup-requires : tie.Need-regroup-requires
 regroup-requires c κs = search needs
 
 move-shades-requires : tie.Need-move-shades-requires
 move-shades-requires c κs =
-    let g = c .before .before .before .before .before in
+    let g = c .before .before .before .before .before .before in
     move-asked (st g .pre .0 .steppable) (g .regroup .ensures .0)
 
 same-length : tie.Need-same-length
@@ -28,6 +25,9 @@ same-length c = search needs
 
 same-length-2 : tie.Need-same-length-2
 same-length-2 c = search needs
+
+same-length-3 : tie.Need-same-length-3
+same-length-3 c = search needs
 
 returns : tie.Need-returns
 returns c =
@@ -44,9 +44,9 @@ pub next-step-spec : {M : Type 1} → statement M
 next-step-spec =
     tie.close
     (tie.spec
-    slice-aggregate-regroup
     regroup-requires
     move-shades-requires
     same-length
     same-length-2
+    same-length-3
     returns)
