@@ -4,6 +4,8 @@
 //   bit   1 where the test holds, else 0
 //
 // Read next: number/specs/Count.antt (`bit`, and counting by it).
+#![tactic(auto)]
+
 ghost use Rattle.std.specs.Prelude.{◌≡◌, ◌≤◌};
 ghost use Rattle.number.specs.{bit};
 

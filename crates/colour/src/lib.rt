@@ -15,6 +15,8 @@
 //
 // Read next: specs/Lib.antt (what the words mean), proofs/Promises.antt (what is shown of them).
 
+#![tactic(auto)]
+
 mod grid;
 mod key;
 mod mean;
@@ -37,7 +39,7 @@ pub const MOST_SUM: u64 = 4278190080;
 
 // A point of the grid: three coordinates in sixteenths of a level. A shade is one, and a colour
 // stands at one.
-#[derive(Drop)]
+#[derive(Clone, Copy)]
 pub struct Point {
     pub r: u32,
     pub g: u32,

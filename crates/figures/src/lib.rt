@@ -7,19 +7,21 @@
 //
 // Read next: specs/Lib.antt (what the words mean), proofs/Promises.antt (what is shown).
 
+#![tactic(auto)]
+
 mod divide;
 
 pub use divide::{channel_means, mean_figure};
 
 // The mean square error: "no pixels", or a binary64 figure.
-#[derive(Drop)]
+#[derive(Clone, Copy)]
 pub enum Mean {
     NoPixels,
     Value(f64),
 }
 
 // The channel means; zeros for no pixels.
-#[derive(Drop)]
+#[derive(Clone, Copy)]
 pub struct Means {
     pub red: f64,
     pub green: f64,

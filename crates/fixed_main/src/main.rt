@@ -4,6 +4,8 @@
 // totals, which are sevens before the call. A line of a palette is refusal, and of 192 bytes, which
 // are nines before the call, those of shades 0 to 2 and of shade 63. Limits are 0, which means 100,
 // where none is told.
+#![tactic(auto)]
+
 ghost use Rattle.std.specs.Prelude.{◌≤◌};
 
 use libc::STDOUT_FILENO;

@@ -13,6 +13,8 @@
 //
 // Read next: specs/Lib.antt (what the words mean), proofs/Promises.antt (what is shown).
 
+#![tactic(auto)]
+
 mod byte;
 mod decimal;
 
@@ -23,7 +25,7 @@ pub use decimal::{number, place_in};
 pub const MOST_DIGITS: usize = 5;
 
 // What reading a number yields: the number and where it ended, or the place it failed.
-#[derive(Drop)]
+#[derive(Clone, Copy)]
 pub enum Reading {
     Number { value: u32, next: usize },
     Failed { at: usize },

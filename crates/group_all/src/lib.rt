@@ -6,6 +6,8 @@
 //
 // Read next: specs/Lib.antt of group_join (what the words mean), proofs/plain.antt (what is shown).
 
+#![tactic(auto)]
+
 mod plain;
 
 pub use plain::group_plain;

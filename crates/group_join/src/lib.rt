@@ -9,12 +9,14 @@
 //
 // Read next: specs/Lib.antt (what the words mean), proofs/Lib.antt (what is shown).
 
+#![tactic(auto)]
+
 mod entry;
 
 pub use entry::join;
 
 // The total of a grouping, and the distances worked out.
-#[derive(Drop)]
+#[derive(Clone, Copy)]
 pub struct Regrouped {
     pub total: u64,
     pub distances: u64,

@@ -10,6 +10,8 @@
 //
 // Read next: specs/Lib.antt (what the words mean), proofs/Lib.antt (what is shown).
 
+#![tactic(auto)]
+
 mod give;
 mod read;
 
@@ -17,7 +19,7 @@ pub use give::{gift_of, lower, raise};
 pub use read::{level_sum, pixels_of};
 
 // What an entry joins, what that costs, and what it gives to its group's two sums.
-#[derive(Drop)]
+#[derive(Clone, Copy)]
 pub struct Gift {
     pub number: u32,
     pub cost: u64,

@@ -1,6 +1,8 @@
 // Lloyd's run and Jancey's on small tables, the one below the other: answers and slices, held to
 // the file stdout beside src/. A line is refusal, rounds, settled, distances, final total; three
 // shades; three members and twenty totals, which are sevens before the call.
+#![tactic(auto)]
+
 use libc::STDOUT_FILENO;
 use lloyd::Ran;
 use table::Record;

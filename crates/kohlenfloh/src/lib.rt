@@ -18,6 +18,8 @@
 //
 // Read next: specs/Lib.antt (what the words mean), proofs/Promises.antt (what is shown).
 
+#![tactic(auto)]
+
 mod add;
 mod picture;
 mod round;

@@ -8,6 +8,8 @@
 //
 // Read next: specs/Lib.antt (what the words mean), proofs/Lib.antt (what is shown).
 
+#![tactic(auto)]
+
 mod pair;
 
 pub use pair::{blue_pixels, high, low, red_green};

@@ -12,6 +12,8 @@
 //
 // Read next: specs/Lib.antt (what the words mean), proofs/Promises.antt (what is shown).
 
+#![tactic(auto)]
+
 mod call;
 
 pub use call::list_shades;
@@ -20,7 +22,7 @@ pub use call::list_shades;
 pub const MOST_INPUT: usize = 65536;
 
 // The bytes of a listing, zeros behind them, and how many they are.
-#[derive(Drop)]
+#[derive(Clone, Copy)]
 pub struct Listing {
     pub length: usize,
     pub text: [u8; 8448],

@@ -1,6 +1,8 @@
 // Inputs listed one after the other, held to the file stdout beside src/: every refusal that a
 // listing can print, the scope's example, one shade, runs of four rounds and of 20, 64 shades,
 // 8,192 pixels and 8,193, 65,536 bytes and 65,537, headers with comments.
+#![tactic(auto)]
+
 use libc::STDOUT_FILENO;
 use listing::Listing;
 

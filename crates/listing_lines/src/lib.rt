@@ -8,6 +8,8 @@
 //
 // Read next: specs/Lib.antt (what the words mean), proofs/Promises.antt (what is shown).
 
+#![tactic(auto)]
+
 mod count;
 mod line;
 mod text;
@@ -17,7 +19,7 @@ pub use text::put_lines;
 
 // What a listing tells besides its shades: table colours, pixels, rounds, settled as 1 or 0, final
 // total and distances, which stand in line 1, and the mapping error, which is the last line.
-#[derive(Drop)]
+#[derive(Clone, Copy)]
 pub struct Summary {
     pub used: u64,
     pub pixels: u64,

@@ -1,6 +1,8 @@
 // Many inputs listed one after the other, from standard input: before each input its length in five
 // digits, and LF. What is printed is held to the file stdout beside src/, which the model of the
 // scope in compare/ has made, and which tells every slip of a listing apart that it knows.
+#![tactic(auto)]
+
 ghost use Rattle.std.specs.Prelude.{◌+◌, ◌≤◌, ◌<◌, length};
 
 use libc::{STDIN_FILENO, STDOUT_FILENO};

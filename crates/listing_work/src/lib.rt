@@ -8,6 +8,8 @@
 // What they leave is a Work: a refusal's number, or all that the lines of a listing tell.
 //
 // Read next: specs/Lib.antt (what the words mean), proofs/Lib.antt (what is shown).
+#![tactic(auto)]
+
 use listing_lines::Summary;
 
 mod picture;
@@ -20,7 +22,7 @@ pub const LISTED_LIMIT: usize = 20;
 // What the calls leave: 0 or the refusal's number; what the lines tell besides the shades; how many
 // shades there are, and their palette; how many pixels, and their index picture. Zeros stand behind
 // both, and a refusal leaves zeros.
-#[derive(Drop)]
+#[derive(Clone, Copy)]
 pub struct Work {
     pub refusal: u8,
     pub summary: Summary,

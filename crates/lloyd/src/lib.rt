@@ -12,6 +12,8 @@
 //
 // Read next: specs/Lib.antt (what the words mean), proofs/Promises.antt (what is shown).
 
+#![tactic(auto)]
+
 mod runs;
 
 pub use lloyd_refusal::MOST_ROUNDS;
@@ -22,7 +24,7 @@ pub use runs::{refused, run, run_jancey};
 // The answer of a run: 0 or the refusal's number; the shades, three coordinates each, zeros past
 // the count; the rounds made; whether the last moved no shade; the distances of all rounds; the
 // last grouping against the final shades.
-#[derive(Drop)]
+#[derive(Clone, Copy)]
 pub struct Ran {
     pub refusal: u8,
     pub shades: [u32; 192],

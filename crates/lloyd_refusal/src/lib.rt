@@ -7,6 +7,8 @@
 //
 // Read next: specs/Lib.antt (what the words mean).
 
+#![tactic(auto)]
+
 mod order;
 
 pub use order::{room_refusal, run_refusal};

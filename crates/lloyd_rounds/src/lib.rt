@@ -10,13 +10,15 @@
 //
 // Read next: specs/Lib.antt (what the words mean), proofs/Promises.antt (what is shown).
 
+#![tactic(auto)]
+
 mod round;
 
 pub use round::{plain_round, short_round};
 
 // The answer of a single round: 0 or the refusal's number; the round's total; the number of shades
 // that moved; the distances worked out.
-#[derive(Drop)]
+#[derive(Clone, Copy)]
 pub struct Rounded {
     pub refusal: u8,
     pub total: u64,

@@ -10,6 +10,8 @@
 //
 // Read next: specs/Lib.antt (what the words mean), proofs/Lib.antt (what is shown).
 
+#![tactic(auto)]
+
 mod block;
 mod few;
 

@@ -6,10 +6,12 @@
 //
 // Read next: specs/Lib.antt (what the words mean), proofs/Lib.antt (which laws stand where).
 
+#![tactic(auto)]
+
 pub mod settle;
 
 // The sums of squared level differences, one for each channel.
-#[derive(Drop)]
+#[derive(Clone, Copy)]
 pub struct Errors {
     pub red: u64,
     pub green: u64,

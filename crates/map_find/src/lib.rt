@@ -5,6 +5,8 @@
 //
 // Read next: specs/Lib.antt of shades (what the words mean), proofs/Lib.antt (what is shown).
 
+#![tactic(auto)]
+
 mod find;
 
 pub use find::search_slots;

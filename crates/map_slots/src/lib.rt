@@ -7,6 +7,8 @@
 //
 // Read next: specs/Lib.antt (what the words mean), proofs/Lib.antt (what is shown).
 
+#![tactic(auto)]
+
 mod streaks;
 
 pub use streaks::gather;

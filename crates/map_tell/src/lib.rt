@@ -7,4 +7,6 @@
 //
 // Read next: specs/Lib.antt (what the words mean), proofs/Lib.antt (which laws stand where).
 
+#![tactic(auto)]
+
 pub mod tell;

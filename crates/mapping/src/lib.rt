@@ -9,6 +9,8 @@
 // by the crate palette_twins.
 //
 // Read next: specs/Lib.antt (what the words mean), proofs/Promises.antt (what is shown).
+#![tactic(auto)]
+
 use figures::{Mean, Means};
 use map_errors::Errors;
 use palette_twins::Twins;
@@ -20,7 +22,7 @@ pub use call::map_strip;
 // The answer of a mapping: 0 or the refusal's number; the error, and that of each channel; the mean
 // square error, and the mean of each channel; and with TWIN SHADE the numbers of the twins, which
 // are 0 and 0 in every other answer.
-#[derive(Drop)]
+#[derive(Clone, Copy)]
 pub struct Mapped {
     pub refusal: u8,
     pub error: u64,

@@ -6,6 +6,8 @@
 //
 // Read next: specs/Lib.antt (what the words mean), proofs/Lib.antt (what is shown).
 
+#![tactic(auto)]
+
 mod step;
 
 pub use step::move_shades;

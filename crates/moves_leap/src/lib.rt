@@ -6,6 +6,8 @@
 //
 // Read next: the words past_mean, held_past and leap in the crate number.
 
+#![tactic(auto)]
+
 mod step;
 
 pub use step::leap;

@@ -13,6 +13,8 @@
 //
 // Read next: specs/Lib.antt (what the words mean), proofs/Promises.antt (what is shown).
 
+#![tactic(auto)]
+
 mod call;
 mod test;
 
@@ -27,7 +29,7 @@ pub const DEPTH: u32 = 255;
 
 // The answer of a reading: 0 or the refusal's number; for BAD HEADER the offset of the first byte
 // that cannot stand there; width, height and the first place of the raster.
-#[derive(Drop)]
+#[derive(Clone, Copy)]
 pub struct Picture {
     pub refusal: u8,
     pub offset: usize,

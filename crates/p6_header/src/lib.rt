@@ -9,6 +9,8 @@
 //
 // Read next: specs/Lib.antt (what the words mean), proofs/Promises.antt (what is shown).
 
+#![tactic(auto)]
+
 mod field;
 mod read;
 
@@ -16,7 +18,7 @@ pub use read::{bad_at, read_header};
 
 // What reading a header yields: its numbers and the first place after it, or the place of the first
 // byte that cannot stand there, which is the input's length where it ends early.
-#[derive(Drop)]
+#[derive(Clone, Copy)]
 pub enum Header {
     Read {
         width: u32,

@@ -9,6 +9,8 @@
 //
 // Read next: specs/Lib.antt (what the words mean), proofs/Promises.antt (what is shown).
 
+#![tactic(auto)]
+
 mod call;
 
 pub use call::{bad_palette, level_of, palette_from_shades};

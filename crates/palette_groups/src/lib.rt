@@ -10,6 +10,8 @@
 //
 // Read next: specs/Lib.antt (what the words mean), proofs/Promises.antt (what is shown).
 
+#![tactic(auto)]
+
 mod call;
 
 pub use call::palette_from_groups;

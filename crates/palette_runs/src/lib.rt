@@ -2,3 +2,5 @@
 // leaves. There is no function here.
 //
 // Read next: proofs/Promises.antt (what is shown).
+
+#![tactic(auto)]

@@ -7,12 +7,14 @@
 //
 // Read next: specs/Lib.antt (what the words mean), proofs/Promises.antt (what is shown).
 
+#![tactic(auto)]
+
 mod find;
 
 pub use find::twin_of;
 
 // The numbers of two equal entries; 0 and 0 where all entries differ.
-#[derive(Drop)]
+#[derive(Clone, Copy)]
 pub struct Twins {
     pub lower: usize,
     pub higher: usize,

@@ -1,6 +1,8 @@
 // Palettes of groups that are made and refused: each call's answer and the bytes that it leaves,
 // held to the file stdout beside src/. A line is the refusal and seven lent bytes, three for each
 // of two shades and one past them, which are nines before the call.
+#![tactic(auto)]
+
 use libc::STDOUT_FILENO;
 use palette_groups::palette_from_groups;
 use table::Record;

@@ -2,6 +2,8 @@
 // Held to the file stdout beside src/. A line of a picture is refusal, offset, width, height, the
 // raster's first place and its length; then come the lines of the table and of the mapping, those
 // of palettes with twins, and those of pictures with comments.
+#![tactic(auto)]
+
 use libc::STDOUT_FILENO;
 use mapping::Mapped;
 use p6::Picture;

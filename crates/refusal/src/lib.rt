@@ -12,6 +12,8 @@
 //
 // Read next: specs/Lib.antt (what the words mean), proofs/Promises.antt (what is shown of them).
 
+#![tactic(auto)]
+
 pub const DONE: u8 = 0;
 
 pub const BAD_STRIP: u8 = 1;

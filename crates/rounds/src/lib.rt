@@ -8,6 +8,8 @@
 //
 // Read next: specs/Lib.antt (what the words mean), proofs/Lib.antt (what is shown).
 
+#![tactic(auto)]
+
 mod run;
 mod total;
 
@@ -15,7 +17,7 @@ pub use run::{make_run, run_from};
 
 // What a run answers, beside the shades: how many rounds were made, whether the last moved no
 // shade, all distances, and the final total.
-#[derive(Drop)]
+#[derive(Clone, Copy)]
 pub struct Whole {
     pub rounds: usize,
     pub settled: bool,

@@ -2,6 +2,8 @@
 // stdout beside src/. A line of a run is refusal, rounds, settled, distances, final total, two
 // shades, three members, three totals. A line of a single round is refusal, round total, shades
 // moved, distances, two shades, three members.
+#![tactic(auto)]
+
 use libc::STDOUT_FILENO;
 use lloyd::{Ran, Rounded};
 use table::Record;

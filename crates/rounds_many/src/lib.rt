@@ -6,12 +6,14 @@
 //
 // Read next: specs/Lib.antt (what the words mean), proofs/Lib.antt (what is shown).
 
+#![tactic(auto)]
+
 mod many;
 
 pub use many::make_rounds;
 
 // What rounds answer: how many were made, whether the last moved no shade, and all distances.
-#[derive(Drop)]
+#[derive(Clone, Copy)]
 pub struct Series {
     pub rounds: usize,
     pub settled: bool,

@@ -9,12 +9,14 @@
 //
 // Read next: specs/Lib.antt (what the words mean), proofs/Lib.antt (what is shown).
 
+#![tactic(auto)]
+
 mod round;
 
 pub use round::{next_step, plain_step, short_step};
 
 // What a round answers: its total, the shades that moved, the distances worked out.
-#[derive(Drop)]
+#[derive(Clone, Copy)]
 pub struct Stepped {
     pub total: u64,
     pub moved: u32,

@@ -6,3 +6,5 @@
 // Lay specs/Refusals.antt, specs/Constants.antt, specs/Bounds.antt and specs/Comments.antt beside
 // the documents.
 // Read next: specs/Lib.antt (the words and the table), proofs/Promises.antt (that it comes out).
+
+#![tactic(auto)]

@@ -8,6 +8,8 @@
 //
 // Read next: specs/Lib.antt (what the words mean), proofs/Lib.antt (what is shown).
 
+#![tactic(auto)]
+
 mod near;
 
 pub use near::{fill_gaps, walk_gaps};

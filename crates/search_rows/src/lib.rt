@@ -7,13 +7,15 @@
 //
 // Read next: specs/Lib.antt (what the words mean), proofs/Lib.antt (what is shown).
 
+#![tactic(auto)]
+
 mod rank;
 mod rows;
 
 pub use rows::fill_rows;
 
 // The nearest shade's number, its distance, and how many distances were worked out.
-#[derive(Drop)]
+#[derive(Clone, Copy)]
 pub struct Met {
     pub number: u32,
     pub distance: u32,

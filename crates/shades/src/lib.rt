@@ -15,6 +15,8 @@
 //
 // Read next: specs/Lib.antt (what the words mean), proofs/Promises.antt (what is shown of them).
 
+#![tactic(auto)]
+
 mod pick;
 mod place;
 mod reach;

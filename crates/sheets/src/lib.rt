@@ -2,3 +2,5 @@
 // Definitions and theorems alone; there is no function here.
 //
 // Read next: specs/Lib.antt (the words and the table), proofs/Promises.antt (that it comes out).
+
+#![tactic(auto)]

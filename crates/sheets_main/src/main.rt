@@ -1,6 +1,8 @@
 // The sheets that are run: each call's answer, and the slices that it leaves, held to the file
 // stdout beside src/. A line is refusal, taken, used, pixels, the sums of R, G and B, three keys,
 // three weights.
+#![tactic(auto)]
+
 use libc::STDOUT_FILENO;
 use table::{Added, Record};
 

@@ -7,6 +7,8 @@
 //
 // Read next: specs/Lib.antt (what the words mean), proofs/Lib.antt (what is shown).
 
+#![tactic(auto)]
+
 mod far;
 
 pub use far::{first_of, lower_kept};

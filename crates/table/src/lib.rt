@@ -10,13 +10,15 @@
 // Adding stands in add.rt, and its pixels are taken by the crate table_fill; the record and the
 // test are passed on from the crate table_test.
 // Read next: specs/Lib.antt (what the words mean), proofs/Promises.antt (what is shown).
+#![tactic(auto)]
+
 mod add;
 
 pub use add::add_strip;
 pub use table_test::{MOST_ENTRIES, Record, bad_table, room_of};
 
 // The answer of an add: 0 or the refusal's number; the pixels taken; the record as it is then.
-#[derive(Drop)]
+#[derive(Clone, Copy)]
 pub struct Added {
     pub refusal: u8,
     pub taken: usize,

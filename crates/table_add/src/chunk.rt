@@ -9,7 +9,7 @@ use table_merge::merge::merge;
 use table_pixel::pixel::add_pixel;
 
 // Pixels tried, the number of entries with them, and their levels added up.
-#[derive(Drop)]
+#[derive(Clone, Copy)]
 pub struct Chunk {
     pub used: usize,
     pub pixels: usize,

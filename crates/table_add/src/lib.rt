@@ -8,4 +8,6 @@
 // Where that number is above the room, the slices are as they were.
 //
 // Read next: specs/Lib.antt (what the words mean), proofs/Lib.antt (which laws stand where).
+#![tactic(auto)]
+
 pub mod chunk;

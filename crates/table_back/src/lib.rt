@@ -6,4 +6,6 @@
 //   back::place_back   its place among them
 //
 // Read next: specs/Lib.antt (what the words mean), proofs/Lib.antt (which laws stand where).
+#![tactic(auto)]
+
 pub mod back;

@@ -7,12 +7,14 @@
 //   plus          the sums of two lots of pixels together
 //
 // Read next: specs/Lib.antt (what the words mean), proofs/Lib.antt (what is shown).
+#![tactic(auto)]
+
 mod channels;
 
 pub use channels::{pixel_sums, plus, streak_sums};
 
 // The sums of the three channels, in whole levels.
-#[derive(Drop)]
+#[derive(Clone, Copy)]
 pub struct ChannelSums {
     pub red: u64,
     pub green: u64,

@@ -5,4 +5,6 @@
 //   count::PAST_KEYS    above every key: the first key done where there is none
 //
 // Read next: specs/Lib.antt (what the words mean), proofs/Lib.antt (which laws stand where).
+#![tactic(auto)]
+
 pub mod count;

@@ -2,3 +2,5 @@
 // Definitions and laws alone; there is no function here.
 //
 // Read next: specs/Lib.antt (what the words mean), proofs/Promises.antt (what is shown of them).
+
+#![tactic(auto)]

@@ -6,6 +6,8 @@
 //                the used entries then
 //
 // Read next: specs/Lib.antt (what the words mean), proofs/Lib.antt (which laws stand where).
+#![tactic(auto)]
+
 mod take;
 
 pub use take::{Took, take_strip};

@@ -9,7 +9,7 @@ use table_add::chunk::{add_one, add_some};
 use table_channels::{ChannelSums, plus};
 
 // The used entries, the pixels taken, and their levels added up.
-#[derive(Drop)]
+#[derive(Clone, Copy)]
 pub struct Took {
     pub used: usize,
     pub taken: usize,

@@ -5,4 +5,6 @@
 //   lift::move_one       the last of the first entries
 //
 // Read next: specs/Lib.antt (what the words mean), proofs/Lib.antt (which laws stand where).
+#![tactic(auto)]
+
 pub mod lift;

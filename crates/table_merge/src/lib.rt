@@ -5,4 +5,6 @@
 //
 // Read next: specs/Lib.antt of table_count (what the words mean), proofs/Lib.antt (which laws stand
 // where).
+#![tactic(auto)]
+
 pub mod merge;

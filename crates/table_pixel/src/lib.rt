@@ -8,4 +8,6 @@
 // are as they were.
 //
 // Read next: specs/Lib.antt (what the words mean), proofs/Lib.antt (which laws stand where).
+#![tactic(auto)]
+
 pub mod pixel;

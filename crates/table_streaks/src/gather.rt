@@ -8,7 +8,7 @@ ghost use Rattle.table_streaks.specs.Streak.{streak_sum, joins_streak};
 use super::streak::streak_key;
 
 // Streaks in a list, and the pixels in them.
-#[derive(Drop)]
+#[derive(Clone, Copy)]
 pub struct Gathered {
     pub len: usize,
     pub pixels: usize,

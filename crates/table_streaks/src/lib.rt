@@ -9,5 +9,7 @@
 //   streak::streak_pixels  the pixels of a streak
 //
 // Read next: specs/Lib.antt (what the words mean), proofs/Lib.antt (which laws stand where).
+#![tactic(auto)]
+
 pub mod gather;
 pub mod streak;

@@ -8,12 +8,14 @@
 //   other_sums   whether these three are not the sums that gave both
 //
 // Read next: specs/Lib.antt (what the words mean), proofs/Lib.antt (what is shown).
+#![tactic(auto)]
+
 mod sums;
 
 pub use sums::{other_sums, two_sums};
 
 // The keys times their weights, and the second number, over the entries of a table.
-#[derive(Drop)]
+#[derive(Clone, Copy)]
 pub struct TwoSums {
     pub first: u64,
     pub second: u64,

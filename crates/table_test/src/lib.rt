@@ -7,6 +7,8 @@
 // the crate table_sums.
 //
 // Read next: specs/Lib.antt (what the words mean), proofs/Promises.antt (what is shown).
+#![tactic(auto)]
+
 mod test;
 
 pub use test::{bad_table, room_of};
@@ -16,7 +18,7 @@ pub const MOST_ENTRIES: usize = 1048576;
 
 // How many entries are used; the pixels: the sum of the used weights; and the sums of the three
 // channels in whole levels, weights counted.
-#[derive(Drop)]
+#[derive(Clone, Copy)]
 pub struct Record {
     pub used: usize,
     pub pixels: u64,

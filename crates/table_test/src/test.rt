@@ -11,7 +11,7 @@ use bits::bit;
 use table_sums::{other_sums, two_sums};
 
 // What a pass over the weights finds: how many are 0, and their sum.
-#[derive(Drop)]
+#[derive(Clone, Copy)]
 struct Weighed {
     zeros: u32,
     sum: u64,

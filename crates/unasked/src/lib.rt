@@ -5,6 +5,8 @@
 // One file a floor: the table's calls, the method's, those of palette and mapping, those of
 // pictures and the listing, and the boundary's.
 // Read next: src/table_calls.rt, and the calls' own front doors.
+#![tactic(auto)]
+
 mod boundary_calls;
 mod mapping_calls;
 mod method_calls;
