@@ -6,22 +6,22 @@ use Rattle.fixed_main.proofs.show_lent.Statement.{statement}
 use Rattle.fixed_main.proofs.show_lent.Tie as tie
 
 -- what was asked for, from the members lent
-abbrev st : tie.After-members → tie.Start
+abbrev st : tie.After-members-1 → tie.Start
 st c = c.before.before.before.before
 
-array-borrow-prefix-members : tie.Need-array-borrow-prefix-members
+array-borrow-prefix-members : tie.Need-slice_bounds-members-end
 array-borrow-prefix-members c = search rules
 
-slice-aggregate-run-fixed : tie.Need-slice-aggregate-run-fixed
+slice-aggregate-run-fixed : tie.Need-slice_bounds-run_fixed-end-3
 slice-aggregate-run-fixed c = sym (length-take-le _ _ (st c).requires.0)
 
-array-borrow-prefix-totals : tie.Need-array-borrow-prefix-totals
+array-borrow-prefix-totals : tie.Need-slice_bounds-totals-end
 array-borrow-prefix-totals c = search rules
 
-slice-aggregate-run-fixed-2 : tie.Need-slice-aggregate-run-fixed-2
+slice-aggregate-run-fixed-2 : tie.Need-slice_bounds-run_fixed-end-4
 slice-aggregate-run-fixed-2 c = sym (length-take-le _ _ (st c.before).requires.1)
 
-run-fixed-requires : tie.Need-run-fixed-requires
+run-fixed-requires : tie.Need-run_fixed-a-requires
 run-fixed-requires c κs = search rules
 
 show-requires : tie.Need-show-requires
@@ -30,8 +30,8 @@ show-requires c κs = search rules
 returns : tie.Need-returns
 returns c = search rules
 
-pub show-lent-spec : {M : Type 1} → statement M
-show-lent-spec =
+pub show_lent_spec : {M : Type 1} → statement M
+show_lent_spec =
     tie.close
     (tie.spec
     array-borrow-prefix-members

@@ -6,38 +6,38 @@ use borrow.Author.Rules.{rules}
 use Rattle.jancey_main.proofs.row.Statement.{statement}
 use Rattle.jancey_main.proofs.row.Tie as tie
 
-abbrev invariant-loop : tie.invariant-loop
+abbrev invariant-loop : tie.invariant-loop-i
 invariant-loop list i₀ i = i ≤ length list
 
-abbrev decreases-loop : tie.decreases-loop
+abbrev decreases-loop : tie.decreases-loop-i
 decreases-loop list i₀ i = length list - i
 
-loop-holds : tie.Need-loop-init invariant-loop decreases-loop
+loop-holds : tie.Need-loop-i-init invariant-loop decreases-loop
 loop-holds c = omega arith
 
-mul-field : tie.Need-overflow-mul-field invariant-loop decreases-loop
+mul-field : tie.Need-offset_bounds-list-i invariant-loop decreases-loop
 mul-field c = search rules
 
-shared-slice-read-field : tie.Need-shared-slice-read-field invariant-loop decreases-loop
+shared-slice-read-field : tie.Need-bounds-list-i invariant-loop decreases-loop
 shared-slice-read-field c = search rules
 
 field-requires : tie.Need-field-requires invariant-loop decreases-loop
 field-requires c κs = search rules
 
-add-i : tie.Need-overflow-add-i invariant-loop decreases-loop
+add-i : tie.Need-overflow_add-i invariant-loop decreases-loop
 add-i c = search rules
 
-loop-less : tie.Need-loop-smaller invariant-loop decreases-loop
+loop-less : tie.Need-loop-i-smaller invariant-loop decreases-loop
 loop-less c = search rules
 
-loop-again : tie.Need-loop-preserved invariant-loop decreases-loop
+loop-again : tie.Need-loop-i-preserved invariant-loop decreases-loop
 loop-again c = search rules
 
 returns : tie.Need-returns invariant-loop decreases-loop
 returns c = search rules
 
-pub row-spec : {M : Type 1} → statement M
-row-spec =
+pub row_spec : {M : Type 1} → statement M
+row_spec =
     tie.close
     (tie.spec
     invariant-loop

@@ -6,28 +6,28 @@ use borrow.Author.Rules.{rules}
 use Rattle.listing_main.proofs.main.Statement.{statement}
 use Rattle.listing_main.proofs.main.Tie as tie
 
-slice-aggregate-read-full : tie.Need-slice-aggregate-read-full
+slice-aggregate-read-full : tie.Need-slice_bounds-read_full-end
 slice-aggregate-read-full c = search rules
 
-read-full-requires : tie.Need-read-full-requires
+read-full-requires : tie.Need-read_full-n-requires
 read-full-requires c κs = search rules
 
-array-share-prefix-input : tie.Need-array-share-prefix-input
+array-share-prefix-input : tie.Need-slice_bounds-input-end
 array-share-prefix-input c = search rules
 
-slice-aggregate-list-shades : tie.Need-slice-aggregate-list-shades
+slice-aggregate-list-shades : tie.Need-slice_bounds-list_shades-end
 slice-aggregate-list-shades c = search rules
 
-list-shades-requires : tie.Need-list-shades-requires
+list-shades-requires : tie.Need-list_shades-l-requires
 list-shades-requires c κs = search rules
 
-array-share-prefix-text : tie.Need-array-share-prefix-text
+array-share-prefix-text : tie.Need-slice_bounds-text-end
 array-share-prefix-text c = search rules
 
-slice-aggregate-write-all : tie.Need-slice-aggregate-write-all
-slice-aggregate-write-all c = sym (length-take-le _ _ c.before.before.list-shades.ensures.1)
+slice-aggregate-write-all : tie.Need-slice_bounds-write_all-end
+slice-aggregate-write-all c = sym (length-take-le _ _ c.before.before.list_shades-l.ensures.1)
 
-write-all-requires : tie.Need-write-all-requires
+write-all-requires : tie.Need-write_all-requires
 write-all-requires c κs = search rules
 
 returns : tie.Need-returns

@@ -6,29 +6,29 @@ use borrow.Author.Rules.{rules}
 use Rattle.listing_many.proofs.list_all.Statement.{statement}
 use Rattle.listing_many.proofs.list_all.Tie as tie
 
-abbrev invariant-loop : tie.invariant-loop
+abbrev invariant-loop : tie.invariant-loop-at
 invariant-loop input n at₀ at = Unit
 
-abbrev decreases-loop : tie.decreases-loop
+abbrev decreases-loop : tie.decreases-loop-at
 decreases-loop input n at₀ at = n - at
 
-loop-holds : tie.Need-loop-init invariant-loop decreases-loop
+loop-holds : tie.Need-loop-at-init invariant-loop decreases-loop
 loop-holds c = tt
 
-list-one-requires : tie.Need-list-one-requires invariant-loop decreases-loop
+list-one-requires : tie.Need-list_one-at-requires invariant-loop decreases-loop
 list-one-requires c κs = search rules
 
-loop-less : tie.Need-loop-smaller invariant-loop decreases-loop
+loop-less : tie.Need-loop-at-smaller invariant-loop decreases-loop
 loop-less c = search rules
 
-loop-again : tie.Need-loop-preserved invariant-loop decreases-loop
+loop-again : tie.Need-loop-at-preserved invariant-loop decreases-loop
 loop-again c = tt
 
 returns : tie.Need-returns invariant-loop decreases-loop
 returns c = search rules
 
-pub list-all-spec : {M : Type 1} → statement M
-list-all-spec =
+pub list_all_spec : {M : Type 1} → statement M
+list_all_spec =
     tie.close
     (tie.spec
     invariant-loop

@@ -4,18 +4,18 @@ use lib.Ieee.{of_bits}
 use Rattle.arrays.proofs.picture.figure_in.Statement.{statement}
 use Rattle.arrays.proofs.picture.figure_in.Tie as tie
 
-enum_told : tie.Need-enum-told
+enum_told : tie.Need-enum_told-1
 enum_told c = search rules
 
-enum-known-mean : tie.Need-enum-known-mean
+enum-known-mean : tie.Need-enum_known-mean
 enum-known-mean c = search rules
 
-returns : tie.Need-returns
+returns : tie.Need-returns-in-NoPixels
 unfolding of_bits
-returns c = rw c.enum_told.given.1
+returns c = rw c.enum_told-1.given.1
 
-returns-2 : tie.Need-returns-2
+returns-2 : tie.Need-returns-in-Value
 returns-2 c = search rules
 
-pub figure-in-spec : {M : Type 1} → statement M
-figure-in-spec = tie.close (tie.spec enum_told enum-known-mean returns returns-2)
+pub figure_in_spec : {M : Type 1} → statement M
+figure_in_spec = tie.close (tie.spec enum_told enum-known-mean returns returns-2)

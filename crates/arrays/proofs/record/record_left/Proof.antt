@@ -6,5 +6,5 @@ use Rattle.arrays.proofs.record.record_left.Tie as tie
 returns : tie.Need-returns
 returns c = refl
 
-pub record-left-spec : {M : Type 1} → statement M
-record-left-spec = tie.close (tie.spec returns)
+pub record_left_spec : {M : Type 1} → statement M
+record_left_spec = tie.close (tie.spec returns)

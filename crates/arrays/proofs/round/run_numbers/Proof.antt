@@ -3,14 +3,14 @@ use borrow.Author.Rules.{rules}
 use Rattle.arrays.proofs.round.run_numbers.Statement.{statement}
 use Rattle.arrays.proofs.round.run_numbers.Tie as tie
 
-bit-requires : tie.Need-bit-requires
+bit-requires : tie.Need-bit-settled-requires
 bit-requires c κs = search rules
 
-cast-settled : tie.Need-overflow-cast-settled
+cast-settled : tie.Need-overflow_cast-settled
 cast-settled c = search rules
 
 returns : tie.Need-returns
-returns c = rw c.bit.ensures.0
+returns c = rw c.bit-settled.ensures.0
 
-pub run-numbers-spec : {M : Type 1} → statement M
-run-numbers-spec = tie.close (tie.spec bit-requires cast-settled returns)
+pub run_numbers_spec : {M : Type 1} → statement M
+run_numbers_spec = tie.close (tie.spec bit-requires cast-settled returns)

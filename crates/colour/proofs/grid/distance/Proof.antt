@@ -11,20 +11,20 @@ square-requires c κs = search rules
 square-requires-2 : tie.Need-square-requires-2
 square-requires-2 c κs = search rules
 
-add-result : tie.Need-overflow-add-result
+add-result : tie.Need-overflow_add-result
 add-result c = search rules
 
 square-requires-3 : tie.Need-square-requires-3
 square-requires-3 c κs = search rules
 
-add-result-2 : tie.Need-overflow-add-result-2
+add-result-2 : tie.Need-overflow_add-result-2
 add-result-2 c = search rules
 
 returns : tie.Need-returns
 unfolding distance
 returns c = (omega arith, omega arith)
 
-pub distance-spec : {M : Type 1} → statement M
-distance-spec =
+pub distance_spec : {M : Type 1} → statement M
+distance_spec =
     tie.close
     (tie.spec square-requires square-requires-2 add-result square-requires-3 add-result-2 returns)

@@ -5,36 +5,36 @@ use Rattle.colour.specs.Points.{distance}
 use Rattle.colour.proofs.grid.distance_from.Statement.{statement}
 use Rattle.colour.proofs.grid.distance_from.Tie as tie
 
-short-of-requires : tie.Need-short-of-requires
+short-of-requires : tie.Need-short_of-requires
 short-of-requires c κs = search rules
 
-short-square-requires : tie.Need-short-square-requires
+short-square-requires : tie.Need-short_square-requires
 short-square-requires c κs = search rules
 
-short-of-requires-2 : tie.Need-short-of-requires-2
+short-of-requires-2 : tie.Need-short_of-requires-2
 short-of-requires-2 c κs = search rules
 
-short-square-requires-2 : tie.Need-short-square-requires-2
+short-square-requires-2 : tie.Need-short_square-requires-2
 short-square-requires-2 c κs = search rules
 
-add-result : tie.Need-overflow-add-result
+add-result : tie.Need-overflow_add-result
 add-result c = search rules
 
-short-of-requires-3 : tie.Need-short-of-requires-3
+short-of-requires-3 : tie.Need-short_of-requires-3
 short-of-requires-3 c κs = search rules
 
-short-square-requires-3 : tie.Need-short-square-requires-3
+short-square-requires-3 : tie.Need-short_square-requires-3
 short-square-requires-3 c κs = search rules
 
-add-result-2 : tie.Need-overflow-add-result-2
+add-result-2 : tie.Need-overflow_add-result-2
 add-result-2 c = search rules
 
 returns : tie.Need-returns
 unfolding distance
 returns c = (cc, omega arith)
 
-pub distance-from-spec : {M : Type 1} → statement M
-distance-from-spec =
+pub distance_from_spec : {M : Type 1} → statement M
+distance_from_spec =
     tie.close
     (tie.spec
     short-of-requires

@@ -10,21 +10,21 @@ use Rattle.colour.proofs.mean.rounded_mean.Tie as tie
 returns : tie.Need-returns
 returns c = (refl, mean-below _ c.args.coords c.requires.0 most_coordinate (omega arith))
 
-mul-result : tie.Need-overflow-mul-result
+mul-result : tie.Need-overflow_mul-result
 mul-result c = search rules
 
-add-result : tie.Need-overflow-add-result
+add-result : tie.Need-overflow_add-result
 add-result c = search rules
 
-mul-result-2 : tie.Need-overflow-mul-result-2
+mul-result-2 : tie.Need-overflow_mul-result-2
 mul-result-2 c = search rules
 
-div-result : tie.Need-nonzero-div-result
+div-result : tie.Need-nonzero_div-result
 div-result c = search rules
 
-cast-result : tie.Need-overflow-cast-result
+cast-result : tie.Need-overflow_cast-result
 cast-result c = omega (arith, mean-below _ c.args.coords c.requires.0 most_coordinate (omega arith))
 
-pub rounded-mean-spec : {M : Type 1} → statement M
-rounded-mean-spec =
+pub rounded_mean_spec : {M : Type 1} → statement M
+rounded_mean_spec =
     tie.close (tie.spec mul-result add-result mul-result-2 div-result cast-result returns)

@@ -6,14 +6,14 @@ use Rattle.figures.specs.declared.Mean.TheVariants.{Value}
 use Rattle.figures.proofs.divide.mean_figure.Statement.{statement}
 use Rattle.figures.proofs.divide.mean_figure.Tie as tie
 
-returns : tie.Need-returns
-returns c = simp (eq-eqb _ _ c.if1.true)
+returns : tie.Need-returns-then-pixels-eq0
+returns c = simp (eq-eqb _ _ c.if-pixels-eq0.true)
 
 quotient-requires : tie.Need-quotient-requires
 quotient-requires c κs = search rules
 
-returns-2 : tie.Need-returns-2
-returns-2 c = simp (ne_eqb _ _ c.before.if1.false) (ap Value c.quotient.ensures)
+returns-2 : tie.Need-returns
+returns-2 c = simp (ne_eqb _ _ c.before.if-pixels-eq0.false) (ap Value c.quotient.ensures)
 
-pub mean-figure-spec : {M : Type 1} → statement M
-mean-figure-spec = tie.close (tie.spec returns quotient-requires returns-2)
+pub mean_figure_spec : {M : Type 1} → statement M
+mean_figure_spec = tie.close (tie.spec returns quotient-requires returns-2)

@@ -6,11 +6,11 @@ use mathlib.Core.Path.{refl}
 use Rattle.figures.proofs.divide.quotient.Statement.{statement}
 use Rattle.figures.proofs.divide.quotient.Tie as tie
 
-int-to-float-result : tie.Need-int-to-float-result
+int-to-float-result : tie.Need-int_to_float-result
 unfolding in_float
 int-to-float-result c = le→leb _ _ c.before.requires.0
 
-int-to-float-result-2 : tie.Need-int-to-float-result-2
+int-to-float-result-2 : tie.Need-int_to_float-result-2
 unfolding in_float
 int-to-float-result-2 c = le→leb _ _ c.before.before.requires.1
 
@@ -18,5 +18,5 @@ returns : tie.Need-returns
 unfolding figure
 returns c = refl
 
-pub quotient-spec : {M : Type 1} → statement M
-quotient-spec = tie.close (tie.spec int-to-float-result int-to-float-result-2 returns)
+pub quotient_spec : {M : Type 1} → statement M
+quotient_spec = tie.close (tie.spec int-to-float-result int-to-float-result-2 returns)

@@ -5,14 +5,14 @@ use Rattle.grammar.proofs.Spans.{byte_past}
 use Rattle.grammar.proofs.byte.byte_at.Statement.{statement}
 use Rattle.grammar.proofs.byte.byte_at.Tie as tie
 
-returns : tie.Need-returns
-returns c = sym (byte_past c.before.args.input.now c.before.args.at c.if1.true)
+returns : tie.Need-returns-then-input-at
+returns c = sym (byte_past c.before.args.input.now c.before.args.at c.if-input-at.true)
 
-shared-slice-read-result : tie.Need-shared-slice-read-result
+shared-slice-read-result : tie.Need-bounds-input-at
 shared-slice-read-result c = search rules
 
-returns-2 : tie.Need-returns-2
+returns-2 : tie.Need-returns
 returns-2 c = search rules
 
-pub byte-at-spec : {M : Type 1} → statement M
-byte-at-spec = tie.close (tie.spec returns shared-slice-read-result returns-2)
+pub byte_at_spec : {M : Type 1} → statement M
+byte_at_spec = tie.close (tie.spec returns shared-slice-read-result returns-2)

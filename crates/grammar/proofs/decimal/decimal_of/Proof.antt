@@ -8,64 +8,64 @@ use Rattle.grammar.proofs.decimal.Turns.{Valued, valued-start, valued-step, valu
 use Rattle.grammar.proofs.decimal.decimal_of.Statement.{statement}
 use Rattle.grammar.proofs.decimal.decimal_of.Tie as tie
 
-abbrev invariant-loop : tie.invariant-loop
+abbrev invariant-loop : tie.invariant-loop-i
 invariant-loop input at count value₀ i₀ value i = Valued input at count value i
 
-abbrev decreases-loop : tie.decreases-loop
+abbrev decreases-loop : tie.decreases-loop-i
 decreases-loop input at count value₀ i₀ value i = count - i
 
 -- where the function begins
-abbrev st : tie.In-loop invariant-loop decreases-loop → tie.Start invariant-loop decreases-loop
+abbrev st : tie.In-loop-i invariant-loop decreases-loop → tie.Start invariant-loop decreases-loop
 st c = c.before.before
 
 -- the digit that is next: its byte
-abbrev byte : tie.In-loop invariant-loop decreases-loop → ℕ
-byte c = byte_at (st c).args.input.now ((st c).args.at + c.before.loop.i)
+abbrev byte : tie.In-loop-i invariant-loop decreases-loop → ℕ
+byte c = byte_at (st c).args.input.now ((st c).args.at + c.before.loop-i.i)
 
 -- it stands inside, and is a byte from 48 to 57
-next : (c : tie.In-loop invariant-loop decreases-loop)
-    → ((st c).args.at + c.before.loop.i < length (st c).args.input.now) × (48 ≤ byte c) × (byte c ≤ 57)
-next c = valued-next c.before.loop.invariant (st c).requires.0 c.loop-test.true
+next : (c : tie.In-loop-i invariant-loop decreases-loop)
+    → ((st c).args.at + c.before.loop-i.i < length (st c).args.input.now) × (48 ≤ byte c) × (byte c ≤ 57)
+next c = valued-next c.before.loop-i.invariant (st c).requires.0 c.loop-i-test.true
 
 -- the value so far is at most 99999
-few : (c : tie.In-loop invariant-loop decreases-loop) → c.before.loop.value ≤ 99999
-few c = valued-few c.before.loop.invariant (st c).requires.0 (st c).requires.1
+few : (c : tie.In-loop-i invariant-loop decreases-loop) → c.before.loop-i.value ≤ 99999
+few c = valued-few c.before.loop-i.invariant (st c).requires.0 (st c).requires.1
 
-loop-holds : tie.Need-loop-init invariant-loop decreases-loop
+loop-holds : tie.Need-loop-i-init invariant-loop decreases-loop
 loop-holds c = valued-start c.args.input.now c.args.at c.args.count
 
-mul-value : tie.Need-overflow-mul-value invariant-loop decreases-loop
+mul-value : tie.Need-overflow_mul-value invariant-loop decreases-loop
 mul-value c = omega (arith, few c)
 
-add-value : tie.Need-overflow-add-value invariant-loop decreases-loop
+add-value : tie.Need-overflow_add-value invariant-loop decreases-loop
 add-value c = omega (arith, (next c).0)
 
-shared-slice-read-value : tie.Need-shared-slice-read-value invariant-loop decreases-loop
+shared-slice-read-value : tie.Need-bounds-input-at invariant-loop decreases-loop
 shared-slice-read-value c = omega (arith, (next c.before).0)
 
-sub-value : tie.Need-overflow-sub-value invariant-loop decreases-loop
+sub-value : tie.Need-overflow_sub-value invariant-loop decreases-loop
 sub-value c = omega (arith, (next c.before).1)
 
-cast-value : tie.Need-overflow-cast-value invariant-loop decreases-loop
+cast-value : tie.Need-overflow_cast-value invariant-loop decreases-loop
 cast-value c = omega (arith, (next c.before).2)
 
-add-value-2 : tie.Need-overflow-add-value-2 invariant-loop decreases-loop
+add-value-2 : tie.Need-overflow_add-value-in-loop-i invariant-loop decreases-loop
 add-value-2 c = omega (arith, (next c.before).2, few c.before)
 
-add-i : tie.Need-overflow-add-i invariant-loop decreases-loop
+add-i : tie.Need-overflow_add-i invariant-loop decreases-loop
 add-i c = search rules
 
-loop-less : tie.Need-loop-smaller invariant-loop decreases-loop
+loop-less : tie.Need-loop-i-smaller invariant-loop decreases-loop
 loop-less c = omega arith
 
-loop-again : tie.Need-loop-preserved invariant-loop decreases-loop
-loop-again c = valued-step c.before.before.loop.invariant c.before.loop-test.true
+loop-again : tie.Need-loop-i-preserved invariant-loop decreases-loop
+loop-again c = valued-step c.before.before.loop-i.invariant c.before.loop-i-test.true
 
 returns : tie.Need-returns invariant-loop decreases-loop
-returns c = valued-done c.before.loop.invariant c.loop-test.false
+returns c = valued-done c.before.loop-i.invariant c.loop-i-test.false
 
-pub decimal-of-spec : {M : Type 1} → statement M
-decimal-of-spec =
+pub decimal_of_spec : {M : Type 1} → statement M
+decimal_of_spec =
     tie.close
     (tie.spec
     invariant-loop

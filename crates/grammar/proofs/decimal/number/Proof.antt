@@ -9,39 +9,39 @@ use Rattle.grammar.proofs.decimal.number.Statement.{statement}
 use Rattle.grammar.proofs.decimal.number.Tie as tie
 
 -- where the function begins
-abbrev st : tie.After-count-digits → tie.Start
+abbrev st : tie.After-count_digits-count → tie.Start
 st c = c.before.before
 
 -- the input
-abbrev s : tie.After-count-digits → List ℕ
+abbrev s : tie.After-count_digits-count → List ℕ
 s c = (st c).args.input.now
 
 -- what is counted are digits
-digits : (c : tie.After-count-digits) → Digits (s c) (st c).args.at c.count-digits.result
-digits c = digits-counted (s c) (st c).args.at _ c.count-digits.ensures.0
+digits : (c : tie.After-count_digits-count) → Digits (s c) (st c).args.at c.count_digits-count.result
+digits c = digits-counted (s c) (st c).args.at _ c.count_digits-count.ensures.0
 
-count-digits-requires : tie.Need-count-digits-requires
+count-digits-requires : tie.Need-count_digits-count-requires
 count-digits-requires c κs = search rules
 
-returns : tie.Need-returns
+returns : tie.Need-returns-then-count-eq0
 returns c =
     let t = c.before in
-    number-fails (s t) (st t).args.at _ t.count-digits.ensures.0 c.if1.true
+    number-fails (s t) (st t).args.at _ t.count_digits-count.ensures.0 c.if-count-eq0.true
 
-decimal-of-requires : tie.Need-decimal-of-requires
-decimal-of-requires c κs = (digits c.before, c.before.count-digits.ensures.1)
+decimal-of-requires : tie.Need-decimal_of-requires
+decimal-of-requires c κs = (digits c.before, c.before.count_digits-count.ensures.1)
 
-add-t6 : tie.Need-overflow-add-t6
+add-t6 : tie.Need-overflow_add-result
 add-t6 c =
     let t = c.before.before in
     omega (arith, digits-inside (s t) (st t).args.at _ (digits t) (omega arith))
 
-returns-2 : tie.Need-returns-2
+returns-2 : tie.Need-returns
 returns-2 c =
     let t = c.before.before in
-    number-reads (s t) (st t).args.at _ _ t.count-digits.ensures.0 c.before.if1.false
-    c.decimal-of.ensures
+    number-reads (s t) (st t).args.at _ _ t.count_digits-count.ensures.0 c.before.if-count-eq0.false
+    c.decimal_of.ensures
 
-pub number-spec : {M : Type 1} → statement M
-number-spec =
+pub number_spec : {M : Type 1} → statement M
+number_spec =
     tie.close (tie.spec count-digits-requires returns decimal-of-requires add-t6 returns-2)

@@ -25,146 +25,146 @@ use Rattle.group_all.proofs.plain.Raising.{raised-low, raised-finds, raised-fit,
 use Rattle.group_all.proofs.plain.group_plain.Statement.{statement}
 use Rattle.group_all.proofs.plain.group_plain.Tie as tie
 
-abbrev invariant-loop : tie.invariant-loop
+abbrev invariant-loop : tie.invariant-loop-i
 invariant-loop keys weights used shades count members₀ sums₀ total₀ distances₀ i₀ members sums total distances i =
     Turned used keys weights shades count (λ j. count) members₀ members total distances i
     × Summed (joins (colours_of used keys weights) count shades) keys weights i sums
 
-abbrev decreases-loop : tie.decreases-loop
+abbrev decreases-loop : tie.decreases-loop-i
 decreases-loop keys weights used shades count members₀ sums₀ total₀ distances₀ i₀ members sums total distances i = used - i
 
 -- where the grouping begins, from where the plain search is called
-abbrev start : tie.After-search-all-arg invariant-loop decreases-loop → tie.Start invariant-loop decreases-loop
+abbrev start : tie.After-search_all-arg-1 invariant-loop decreases-loop → tie.Start invariant-loop decreases-loop
 start c = c.before.before.before.before.before
 
 -- where the search is done, from where the loop is
-abbrev searched : tie.At-loop invariant-loop decreases-loop → tie.After-search-all invariant-loop decreases-loop
+abbrev searched : tie.At-loop-i invariant-loop decreases-loop → tie.After-search_all invariant-loop decreases-loop
 searched c = c.before.before.before
 
 -- where the grouping begins, from there
-abbrev st : tie.At-loop invariant-loop decreases-loop → tie.Start invariant-loop decreases-loop
+abbrev st : tie.At-loop-i invariant-loop decreases-loop → tie.Start invariant-loop decreases-loop
 st c = start (searched c).before
 
 -- the turn in which the entry is read
-abbrev turn : tie.After-slice-known3 invariant-loop decreases-loop → tie.In-loop invariant-loop decreases-loop
+abbrev turn : tie.After-slice_known-in-loop-i-1 invariant-loop decreases-loop → tie.In-loop-i invariant-loop decreases-loop
 turn c = c.before.before.before
 
 -- the turn in which it is worked out what the entry gives
-abbrev giving : tie.After-gift-of invariant-loop decreases-loop → tie.In-loop invariant-loop decreases-loop
+abbrev giving : tie.After-gift_of-a invariant-loop decreases-loop → tie.In-loop-i invariant-loop decreases-loop
 giving c = turn c.before
 
 -- the member that the turn reads is what the search has found
-abbrev found-at : (c : tie.After-slice-known3 invariant-loop decreases-loop)
+abbrev found-at : (c : tie.After-slice_known-in-loop-i-1 invariant-loop decreases-loop)
     → let l = (turn c).before in
     let a = (st l).args in
-    get_or l.loop.members l.loop.i 0 ≡ found_at a.keys.now a.shades.now a.count l.loop.i
+    get_or l.loop-i.members-1 l.loop-i.i 0 ≡ found_at a.keys.now a.shades.now a.count l.loop-i.i
 found-at c =
     let l = (turn c).before in
-    plain-found l.loop.inv.0 (st l).args.members.now (searched l).search-all.ensures
-    (turn c).loop-test.true (st l).pre.3
+    plain-found l.loop-i.inv.0 (st l).args.members-1.now (searched l).search_all.ensures
+    (turn c).loop-i-test.true (st l).pre.3
 
 -- what is found for the entry, once it is worked out
-abbrev finds-at : (c : tie.After-gift-of invariant-loop decreases-loop)
+abbrev finds-at : (c : tie.After-gift_of-a invariant-loop decreases-loop)
     → let l = (giving c).before in
     let a = (st l).args in
-    let r = c.gift-of.result in
-    Finds a.keys.now a.weights.now a.shades.now a.count l.loop.i r.number r.cost
+    let r = c.gift_of-a.result in
+    Finds a.keys.now a.weights.now a.shades.now a.count l.loop-i.i r.number r.cost
 finds-at c =
-    let e = c.gift-of.ensures in
+    let e = c.gift_of-a.ensures in
     let t = giving c in
-    raised-finds t.before.loop.inv.0 t.loop-test.taken _ _ _ (found-at c.before) e.0 e.1.0
+    raised-finds t.before.loop-i.inv.0 t.loop-i-test.taken _ _ _ (found-at c.before) e.0 e.1.0
 
-search-all-requires : tie.Need-search-all-requires invariant-loop decreases-loop
+search-all-requires : tie.Need-search_all-requires invariant-loop decreases-loop
 search-all-requires c κs = let p = (start c).requires in (p.0.keys_room, p.3, p.1, p.2)
 
-loop-holds : tie.Need-loop-init invariant-loop decreases-loop
+loop-holds : tie.Need-loop-i-init invariant-loop decreases-loop
 loop-holds c =
     let s = c.before.before in
     let p = (start s.before).pre in
-    let members = (start s.before).args.members.now in (
-      turned-start (plain-fitted _ members p.0 p.1 p.2 p.3 s.search-all.ensures),
+    let members = (start s.before).args.members-1.now in (
+      turned-start (plain-fitted _ members p.0 p.1 p.2 p.3 s.search_all.ensures),
       rw p.4 (summed-none _ _ _),
     )
 
-mul-gift-of : tie.Need-overflow-mul-gift-of invariant-loop decreases-loop
+mul-gift-of : tie.Need-offset_bounds-weights-i invariant-loop decreases-loop
 mul-gift-of c = omega arith
 
-shared-slice-read-gift-of : tie.Need-shared-slice-read-gift-of invariant-loop decreases-loop
-shared-slice-read-gift-of c = omega (arith, c.before.before.loop.invariant.0.fitted.table.weights_room)
+shared-slice-read-gift-of : tie.Need-bounds-weights-i invariant-loop decreases-loop
+shared-slice-read-gift-of c = omega (arith, c.before.before.loop-i.invariant.0.fitted.table.weights_room)
 
-mul-gift-of-2 : tie.Need-overflow-mul-gift-of-2 invariant-loop decreases-loop
+mul-gift-of-2 : tie.Need-offset_bounds-keys-i invariant-loop decreases-loop
 mul-gift-of-2 c = omega arith
 
-shared-slice-read-gift-of-2 : tie.Need-shared-slice-read-gift-of-2 invariant-loop decreases-loop
-shared-slice-read-gift-of-2 c = omega (arith, c.before.before.before.loop.invariant.0.fitted.table.keys_room)
+shared-slice-read-gift-of-2 : tie.Need-bounds-keys-i invariant-loop decreases-loop
+shared-slice-read-gift-of-2 c = omega (arith, c.before.before.before.loop-i.invariant.0.fitted.table.keys_room)
 
-mul-gift-of-3 : tie.Need-overflow-mul-gift-of-3 invariant-loop decreases-loop
+mul-gift-of-3 : tie.Need-offset_bounds-members-i invariant-loop decreases-loop
 mul-gift-of-3 c = omega arith
 
-slice-read-gift-of : tie.Need-slice-read-gift-of invariant-loop decreases-loop
-slice-read-gift-of c = let x = (turn c).before.loop.invariant.0 in omega (arith, turned-length x, x.fitted.room)
+slice-read-gift-of : tie.Need-bounds-members-i invariant-loop decreases-loop
+slice-read-gift-of c = let x = (turn c).before.loop-i.invariant.0 in omega (arith, turned-length x, x.fitted.room)
 
-gift-of-requires : tie.Need-gift-of-requires invariant-loop decreases-loop
-gift-of-requires c κs = raised-low (turn c).before.loop.invariant.0 (turn c).loop-test.true _ (found-at c)
+gift-of-requires : tie.Need-gift_of-a-requires invariant-loop decreases-loop
+gift-of-requires c κs = raised-low (turn c).before.loop-i.invariant.0 (turn c).loop-i-test.true _ (found-at c)
 
-mul-members : tie.Need-overflow-mul-members invariant-loop decreases-loop
+mul-members : tie.Need-offset_bounds-members-i-in-loop-i invariant-loop decreases-loop
 mul-members c = omega arith
 
-slice-write-members : tie.Need-slice-write-members invariant-loop decreases-loop
-slice-write-members c = let x = (giving c).before.loop.invariant.0 in omega (arith, turned-length x, x.fitted.room)
+slice-write-members : tie.Need-bounds-members-i-in-loop-i invariant-loop decreases-loop
+slice-write-members c = let x = (giving c).before.loop-i.invariant.0 in omega (arith, turned-length x, x.fitted.room)
 
-add_total : tie.Need-overflow-add-total invariant-loop decreases-loop
+add_total : tie.Need-overflow_add-total invariant-loop decreases-loop
 add_total c =
     let t = giving c.before in
-    omega (arith, total-fits t.before.loop.inv.0 t.loop-test.taken (finds-at c.before))
+    omega (arith, total-fits t.before.loop-i.inv.0 t.loop-i-test.taken (finds-at c.before))
 
-add-distances : tie.Need-overflow-add-distances invariant-loop decreases-loop
+add-distances : tie.Need-overflow_add-distances invariant-loop decreases-loop
 add-distances c =
     let t = giving c.before in
-    omega (arith, distances-fit t.before.loop.inv.0 t.loop-test.taken (st t.before).args.count refl)
+    omega (arith, distances-fit t.before.loop-i.inv.0 t.loop-i-test.taken (st t.before).args.count refl)
 
-cast-raise : tie.Need-overflow-cast-raise invariant-loop decreases-loop
+cast-raise : tie.Need-overflow_cast-q invariant-loop decreases-loop
 cast-raise c = search rules
 
 raise-requires : tie.Need-raise-requires invariant-loop decreases-loop
 raise-requires c κs =
     let g = c.before.before in
     let t = giving g in
-    let l = t.before.loop.inv in
-    let e = g.gift-of.ensures.1.1 in
-    raised-fit l.0 t.loop-test.taken l.1 (finds-at g) e.0 e.1
+    let l = t.before.loop-i.inv in
+    let e = g.gift_of-a.ensures.1.1 in
+    raised-fit l.0 t.loop-i-test.taken l.1 (finds-at g) e.0 e.1
 
-add-i : tie.Need-overflow-add-i invariant-loop decreases-loop
+add-i : tie.Need-overflow_add-i invariant-loop decreases-loop
 add-i c = omega arith
 
-loop-less : tie.Need-loop-smaller invariant-loop decreases-loop
+loop-less : tie.Need-loop-i-smaller invariant-loop decreases-loop
 loop-less c = omega arith
 
-loop-again : tie.Need-loop-preserved invariant-loop decreases-loop
+loop-again : tie.Need-loop-i-preserved invariant-loop decreases-loop
 loop-again c =
     let g = c.before.before.before in
-    let l = (giving g).before.loop.invariant in
-    let h = (giving g).loop-test.true in
+    let l = (giving g).before.loop-i.invariant in
+    let h = (giving g).loop-i-test.true in
     let f = finds-at g in
-    let e = g.gift-of.ensures.1.1 in
+    let e = g.gift_of-a.ensures.1.1 in
     (turned-step l.0 h f _ refl, raised-step l.0 h l.1 f e.0 e.1 _ c.raise.ensures)
 
-same_length : tie.Need-same-length invariant-loop decreases-loop
+same_length : tie.Need-shape_of-members invariant-loop decreases-loop
 same_length c =
     let l = c.before in
-    plain-length l.loop.invariant.0 (st l).args.members.now (searched l).search-all.ensures
+    plain-length l.loop-i.invariant.0 (st l).args.members-1.now (searched l).search_all.ensures
 
 returns : tie.Need-returns invariant-loop decreases-loop
 returns c =
-    let x = c.before.loop.invariant in
-    let h = c.loop-test.false in
-    let e : c.before.loop.i ≡ (st c.before).args.used = omega (arith, x.0.within) in (
-      grouped-again _ _ (searched c.before).search-all.ensures (turned-done x.0 h (rw e at x.1)),
+    let x = c.before.loop-i.invariant in
+    let h = c.loop-i-test.false in
+    let e : c.before.loop-i.i ≡ (st c.before).args.used = omega (arith, x.0.within) in (
+      grouped-again _ _ (searched c.before).search_all.ensures (turned-done x.0 h (rw e at x.1)),
       turned-distances x.0 h,
     )
 
-pub group-plain-spec : {M : Type 1} → statement M
-group-plain-spec =
+pub group_plain_spec : {M : Type 1} → statement M
+group_plain_spec =
     tie.close
     (tie.spec
     invariant-loop

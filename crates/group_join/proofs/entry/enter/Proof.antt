@@ -13,15 +13,15 @@ use Rattle.group_join.proofs.entry.enter.Statement.{statement}
 use Rattle.group_join.proofs.entry.enter.Tie as tie
 
 -- where the function begins, from where the entry is read
-abbrev start : tie.After-shared-slice-known4 → tie.Start
+abbrev start : tie.After-shared_slice_known-4-1 → tie.Start
 start c = c.before.before.before.before.before
 
 -- where the first of what it gives is worked out
-abbrev first : tie.After-blue-pixels → tie.After-red-green
+abbrev first : tie.After-blue_pixels-blue_pixels → tie.After-red_green-red_green
 first c = c.before.before.before
 
 -- where the function begins, from where both are
-abbrev st : tie.After-blue-pixels → tie.Start
+abbrev st : tie.After-blue_pixels-blue_pixels → tie.Start
 st c = start (first c).before
 
 -- the group of each entry, once the member is set
@@ -37,34 +37,34 @@ before : (s : tie.Start)
     → Summed (groups s) s.args.keys.now s.args.weights.now s.args.i s.args.sums.now
 before s = joined-before s.args.members.now s.args.i s.args.q s.requires.2
 
-mul-red-green : tie.Need-overflow-mul-red-green
+mul-red-green : tie.Need-offset_bounds-weights-i
 mul-red-green c = search rules
 
-shared-slice-read-red-green : tie.Need-shared-slice-read-red-green
+shared-slice-read-red-green : tie.Need-bounds-weights-i
 shared-slice-read-red-green c = search rules
 
-mul-red-green-2 : tie.Need-overflow-mul-red-green-2
+mul-red-green-2 : tie.Need-offset_bounds-keys-i
 mul-red-green-2 c = search rules
 
-shared-slice-read-red-green-2 : tie.Need-shared-slice-read-red-green-2
+shared-slice-read-red-green-2 : tie.Need-bounds-keys-i
 shared-slice-read-red-green-2 c = search rules
 
-red-green-requires : tie.Need-red-green-requires
+red-green-requires : tie.Need-red_green-red_green-requires
 red-green-requires c κs = let p = (start c).requires in weight-at-most _ _ _ p.0 _ p.3
 
-mul-blue-pixels : tie.Need-overflow-mul-blue-pixels
+mul-blue-pixels : tie.Need-offset_bounds-weights-i-2
 mul-blue-pixels c = search rules
 
-shared-slice-read-blue-pixels : tie.Need-shared-slice-read-blue-pixels
+shared-slice-read-blue-pixels : tie.Need-bounds-weights-i-2
 shared-slice-read-blue-pixels c = search rules
 
-mul-blue-pixels-2 : tie.Need-overflow-mul-blue-pixels-2
+mul-blue-pixels-2 : tie.Need-offset_bounds-keys-i-2
 mul-blue-pixels-2 c = search rules
 
-shared-slice-read-blue-pixels-2 : tie.Need-shared-slice-read-blue-pixels-2
+shared-slice-read-blue-pixels-2 : tie.Need-bounds-keys-i-2
 shared-slice-read-blue-pixels-2 c = search rules
 
-blue-pixels-requires : tie.Need-blue-pixels-requires
+blue-pixels-requires : tie.Need-blue_pixels-blue_pixels-requires
 blue-pixels-requires c κs =
     let p = (start c.before.before.before).requires in
     weight-at-most _ _ _ p.0 _ p.3
@@ -76,15 +76,15 @@ raise-requires c κs =
     let p = s.pre in
     let e = there s in
     let f = raises-fit _ _ _ p.0 (groups s) s.args.i p.3 (rw e p.4) (before s) in
-    rw (b.blue-pixels.ensures, (first b).red-green.ensures) (p.4, rw e at f.0, rw e at f.1)
+    rw (b.blue_pixels-blue_pixels.ensures, (first b).red_green-red_green.ensures) (p.4, rw e at f.0, rw e at f.1)
 
-mul-members : tie.Need-overflow-mul-members
+mul-members : tie.Need-offset_bounds-members-i
 mul-members c = search rules
 
-slice-write-members : tie.Need-slice-write-members
+slice-write-members : tie.Need-bounds-members-i
 slice-write-members c = search rules
 
-same_length : tie.Need-same-length
+same_length : tie.Need-shape_of-members
 same_length c = search rules
 
 returns : tie.Need-returns
@@ -93,7 +93,7 @@ returns c =
     let s = st b in
     let e = there s in
     let f = summed-more (groups s) _ _ s.args.i _ (before s) (rw e s.pre.4) in
-    (refl, rw (c.raise.ensures, b.blue-pixels.ensures, (first b).red-green.ensures) (rw e at f))
+    (refl, rw (c.raise.ensures, b.blue_pixels-blue_pixels.ensures, (first b).red_green-red_green.ensures) (rw e at f))
 
 pub enter_spec : {M : Type 1} → statement M
 enter_spec =

@@ -13,19 +13,19 @@ use Rattle.group_join.proofs.entry.go_over.Statement.{statement}
 use Rattle.group_join.proofs.entry.go_over.Tie as tie
 
 -- where the function begins, from where its member is read
-abbrev start : tie.After-slice-known2 → tie.Start
+abbrev start : tie.After-slice_known-2-1 → tie.Start
 start c = c.before.before.before.before
 
 -- where the entry is found to go to another group
-abbrev leaves : tie.After-red-green → tie.Else1
+abbrev leaves : tie.After-red_green-red_green → tie.Else-p-q
 leaves c = c.before.before.before
 
 -- where the first of what it gives is worked out
-abbrev first : tie.After-blue-pixels → tie.After-red-green
+abbrev first : tie.After-blue_pixels-blue_pixels → tie.After-red_green-red_green
 first c = c.before.before.before
 
 -- where the function begins, from where both are
-abbrev st : tie.After-blue-pixels → tie.Start
+abbrev st : tie.After-blue_pixels-blue_pixels → tie.Start
 st c = start (leaves (first c)).before
 
 -- the members, before and once the entry's is set
@@ -44,57 +44,57 @@ there : (s : tie.Start) → member_at (after s) s.args.i ≡ s.args.q
 there s = joined_at (members s) s.args.i s.args.q (inside s)
 
 -- and goes there from another
-goes-there : (c : tie.After-blue-pixels)
+goes-there : (c : tie.After-blue_pixels-blue_pixels)
     → (let s = st c in Goes (member_at (members s)) (member_at (after s)) s.args.i)
 goes-there c =
     let s = st c in
-    joined-goes (members s) s.args.i s.args.q (inside s) (leaves (first c)).if1.false
+    joined-goes (members s) s.args.i s.args.q (inside s) (leaves (first c)).if-p-q.false
 
-mul-p : tie.Need-overflow-mul-p
+mul-p : tie.Need-offset_bounds-members-i
 mul-p c = search rules
 
-slice-read-p : tie.Need-slice-read-p
+slice-read-p : tie.Need-bounds-members-i
 slice-read-p c = search rules
 
-returns : tie.Need-returns
+returns : tie.Need-returns-then-p-q
 returns c =
     let s = start c.before in
-    let e = joined_same (members s) s.args.i s.args.q c.if1.true in
+    let e = joined_same (members s) s.args.i s.args.q c.if-p-q.true in
     (e, s.pre.2)
 
-cast-from : tie.Need-overflow-cast-from
+cast-from : tie.Need-overflow_cast-from
 cast-from c = let p = (start c.before).requires in omega (arith, p.1.below _ p.3)
 
-mul-red-green : tie.Need-overflow-mul-red-green
+mul-red-green : tie.Need-offset_bounds-weights-i
 mul-red-green c = search rules
 
-shared-slice-read-red-green : tie.Need-shared-slice-read-red-green
+shared-slice-read-red-green : tie.Need-bounds-weights-i
 shared-slice-read-red-green c = search rules
 
-mul-red-green-2 : tie.Need-overflow-mul-red-green-2
+mul-red-green-2 : tie.Need-offset_bounds-keys-i
 mul-red-green-2 c = search rules
 
-shared-slice-read-red-green-2 : tie.Need-shared-slice-read-red-green-2
+shared-slice-read-red-green-2 : tie.Need-bounds-keys-i
 shared-slice-read-red-green-2 c = search rules
 
-red-green-requires : tie.Need-red-green-requires
+red-green-requires : tie.Need-red_green-red_green-requires
 red-green-requires c κs =
     let p = (start c.before.before.before).requires in
     weight-at-most _ _ _ p.0 _ p.3
 
-mul-blue-pixels : tie.Need-overflow-mul-blue-pixels
+mul-blue-pixels : tie.Need-offset_bounds-weights-i-2
 mul-blue-pixels c = search rules
 
-shared-slice-read-blue-pixels : tie.Need-shared-slice-read-blue-pixels
+shared-slice-read-blue-pixels : tie.Need-bounds-weights-i-2
 shared-slice-read-blue-pixels c = search rules
 
-mul-blue-pixels-2 : tie.Need-overflow-mul-blue-pixels-2
+mul-blue-pixels-2 : tie.Need-offset_bounds-keys-i-2
 mul-blue-pixels-2 c = search rules
 
-shared-slice-read-blue-pixels-2 : tie.Need-shared-slice-read-blue-pixels-2
+shared-slice-read-blue-pixels-2 : tie.Need-bounds-keys-i-2
 shared-slice-read-blue-pixels-2 c = search rules
 
-blue-pixels-requires : tie.Need-blue-pixels-requires
+blue-pixels-requires : tie.Need-blue_pixels-blue_pixels-requires
 blue-pixels-requires c κs =
     let p = (start (leaves c.before.before).before).requires in
     weight-at-most _ _ _ p.0 _ p.3
@@ -106,7 +106,7 @@ lower-requires c κs =
     let p = s.pre in
     let few = p.1.below _ p.3 in
     let f = leaves-fit s.args.keys.now s.args.weights.now p.2 (goes-there b) p.3 few in
-    rw (b.blue-pixels.ensures, (first b).red-green.ensures) (few, f.0, f.1)
+    rw (b.blue_pixels-blue_pixels.ensures, (first b).red_green-red_green.ensures) (few, f.0, f.1)
 
 raise-requires : tie.Need-raise-requires
 raise-requires c κs =
@@ -115,18 +115,18 @@ raise-requires c κs =
     let p = (st b).requires in
     let e = there (st b) in
     let f = joins-fit p.0 p.2 (goes-there b) p.3 (rw e p.4) in
-    rw (l.lower.ensures, b.blue-pixels.ensures, (first b).red-green.ensures) (p.4, rw e at f.0, rw e at f.1)
+    rw (l.lower.ensures, b.blue_pixels-blue_pixels.ensures, (first b).red_green-red_green.ensures) (p.4, rw e at f.0, rw e at f.1)
 
-mul-members : tie.Need-overflow-mul-members
+mul-members : tie.Need-offset_bounds-members-i-2
 mul-members c = search rules
 
-slice-write-members : tie.Need-slice-write-members
+slice-write-members : tie.Need-bounds-members-i-2
 slice-write-members c = search rules
 
-same_length : tie.Need-same-length
+same_length : tie.Need-shape_of-members
 same_length c = search rules
 
-returns-2 : tie.Need-returns-2
+returns-2 : tie.Need-returns
 returns-2 c =
     let l = c.before.before in
     let b = l.before.before in
@@ -135,10 +135,10 @@ returns-2 c =
     let e = there s in
     let f = summed-moved s.args.keys.now s.args.weights.now p.2 (goes-there b) p.3
     (p.1.below _ p.3) (rw e p.4) in
-    (refl, rw (c.raise.ensures, l.lower.ensures, b.blue-pixels.ensures, (first b).red-green.ensures) (rw e at f))
+    (refl, rw (c.raise.ensures, l.lower.ensures, b.blue_pixels-blue_pixels.ensures, (first b).red_green-red_green.ensures) (rw e at f))
 
-pub go-over-spec : {M : Type 1} → statement M
-go-over-spec =
+pub go_over_spec : {M : Type 1} → statement M
+go_over_spec =
     tie.close
     (tie.spec
     mul-p

@@ -7,31 +7,31 @@ enter-requires : tie.Need-enter-requires
 enter-requires c κs =
     let i = c.before.before in
     let p = i.before.before.before.before.requires in
-    (p.0, p.1.room, rw i.if1.true at p.2, p.3, p.4)
+    (p.0, p.1.room, rw i.if-anew.true at p.2, p.3, p.4)
 
-same_length : tie.Need-same-length
+same_length : tie.Need-shape_of-members-then-anew
 same_length c = search rules
 
-returns : tie.Need-returns
+returns : tie.Need-returns-then-anew
 returns c =
     let e = c.before.before in
-    (e.enter.ensures.0, rw e.before.before.before.if1.true e.enter.ensures.1)
+    (e.enter.ensures.0, rw e.before.before.before.if-anew.true e.enter.ensures.1)
 
-go-over-requires : tie.Need-go-over-requires
+go-over-requires : tie.Need-go_over-requires
 go-over-requires c κs =
     let i = c.before.before in
     let p = i.before.before.before.before.requires in
-    (p.0, p.1, rw i.if1.false at p.2, p.3, p.4)
+    (p.0, p.1, rw i.if-anew.false at p.2, p.3, p.4)
 
-same-length-2 : tie.Need-same-length-2
+same-length-2 : tie.Need-shape_of-members
 same-length-2 c = search rules
 
-returns-2 : tie.Need-returns-2
+returns-2 : tie.Need-returns
 returns-2 c =
     let g = c.before.before in
-    (g.go-over.ensures.0, rw g.before.before.before.if1.false g.go-over.ensures.1)
+    (g.go_over.ensures.0, rw g.before.before.before.if-anew.false g.go_over.ensures.1)
 
-pub join-spec : {M : Type 1} → statement M
-join-spec =
+pub join_spec : {M : Type 1} → statement M
+join_spec =
     tie.close
     (tie.spec enter-requires same_length returns go-over-requires same-length-2 returns-2)

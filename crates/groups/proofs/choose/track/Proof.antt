@@ -4,29 +4,29 @@ use Rattle.groups.proofs.Tracking.{gaps-tracked, rows-tracked}
 use Rattle.groups.proofs.choose.track.Statement.{statement}
 use Rattle.groups.proofs.choose.track.Tie as tie
 
-fill-gaps-requires : tie.Need-fill-gaps-requires
+fill-gaps-requires : tie.Need-fill_gaps-requires
 fill-gaps-requires c κs = search rules
 
-same_length : tie.Need-same-length
+same_length : tie.Need-shape_of-rows-then-few
 same_length c = search rules
 
-returns : tie.Need-returns
+returns : tie.Need-returns-then-few
 returns c =
     let f = c.before.before in
-    gaps-tracked _ _ _ _ f.before.before.if1.true f.fill-gaps.ensures
+    gaps-tracked _ _ _ _ f.before.before.if-few.true f.fill_gaps.ensures
 
-fill-rows-requires : tie.Need-fill-rows-requires
+fill-rows-requires : tie.Need-fill_rows-requires
 fill-rows-requires c κs = search rules
 
-same-length-2 : tie.Need-same-length-2
+same-length-2 : tie.Need-shape_of-rows
 same-length-2 c = search rules
 
-returns-2 : tie.Need-returns-2
+returns-2 : tie.Need-returns
 returns-2 c =
     let f = c.before.before in
-    rows-tracked _ _ _ _ f.before.before.if1.false f.fill-rows.ensures
+    rows-tracked _ _ _ _ f.before.before.if-few.false f.fill_rows.ensures
 
-pub track-spec : {M : Type 1} → statement M
-track-spec =
+pub track_spec : {M : Type 1} → statement M
+track_spec =
     tie.close
     (tie.spec fill-gaps-requires same_length returns fill-rows-requires same-length-2 returns-2)

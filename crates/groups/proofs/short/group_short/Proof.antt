@@ -25,124 +25,124 @@ use Rattle.groups.proofs.short.Joining.{joined-sums}
 use Rattle.groups.proofs.short.group_short.Statement.{statement}
 use Rattle.groups.proofs.short.group_short.Tie as tie
 
-abbrev invariant-loop : tie.invariant-loop
+abbrev invariant-loop : tie.invariant-loop-i
 invariant-loop keys weights used shades count rows few members₀ anew sums₀ total₀ distances₀ i₀ members sums total distances
     i =
     Turned used keys weights shades count (short_works keys shades count members₀) members₀ members total distances i
     × Summed (member_at members) keys weights (covered anew used i) sums
 
-abbrev decreases-loop : tie.decreases-loop
+abbrev decreases-loop : tie.decreases-loop-i
 decreases-loop keys weights used shades count rows few members₀ anew sums₀ total₀ distances₀ i₀ members sums total distances i =
     used - i
 
 -- where the grouping begins
-abbrev start : tie.After-slice-known invariant-loop decreases-loop → tie.Start invariant-loop decreases-loop
+abbrev start : tie.After-slice_known-1 invariant-loop decreases-loop → tie.Start invariant-loop decreases-loop
 start c = c.before.before.before.before.before
 
-abbrev st : tie.At-loop invariant-loop decreases-loop → tie.Start invariant-loop decreases-loop
+abbrev st : tie.At-loop-i invariant-loop decreases-loop → tie.Start invariant-loop decreases-loop
 st c = start c.before
 
 -- the turn in which the entry's shade is found
-abbrev turn : tie.After-rejoin invariant-loop decreases-loop → tie.In-loop invariant-loop decreases-loop
+abbrev turn : tie.After-rejoin-met invariant-loop decreases-loop → tie.In-loop-i invariant-loop decreases-loop
 turn c = c.before.before
 
 -- where its shade is found, from where the cost is worked out
-abbrev found : tie.After-cost invariant-loop decreases-loop → tie.After-rejoin invariant-loop decreases-loop
+abbrev found : tie.After-cost-total invariant-loop decreases-loop → tie.After-rejoin-met invariant-loop decreases-loop
 found c = c.before.before
 
 -- and from where it has joined
-abbrev cost : tie.After-join invariant-loop decreases-loop → tie.After-cost invariant-loop decreases-loop
+abbrev cost : tie.After-join invariant-loop decreases-loop → tie.After-cost-total invariant-loop decreases-loop
 cost c = c.before.before.before.before
 
 -- what is found for the entry, once it is worked out
-abbrev finds-at : (c : tie.After-cost invariant-loop decreases-loop)
+abbrev finds-at : (c : tie.After-cost-total invariant-loop decreases-loop)
     → let l = (turn (found c)).before in
     let a = (st l).args in
-    Finds a.keys.now a.weights.now a.shades.now a.count l.loop.i (found c).rejoin.result.number
-    c.cost.result
-finds-at c = finds-of (found c).rejoin.ensures.0 (found c).rejoin.ensures.1.0 c.cost.ensures
+    Finds a.keys.now a.weights.now a.shades.now a.count l.loop-i.i (found c).rejoin-met.result.number
+    c.cost-total.result
+finds-at c = finds-of (found c).rejoin-met.ensures.0 (found c).rejoin-met.ensures.1.0 c.cost-total.ensures
 
 -- the distances that its search worked out
-abbrev worked-at : (c : tie.After-rejoin invariant-loop decreases-loop)
+abbrev worked-at : (c : tie.After-rejoin-met invariant-loop decreases-loop)
     → let l = (turn c).before in
     let a = (st l).args in
-    c.rejoin.result.distances
-    ≡ short_works a.keys.now a.shades.now a.count a.members.now l.loop.i
+    c.rejoin-met.result.distances
+    ≡ short_works a.keys.now a.shades.now a.count a.members-1.now l.loop-i.i
 worked-at c =
     let l = (turn c).before in
-    short-worked (st l).pre.0 l.loop.inv.0 _ c.rejoin.ensures.1.1
+    short-worked (st l).pre.0 l.loop-i.inv.0 _ c.rejoin-met.ensures.1.1
 
-loop-holds : tie.Need-loop-init invariant-loop decreases-loop
+loop-holds : tie.Need-loop-i-init invariant-loop decreases-loop
 loop-holds c = let p = (start c).requires in (turned-start (short-fitted p.0), p.2)
 
-rejoin-requires : tie.Need-rejoin-requires invariant-loop decreases-loop
+rejoin-requires : tie.Need-rejoin-met-requires invariant-loop decreases-loop
 rejoin-requires c κs =
     let t = c.before in
     let l = t.before in
-    (short-again (st l).requires.0 l.loop.invariant.0, (st l).requires.1, t.loop-test.true)
+    (short-again (st l).requires.0 l.loop-i.invariant.0, (st l).requires.1, t.loop-i-test.true)
 
-mul-cost : tie.Need-overflow-mul-cost invariant-loop decreases-loop
+mul-cost : tie.Need-offset_bounds-weights-i invariant-loop decreases-loop
 mul-cost c = omega arith
 
-shared-slice-read-cost : tie.Need-shared-slice-read-cost invariant-loop decreases-loop
-shared-slice-read-cost c = omega (arith, (turn c.before).before.loop.inv.0.fitted.table.weights_room)
+shared-slice-read-cost : tie.Need-bounds-weights-i invariant-loop decreases-loop
+shared-slice-read-cost c = omega (arith, (turn c.before).before.loop-i.inv.0.fitted.table.weights_room)
 
-cost-requires : tie.Need-cost-requires invariant-loop decreases-loop
+cost-requires : tie.Need-cost-total-requires invariant-loop decreases-loop
 cost-requires c κs =
     let t = turn c.before in
-    turned-low t.before.loop.inv.0 t.loop-test.taken _ c.before.rejoin.ensures.1.0
+    turned-low t.before.loop-i.inv.0 t.loop-i-test.taken _ c.before.rejoin-met.ensures.1.0
 
-add_total : tie.Need-overflow-add-total invariant-loop decreases-loop
+add_total : tie.Need-overflow_add-total invariant-loop decreases-loop
 add_total c =
     let t = turn (found c) in
-    omega (arith, total-fits t.before.loop.inv.0 t.loop-test.taken (finds-at c))
+    omega (arith, total-fits t.before.loop-i.inv.0 t.loop-i-test.taken (finds-at c))
 
-add-distances : tie.Need-overflow-add-distances invariant-loop decreases-loop
+add-distances : tie.Need-overflow_add-distances invariant-loop decreases-loop
 add-distances c =
     let f = found c.before in
     let t = turn f in
-    omega (arith, distances-fit t.before.loop.inv.0 t.loop-test.taken _ (worked-at f))
+    omega (arith, distances-fit t.before.loop-i.inv.0 t.loop-i-test.taken _ (worked-at f))
 
 join-requires : tie.Need-join-requires invariant-loop decreases-loop
 join-requires c κs =
     let f = found c.before.before.before in
     let t = turn f in
-    let l = t.before.loop.inv in
-    let h = t.loop-test.taken in (
+    let l = t.before.loop-i.inv in
+    let h = t.loop-i-test.taken in (
       l.0.fitted.table,
       short-assigned (st t.before).pre.0 l.0,
       l.1,
       h,
-      rw f.rejoin.ensures.0 (number-below l.0 h),
+      rw f.rejoin-met.ensures.0 (number-below l.0 h),
     )
 
-add-i : tie.Need-overflow-add-i invariant-loop decreases-loop
+add-i : tie.Need-overflow_add-i invariant-loop decreases-loop
 add-i c = omega arith
 
-loop-less : tie.Need-loop-smaller invariant-loop decreases-loop
+loop-less : tie.Need-loop-i-smaller invariant-loop decreases-loop
 loop-less c = omega arith
 
-loop-again : tie.Need-loop-preserved invariant-loop decreases-loop
+loop-again : tie.Need-loop-i-preserved invariant-loop decreases-loop
 loop-again c =
     let j = c.before.before in
     let f = found (cost j) in
     let t = turn f in (
       rw j.join.ensures.0
-          (turned-step t.before.loop.inv.0 t.loop-test.taken (finds-at (cost j)) _ (worked-at f)),
+          (turned-step t.before.loop-i.inv.0 t.loop-i-test.taken (finds-at (cost j)) _ (worked-at f)),
       j.join.ensures.1,
     )
 
-same_length : tie.Need-same-length invariant-loop decreases-loop
-same_length c = turned-length c.before.loop.invariant.0
+same_length : tie.Need-shape_of-members invariant-loop decreases-loop
+same_length c = turned-length c.before.loop-i.invariant.0
 
 returns : tie.Need-returns invariant-loop decreases-loop
 returns c =
-    let x = c.before.loop.invariant.0 in
-    let h = c.loop-test.false in
-    (turned-done x h (joined-sums (st c.before).args.anew x h c.before.loop.invariant.1), turned-distances x h)
+    let x = c.before.loop-i.invariant.0 in
+    let h = c.loop-i-test.false in
+    (turned-done x h (joined-sums (st c.before).args.anew x h c.before.loop-i.invariant.1), turned-distances x h)
 
-pub group-short-spec : {M : Type 1} → statement M
-group-short-spec =
+pub group_short_spec : {M : Type 1} → statement M
+group_short_spec =
     tie.close
     (tie.spec
     invariant-loop

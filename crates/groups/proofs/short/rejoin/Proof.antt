@@ -6,44 +6,44 @@ use Rattle.groups.proofs.short.rejoin.Statement.{statement}
 use Rattle.groups.proofs.short.rejoin.Tie as tie
 
 -- where the function begins
-abbrev start : tie.After-shared-slice-known5 → tie.Start
+abbrev start : tie.After-shared_slice_known-5-1 → tie.Start
 start c = c.before.before.before.before.before
 
-abbrev st : tie.After-colour-of → tie.Start
+abbrev st : tie.After-colour_of-c → tie.Start
 st c = start c.before.before.before
 
-mul-p : tie.Need-overflow-mul-p
+mul-p : tie.Need-offset_bounds-members-i
 mul-p c = search rules
 
-shared-slice-read-p : tie.Need-shared-slice-read-p
+shared-slice-read-p : tie.Need-bounds-members-i
 shared-slice-read-p c = search rules
 
-cast-p : tie.Need-overflow-cast-p
-cast-p c = omega (arith, c.shared-slice-known6.given (start c.before).args.i)
+cast-p : tie.Need-overflow_cast-p
+cast-p c = omega (arith, c.shared_slice_known-6-1.given (start c.before).args.i)
 
-mul-colour-of : tie.Need-overflow-mul-colour-of
+mul-colour-of : tie.Need-offset_bounds-keys-i
 mul-colour-of c = search rules
 
-shared-slice-read-colour-of : tie.Need-shared-slice-read-colour-of
+shared-slice-read-colour-of : tie.Need-bounds-keys-i
 shared-slice-read-colour-of c = search rules
 
-colour-of-requires : tie.Need-colour-of-requires
+colour-of-requires : tie.Need-colour_of-c-requires
 colour-of-requires c κs = search rules
 
-walk-gaps-requires : tie.Need-walk-gaps-requires
+walk-gaps-requires : tie.Need-walk_gaps-requires
 walk-gaps-requires c κs =
     let p = (st c.before).requires in
     record {
       former = p.0.joined _ p.2;
       shades = p.0.shades;
-      gaps = tracks-gaps _ _ _ _ c.if1.true p.1;
-      inside = c.before.colour-of.ensures.1;
+      gaps = tracks-gaps _ _ _ _ c.if-few.true p.1;
+      inside = c.before.colour_of-c.ensures.1;
     }
 
-returns : tie.Need-returns
+returns : tie.Need-returns-then-few
 returns c =
-    let e = c.before.before.colour-of.ensures.0 in
-    rw e at c.walk-gaps.ensures
+    let e = c.before.before.colour_of-c.ensures.0 in
+    rw e at c.walk_gaps.ensures
 
 walk-requires : tie.Need-walk-requires
 walk-requires c κs =
@@ -51,17 +51,17 @@ walk-requires c κs =
     record {
       former = p.0.joined _ p.2;
       shades = p.0.shades;
-      rows = tracks-rows _ _ _ _ c.if1.false p.1;
-      inside = c.before.colour-of.ensures.1;
+      rows = tracks-rows _ _ _ _ c.if-few.false p.1;
+      inside = c.before.colour_of-c.ensures.1;
     }
 
-returns-2 : tie.Need-returns-2
+returns-2 : tie.Need-returns
 returns-2 c =
-    let e = c.before.before.colour-of.ensures.0 in
+    let e = c.before.before.colour_of-c.ensures.0 in
     rw e at c.walk.ensures
 
-pub rejoin-spec : {M : Type 1} → statement M
-rejoin-spec =
+pub rejoin_spec : {M : Type 1} → statement M
+rejoin_spec =
     tie.close
     (tie.spec
     mul-p

@@ -5,34 +5,34 @@ use Rattle.kohlenfloh.proofs.Arrays.{add-crosses}
 use Rattle.kohlenfloh.proofs.add.kf_add_strip.Statement.{statement}
 use Rattle.kohlenfloh.proofs.add.kf_add_strip.Tie as tie
 
-record-in-requires : tie.Need-record-in-requires
+record-in-requires : tie.Need-record_in-requires
 record-in-requires c κs = search rules
 
-add-strip-requires : tie.Need-add-strip-requires
+add-strip-requires : tie.Need-add_strip-a-requires
 add-strip-requires c κs = search rules
 
-record-left-requires : tie.Need-record-left-requires
+record-left-requires : tie.Need-record_left-requires
 record-left-requires c κs = search rules
 
-cast-result : tie.Need-overflow-cast-result
+cast-result : tie.Need-overflow_cast-result
 cast-result c = search rules
 
-same_length : tie.Need-same-length
+same_length : tie.Need-shape_of-keys
 same_length c = search rules
 
-same-length-2 : tie.Need-same-length-2
+same-length-2 : tie.Need-shape_of-weights
 same-length-2 c = search rules
 
 returns : tie.Need-returns
 returns c =
     let p = c.before.before.before.before.before.before.before in
     add-crosses
-    p.before.before.before.record-in.ensures
-    p.add-strip.ensures
-    c.before.before.record-left.ensures
+    p.before.before.before.record_in.ensures
+    p.add_strip-a.ensures
+    c.before.before.record_left.ensures
 
-pub kf-add-strip-spec : {M : Type 1} → statement M
-kf-add-strip-spec =
+pub kf_add_strip_spec : {M : Type 1} → statement M
+kf_add_strip_spec =
     tie.close
     (tie.spec
     record-in-requires

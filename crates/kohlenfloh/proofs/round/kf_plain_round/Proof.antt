@@ -8,22 +8,22 @@ use Rattle.lloyd.specs.{plain_round}
 use Rattle.kohlenfloh.proofs.round.kf_plain_round.Statement.{statement}
 use Rattle.kohlenfloh.proofs.round.kf_plain_round.Tie as tie
 
-record-in-requires : tie.Need-record-in-requires
+record-in-requires : tie.Need-record_in-requires
 record-in-requires c κs = search rules
 
-plain-round-requires : tie.Need-plain-round-requires
+plain-round-requires : tie.Need-plain_round-a-requires
 plain-round-requires c κs = search rules
 
-round-numbers-requires : tie.Need-round-numbers-requires
+round-numbers-requires : tie.Need-round_numbers-requires
 round-numbers-requires c κs = search rules
 
-cast-result : tie.Need-overflow-cast-result
+cast-result : tie.Need-overflow_cast-result
 cast-result c = search rules
 
-same_length : tie.Need-same-length
+same_length : tie.Need-shape_of-coordinates
 same_length c = search rules
 
-same-length-2 : tie.Need-same-length-2
+same-length-2 : tie.Need-shape_of-members
 same-length-2 c = search rules
 
 returns : tie.Need-returns
@@ -31,12 +31,12 @@ returns c =
     let p = c.before.before.before.before.before.before in
     let q = p.before.before.before in
     let s = q.before.before.before.before.before.args in
-    let a = state_of s.coordinates.now s.members.now in
-    round-crosses (ap (λ rec. plain_round rec s.keys.now s.weights.now a) q.record-in.ensures)
-    p.plain-round.ensures c.before.round-numbers.ensures
+    let a = state_of s.coordinates-1.now s.members-1.now in
+    round-crosses (ap (λ rec. plain_round rec s.keys.now s.weights.now a) q.record_in.ensures)
+    p.plain_round-a.ensures c.before.round_numbers.ensures
 
-pub kf-plain-round-spec : {M : Type 1} → statement M
-kf-plain-round-spec =
+pub kf_plain_round_spec : {M : Type 1} → statement M
+kf_plain_round_spec =
     tie.close
     (tie.spec
     record-in-requires

@@ -6,22 +6,22 @@ use Rattle.lloyd.specs.{run_of}
 use Rattle.kohlenfloh.proofs.round.kf_run.Statement.{statement}
 use Rattle.kohlenfloh.proofs.round.kf_run.Tie as tie
 
-record-in-requires : tie.Need-record-in-requires
+record-in-requires : tie.Need-record_in-requires
 record-in-requires c κs = search rules
 
-run-requires : tie.Need-run-requires
+run-requires : tie.Need-run-a-requires
 run-requires c κs = search rules
 
-run-numbers-requires : tie.Need-run-numbers-requires
+run-numbers-requires : tie.Need-run_numbers-requires
 run-numbers-requires c κs = search rules
 
-cast-result : tie.Need-overflow-cast-result
+cast-result : tie.Need-overflow_cast-result
 cast-result c = search rules
 
-same_length : tie.Need-same-length
+same_length : tie.Need-shape_of-members
 same_length c = search rules
 
-same-length-2 : tie.Need-same-length-2
+same-length-2 : tie.Need-shape_of-totals
 same-length-2 c = search rules
 
 returns : tie.Need-returns
@@ -30,12 +30,12 @@ returns c =
     let q = p.before.before.before in
     let s = q.before.before.before.before.before.args in
     run-crosses
-    (ap (λ rec. run_of rec s.keys.now s.weights.now s.count s.limit s.members.now s.totals.now)
-    q.record-in.ensures)
-    p.run.ensures c.before.run-numbers.ensures
+    (ap (λ rec. run_of rec s.keys.now s.weights.now s.count s.limit s.members-1.now s.totals-1.now)
+    q.record_in.ensures)
+    p.run-a.ensures c.before.run_numbers.ensures
 
-pub kf-run-spec : {M : Type 1} → statement M
-kf-run-spec =
+pub kf_run_spec : {M : Type 1} → statement M
+kf_run_spec =
     tie.close
     (tie.spec
     record-in-requires

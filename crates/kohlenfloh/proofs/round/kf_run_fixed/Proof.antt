@@ -7,22 +7,22 @@ use Rattle.lloyd_fixed.specs.{fixed_run}
 use Rattle.kohlenfloh.proofs.round.kf_run_fixed.Statement.{statement}
 use Rattle.kohlenfloh.proofs.round.kf_run_fixed.Tie as tie
 
-record-in-requires : tie.Need-record-in-requires
+record-in-requires : tie.Need-record_in-requires
 record-in-requires c κs = search rules
 
-run-fixed-requires : tie.Need-run-fixed-requires
+run-fixed-requires : tie.Need-run_fixed-a-requires
 run-fixed-requires c κs = search rules
 
-run-numbers-requires : tie.Need-run-numbers-requires
+run-numbers-requires : tie.Need-run_numbers-requires
 run-numbers-requires c κs = search rules
 
-cast-result : tie.Need-overflow-cast-result
+cast-result : tie.Need-overflow_cast-result
 cast-result c = search rules
 
-same_length : tie.Need-same-length
+same_length : tie.Need-shape_of-members
 same_length c = search rules
 
-same-length-2 : tie.Need-same-length-2
+same-length-2 : tie.Need-shape_of-totals
 same-length-2 c = search rules
 
 returns : tie.Need-returns
@@ -31,12 +31,12 @@ returns c =
     let q = p.before.before.before in
     let s = q.before.before.before.before.before.before.args in
     run-crosses
-    (ap (λ rec. fixed_run rec s.keys.now s.weights.now s.fixed.now s.count s.limit s.members.now
-    s.totals.now) q.record-in.ensures)
-    p.run-fixed.ensures c.before.run-numbers.ensures
+    (ap (λ rec. fixed_run rec s.keys.now s.weights.now s.fixed.now s.count s.limit s.members-1.now
+    s.totals-1.now) q.record_in.ensures)
+    p.run_fixed-a.ensures c.before.run_numbers.ensures
 
-pub kf-run-fixed-spec : {M : Type 1} → statement M
-kf-run-fixed-spec =
+pub kf_run_fixed_spec : {M : Type 1} → statement M
+kf_run_fixed_spec =
     tie.close
     (tie.spec
     record-in-requires

@@ -6,11 +6,11 @@ use Rattle.level_sums.proofs.Bounds.{times-fits, times-pair}
 use Rattle.level_sums.proofs.pair.blue_pixels.Statement.{statement}
 use Rattle.level_sums.proofs.pair.blue_pixels.Tie as tie
 
-blue-of-requires : tie.Need-blue-of-requires
+blue-of-requires : tie.Need-blue_of-requires
 blue-of-requires c κs = search rules
 
-mul-pair : tie.Need-overflow-mul-pair
-mul-pair c = let st = c.before in omega (arith, times-fits st.args.weight _ st.requires c.blue-of.ensures.1)
+mul-pair : tie.Need-overflow_mul-weight
+mul-pair c = let st = c.before in omega (arith, times-fits st.args.weight _ st.requires c.blue_of.ensures.1)
 
 pair-requires : tie.Need-pair-requires
 pair-requires c κs = search rules
@@ -18,11 +18,11 @@ pair-requires c κs = search rules
 returns : tie.Need-returns
 returns c =
     let a = c.before.before.args in
-    rw (c.pair.ensures, c.before.blue-of.ensures.0)
+    rw (c.pair.ensures, c.before.blue_of.ensures.0)
     (omega (arith, times-pair a.weight (blue_of a.key) 1))
 
-pub blue-pixels-spec : {M : Type 1} → statement M
-blue-pixels-spec =
+pub blue_pixels_spec : {M : Type 1} → statement M
+blue_pixels_spec =
     tie.close
     (tie.spec
     blue-of-requires

@@ -22,45 +22,45 @@ use Rattle.listing.proofs.call.work_input.Tie as tie
 -- ---- where the function goes
 
 -- the input
-abbrev s : tie.After-number → List ℕ
+abbrev s : tie.After-number-reading → List ℕ
 s c = c.before.before.args.input.now
 
 -- where the count is asked for
-abbrev asked : tie.After-known-told → tie.After-number
+abbrev asked : tie.In-Number → tie.After-number-reading
 asked c = c.before.before.before
 
 -- the count
-abbrev value : tie.After-known-told → ℕ
-value c = c.before.reading.given.0.0
+abbrev value : tie.In-Number → ℕ
+value c = c.before.reading-1.given.0.0
 
 -- where its digits end
-abbrev next : tie.After-known-told → ℕ
-next c = c.before.reading.given.0.1.0
+abbrev next : tie.In-Number → ℕ
+next c = c.before.reading-1.given.0.1.0
 
 -- where the count is read, at the byte behind it
-abbrev read : tie.After-byte-at → tie.After-known-told
+abbrev read : tie.After-byte_at → tie.In-Number
 read c = c.before.before
 
 -- where the byte behind the count is read, past the length's test
-abbrev behind : tie.Else3 → tie.After-byte-at
+abbrev behind : tie.Else-input-gt-MOST_INPUT → tie.After-byte_at
 behind c = c.before.before
 
 -- where the line is read, at the picture's number
-abbrev passed : tie.After-picture-refusal → tie.Else3
+abbrev passed : tie.After-picture_refusal-number → tie.Else-input-gt-MOST_INPUT
 passed c = c.before.before
 
 -- ---- what is read
 
 -- the line names the count
-named : (c : tie.After-known-told) → Named (s (asked c)) (value c) (next c)
-named c = record { number = sym (asked c).number.ensures ∙ c.before.reading.given.1 }
+named : (c : tie.In-Number) → Named (s (asked c)) (value c) (next c)
+named c = record { number = sym (asked c).number-reading.ensures ∙ c.before.reading-1.given.1 }
 
 -- past the second test LF ends it
-ended : (c : tie.Else2) → byte_at (s (asked (read c.before))) (next (read c.before)) ≡ line_feed
-ended c = sym c.before.byte-at.ensures ∙ c.if2.false
+ended : (c : tie.Else-byte_at-ne10) → byte_at (s (asked (read c.before))) (next (read c.before)) ≡ line_feed
+ended c = sym c.before.byte_at.ensures ∙ c.if-byte_at-ne10.false
 
 -- past the third the line is read
-line : (c : tie.Else3) → Line (s (asked (read (behind c)))) (value (read (behind c))) (next (read (behind c)))
+line : (c : tie.Else-input-gt-MOST_INPUT) → Line (s (asked (read (behind c)))) (value (read (behind c))) (next (read (behind c)))
 line c = record {
   named = named (read (behind c));
   few = omega arith;
@@ -70,102 +70,102 @@ line c = record {
 
 -- ---- the proof
 
-number-requires : tie.Need-number-requires
+number-requires : tie.Need-number-reading-requires
 number-requires c κs = search rules
 
-enum-known-reading : tie.Need-enum-known-reading
+enum-known-reading : tie.Need-enum_known-reading
 enum-known-reading c = search rules
 
-enum_told : tie.Need-enum-told
+enum_told : tie.Need-enum_told-1
 enum_told c = search rules
 
 refused-requires : tie.Need-refused-requires
 refused-requires c κs = search rules
 
-returns : tie.Need-returns
+returns : tie.Need-returns-in_default
 returns c =
     let e = c.before in
     let a = e.before.before in
     c.refused.ensures
-    ∙ input-bad-line (s a) (line-no-digit (s a) _ (sym a.number.ensures ∙ e.enum_told.given.1))
+    ∙ input-bad-line (s a) (line-no-digit (s a) _ (sym a.number-reading.ensures ∙ e.enum_told-1.given.1))
 
-refused-requires-2 : tie.Need-refused-requires-2
+refused-requires-2 : tie.Need-refused-requires-then-next-gt2
 refused-requires-2 c κs = search rules
 
-returns-2 : tie.Need-returns-2
+returns-2 : tie.Need-returns-then-next-gt2
 returns-2 c =
     let i = c.before in
     let k = i.before in
-    c.refused2.ensures ∙ input-bad-line (s (asked k)) (line-long (named k) i.if1.true)
+    c.refused-then-next-gt2.ensures ∙ input-bad-line (s (asked k)) (line-long (named k) i.if-next-gt2.true)
 
-byte-at-requires : tie.Need-byte-at-requires
+byte-at-requires : tie.Need-byte_at-requires
 byte-at-requires c κs = search rules
 
-refused-requires-3 : tie.Need-refused-requires-3
+refused-requires-3 : tie.Need-refused-requires-then-byte_at-ne10
 refused-requires-3 c κs = search rules
 
-returns-3 : tie.Need-returns-3
+returns-3 : tie.Need-returns-then-byte_at-ne10
 returns-3 c =
     let i = c.before in
     let b = i.before in
-    c.refused3.ensures
+    c.refused-then-byte_at-ne10.ensures
     ∙ input-bad-line (s (asked (read b)))
-    (line-not-ended (named (read b)) (λ e. i.if2.true (b.byte-at.ensures ∙ e)))
+    (line-not-ended (named (read b)) (λ e. i.if-byte_at-ne10.true (b.byte_at.ensures ∙ e)))
 
-refused-requires-4 : tie.Need-refused-requires-4
+refused-requires-4 : tie.Need-refused-requires-then-input-gt-MOST_INPUT
 refused-requires-4 c κs = search rules
 
-returns-4 : tie.Need-returns-4
+returns-4 : tie.Need-returns-then-input-gt-MOST_INPUT
 returns-4 c =
     let i = c.before in
     let e = i.before in
     let k = read e.before in
-    c.refused4.ensures
-    ∙ input-long (s (asked k)) (line-good (named k) (omega arith) (ended e)) i.if3.true
+    c.refused-then-input-gt-MOST_INPUT.ensures
+    ∙ input-long (s (asked k)) (line-good (named k) (omega arith) (ended e)) i.if-input-gt-MOST_INPUT.true
 
-add-picture : tie.Need-overflow-add-picture
+add-picture : tie.Need-overflow_add-picture
 add-picture c = search rules
 
-sub-picture : tie.Need-overflow-sub-picture
+sub-picture : tie.Need-slice_bounds-picture-count
 sub-picture c = let k = read (behind c) in omega (arith, ended-inside (s (asked k)) (next k) (ended c.before))
 
-part-picture-start : tie.Need-slice-bounds-picture-start
+part-picture-start : tie.Need-slice_bounds-picture-start
 part-picture-start c =
     let k = read (behind c) in
     omega (arith, ended-inside (s (asked k)) (next k) (ended c.before))
 
-part-picture-end : tie.Need-slice-bounds-picture-end
+part-picture-end : tie.Need-slice_bounds-picture-end
 part-picture-end c = search rules
 
-picture-refusal-requires : tie.Need-picture-refusal-requires
+picture-refusal-requires : tie.Need-picture_refusal-number-requires
 picture-refusal-requires c κs = search rules
 
-refused-requires-5 : tie.Need-refused-requires-5
+refused-requires-5 : tie.Need-refused-requires-then-number-ne-DONE
 refused-requires-5 c κs = search rules
 
-returns-5 : tie.Need-returns-5
+returns-5 : tie.Need-returns-then-number-ne-DONE
 returns-5 c =
     let i = c.before in
     let f = i.before in
     let l = line (passed f) in
-    c.refused5.ensures
-    ∙ input-bad-picture l (picture-is l.named) f.picture-refusal.ensures i.if4.true
+    c.refused-then-number-ne-DONE.ensures
+    ∙ input-bad-picture l (picture-is l.named) f.picture_refusal-number.ensures i.if-number-ne-DONE.true
 
-cast-work-picture : tie.Need-overflow-cast-work-picture
+cast-work-picture : tie.Need-overflow_cast-count
 cast-work-picture c = search rules
 
-work-picture-requires : tie.Need-work-picture-requires
+work-picture-requires : tie.Need-work_picture-requires
 work-picture-requires c κs = search rules
 
-returns-6 : tie.Need-returns-6
+returns-6 : tie.Need-returns
 returns-6 c =
     let g = c.before in
     let f = g.before in
     let l = line (passed f) in
-    c.work-picture.ensures ∙ input-left l (picture-is l.named) f.picture-refusal.ensures g.if4.false
+    c.work_picture.ensures ∙ input-left l (picture-is l.named) f.picture_refusal-number.ensures g.if-number-ne-DONE.false
 
-pub work-input-spec : {M : Type 1} → statement M
-work-input-spec =
+pub work_input_spec : {M : Type 1} → statement M
+work_input_spec =
     tie.close
     (tie.spec
     number-requires

@@ -7,56 +7,56 @@ use Rattle.listing.proofs.call.write_work.Statement.{statement}
 use Rattle.listing.proofs.call.write_work.Tie as tie
 
 -- where the function begins
-abbrev st : tie.Else1 → tie.Start
+abbrev st : tie.Else-number-ne-DONE → tie.Start
 st c = c.before.before
 
 -- past the test, where the lines are asked for
-abbrev past : tie.After-put-lines-arg → tie.Else1
+abbrev past : tie.After-put_lines-arg-1 → tie.Else-number-ne-DONE
 past c = c.before.before.before.before.before
 
-put-refusal-requires : tie.Need-put-refusal-requires
+put-refusal-requires : tie.Need-put_refusal-requires
 put-refusal-requires c κs = search rules
 
-same_length : tie.Need-same-length
+same_length : tie.Need-shape_of-out-then-number-ne-DONE
 same_length c = search rules
 
-returns : tie.Need-returns
+returns : tie.Need-returns-then-number-ne-DONE
 returns c =
     let put = c.before.before in
     let t = put.before.before in
-    rw (text-refused t.before.before.args.work t.if1.true) put.put-refusal.ensures
+    rw (text-refused t.before.before.args.work t.if-number-ne-DONE.true) put.put_refusal.ensures
 
-mul-n : tie.Need-overflow-mul-n
+mul-n : tie.Need-overflow_mul-n
 mul-n c = search rules
 
-array-share-prefix-palette : tie.Need-array-share-prefix-palette
-array-share-prefix-palette c = (st (past c)).requires.0.palette
+array-share-prefix-palette : tie.Need-slice_bounds-palette-end
+array-share-prefix-palette c = (st (past c)).requires.0.palette-1
 
-slice-aggregate-put-lines : tie.Need-slice-aggregate-put-lines
-slice-aggregate-put-lines c = sym (length-take-le _ _ (st (past c.before)).requires.0.palette)
+slice-aggregate-put-lines : tie.Need-slice_bounds-put_lines-end
+slice-aggregate-put-lines c = sym (length-take-le _ _ (st (past c.before)).requires.0.palette-1)
 
-array-share-prefix-index : tie.Need-array-share-prefix-index
-array-share-prefix-index c = (st (past c.before)).requires.0.index
+array-share-prefix-index : tie.Need-slice_bounds-index-end
+array-share-prefix-index c = (st (past c.before)).requires.0.index-1
 
-slice-aggregate-put-lines-2 : tie.Need-slice-aggregate-put-lines-2
-slice-aggregate-put-lines-2 c = sym (length-take-le _ _ (st (past c.before.before)).requires.0.index)
+slice-aggregate-put-lines-2 : tie.Need-slice_bounds-put_lines-end-2
+slice-aggregate-put-lines-2 c = sym (length-take-le _ _ (st (past c.before.before)).requires.0.index-1)
 
-put-lines-requires : tie.Need-put-lines-requires
+put-lines-requires : tie.Need-put_lines-requires
 put-lines-requires c κs =
     let s = st (past c.before.before) in
     (entries-most s.pre.0, s.pre.1)
 
-same-length-2 : tie.Need-same-length-2
+same-length-2 : tie.Need-shape_of-out
 same-length-2 c = search rules
 
-returns-2 : tie.Need-returns-2
+returns-2 : tie.Need-returns
 returns-2 c =
     let put = c.before.before in
     let e = past put.before.before.before in
-    rw (text-lines (st e).args.work e.if1.left) put.put-lines.ensures
+    rw (text-lines (st e).args.work e.if-number-ne-DONE.left) put.put_lines.ensures
 
-pub write-work-spec : {M : Type 1} → statement M
-write-work-spec =
+pub write_work_spec : {M : Type 1} → statement M
+write_work_spec =
     tie.close
     (tie.spec
     put-refusal-requires

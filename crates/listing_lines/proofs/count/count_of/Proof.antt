@@ -10,50 +10,50 @@ use Rattle.number.proofs.Tallies.{Counting, counting-start, counting-next, count
 use Rattle.listing_lines.proofs.count.count_of.Statement.{statement}
 use Rattle.listing_lines.proofs.count.count_of.Tie as tie
 
-abbrev invariant-loop : tie.invariant-loop
+abbrev invariant-loop : tie.invariant-loop-i
 invariant-loop index q n count₀ i₀ count i = Counting n (λ j. eqb (get_or index j 0) q) count i
 
-abbrev decreases-loop : tie.decreases-loop
+abbrev decreases-loop : tie.decreases-loop-i
 decreases-loop index q n count₀ i₀ count i = n - i
 
 -- the turn in which a place is read
-abbrev turn : tie.After-shared-slice-known invariant-loop decreases-loop → tie.In-loop invariant-loop decreases-loop
+abbrev turn : tie.After-shared_slice_known-1 invariant-loop decreases-loop → tie.In-loop-i invariant-loop decreases-loop
 turn c = c.before
 
-loop-holds : tie.Need-loop-init invariant-loop decreases-loop
+loop-holds : tie.Need-loop-i-init invariant-loop decreases-loop
 loop-holds c = counting-start (length c.args.index.now) (λ j. eqb (get_or c.args.index.now j 0) c.args.q)
 
-shared-slice-read-if1 : tie.Need-shared-slice-read-if1 invariant-loop decreases-loop
+shared-slice-read-if1 : tie.Need-bounds-index-i invariant-loop decreases-loop
 shared-slice-read-if1 c = search rules
 
-cast-if1 : tie.Need-overflow-cast-if1 invariant-loop decreases-loop
-cast-if1 c = omega (arith, c.shared-slice-known.given (turn c).before.loop.i)
+cast-if1 : tie.Need-overflow_cast-index invariant-loop decreases-loop
+cast-if1 c = omega (arith, c.shared_slice_known-1.given (turn c).before.loop-i.i)
 
-add-count : tie.Need-overflow-add-count invariant-loop decreases-loop
+add-count : tie.Need-overflow_add-count invariant-loop decreases-loop
 add-count c =
     let t = turn c.before in
-    omega (arith, t.before.loop.inv.few, t.loop-test.taken)
+    omega (arith, t.before.loop-i.inv.few, t.loop-i-test.taken)
 
-add-i : tie.Need-overflow-add-i invariant-loop decreases-loop
+add-i : tie.Need-overflow_add-i invariant-loop decreases-loop
 add-i c = search rules
 
-loop-less : tie.Need-loop-smaller invariant-loop decreases-loop
+loop-less : tie.Need-loop-i-smaller invariant-loop decreases-loop
 loop-less c = omega arith
 
-loop-again : tie.Need-loop-preserved invariant-loop decreases-loop
+loop-again : tie.Need-loop-i-preserved invariant-loop decreases-loop
 loop-again c =
     let t = turn c.before in
     let l = t.before in
-    let b = get_or l.before.args.index.now l.loop.i 0 in
+    let b = get_or l.before.args.index.now l.loop-i.i 0 in
     let q = l.before.args.q in
-    counting-next l.loop.inv t.loop-test.taken
-    (⊎_elim (λ t. rw (eq-eqb b q t.0.taken) t.1) (λ t. rw (ne_eqb b q t.0.left) t.1) c.if1.branch)
+    counting-next l.loop-i.inv t.loop-i-test.taken
+    (⊎_elim (λ t. rw (eq-eqb b q t.0.taken) t.1) (λ t. rw (ne_eqb b q t.0.left) t.1) c.if-index-i.branch)
 
 returns : tie.Need-returns invariant-loop decreases-loop
-returns c = counting-done c.before.loop.invariant c.loop-test.false
+returns c = counting-done c.before.loop-i.invariant c.loop-i-test.false
 
-pub count-of-spec : {M : Type 1} → statement M
-count-of-spec =
+pub count_of_spec : {M : Type 1} → statement M
+count_of_spec =
     tie.close
     (tie.spec
     invariant-loop

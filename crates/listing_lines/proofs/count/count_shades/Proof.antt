@@ -10,56 +10,56 @@ use Rattle.listing_lines.specs.Texts.{mapped_to}
 use Rattle.listing_lines.proofs.count.count_shades.Statement.{statement}
 use Rattle.listing_lines.proofs.count.count_shades.Tie as tie
 
-abbrev invariant-loop : tie.invariant-loop
+abbrev invariant-loop : tie.invariant-loop-q
 invariant-loop index k counts₀ q₀ counts q = (q ≤ k) × (counts ≡ fill q (mapped_to index) counts₀)
 
-abbrev decreases-loop : tie.decreases-loop
+abbrev decreases-loop : tie.decreases-loop-q
 decreases-loop index k counts₀ q₀ counts q = k - q
 
 -- where the function begins
-abbrev st : tie.At-loop invariant-loop decreases-loop → tie.Start invariant-loop decreases-loop
+abbrev st : tie.At-loop-q invariant-loop decreases-loop → tie.Start invariant-loop decreases-loop
 st c = c.before.before.before
 
-loop-holds : tie.Need-loop-init invariant-loop decreases-loop
+loop-holds : tie.Need-loop-q-init invariant-loop decreases-loop
 unfolding fill
 loop-holds c = (omega arith, refl)
 
-count-of-requires : tie.Need-count-of-requires invariant-loop decreases-loop
+count-of-requires : tie.Need-count_of-requires invariant-loop decreases-loop
 count-of-requires c κs = search rules
 
-mul-counts : tie.Need-overflow-mul-counts invariant-loop decreases-loop
+mul-counts : tie.Need-offset_bounds-counts-q invariant-loop decreases-loop
 mul-counts c = search rules
 
-slice-write-counts : tie.Need-slice-write-counts invariant-loop decreases-loop
+slice-write-counts : tie.Need-bounds-counts-q invariant-loop decreases-loop
 slice-write-counts c =
     let l = c.before.before in
-    rw (l.loop.invariant.1, fill-length) (omega (arith, (st l).requires))
+    rw (l.loop-q.invariant.1, fill-length) (omega (arith, (st l).requires))
 
-add-q : tie.Need-overflow-add-q invariant-loop decreases-loop
+add-q : tie.Need-overflow_add-q invariant-loop decreases-loop
 add-q c = search rules
 
-loop-less : tie.Need-loop-smaller invariant-loop decreases-loop
+loop-less : tie.Need-loop-q-smaller invariant-loop decreases-loop
 loop-less c = omega arith
 
-loop-again : tie.Need-loop-preserved invariant-loop decreases-loop
+loop-again : tie.Need-loop-q-preserved invariant-loop decreases-loop
 loop-again c =
     let l = c.before.before in
     let a = (st l).args in (
       omega arith,
-      rw (l.loop.invariant.1, c.count_of.ensures)
-          (fill_more l.loop.q (mapped_to a.index.now) a.counts.now (omega (arith, (st l).requires))),
+      rw (l.loop-q.invariant.1, c.count_of.ensures)
+          (fill_more l.loop-q.q (mapped_to a.index.now) a.counts.now (omega (arith, (st l).requires))),
     )
 
-same_length : tie.Need-same-length invariant-loop decreases-loop
-same_length c = ap length c.before.loop.invariant.1 ∙ fill-length _ _ _
+same_length : tie.Need-shape_of-counts invariant-loop decreases-loop
+same_length c = ap length c.before.loop-q.invariant.1 ∙ fill-length _ _ _
 
 returns : tie.Need-returns invariant-loop decreases-loop
 returns c =
-    let e : c.before.loop.q ≡ (st c.before).args.shades = omega arith in
-    rw e at c.before.loop.invariant.1
+    let e : c.before.loop-q.q ≡ (st c.before).args.shades = omega arith in
+    rw e at c.before.loop-q.invariant.1
 
-pub count-shades-spec : {M : Type 1} → statement M
-count-shades-spec =
+pub count_shades_spec : {M : Type 1} → statement M
+count_shades_spec =
     tie.close
     (tie.spec
     invariant-loop

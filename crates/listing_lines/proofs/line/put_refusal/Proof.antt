@@ -5,27 +5,27 @@ use Rattle.listing_lines.proofs.line.put_refusal.Statement.{statement}
 use Rattle.listing_lines.proofs.line.put_refusal.Tie as tie
 
 -- where the word is put
-abbrev word : tie.After-put-last → tie.After-put-word
+abbrev word : tie.After-put_last → tie.After-put_word-a
 word c = c.before.before.before.before
 
-slice-aggregate-put-word : tie.Need-slice-aggregate-put-word
+slice-aggregate-put-word : tie.Need-put_word-a-requires
 slice-aggregate-put-word c = search rules
 
-put-word-requires : tie.Need-put-word-requires
+put-word-requires : tie.Need-put_last-requires
 put-word-requires c κs = search rules
 
-put-last-requires : tie.Need-put-last-requires
+put-last-requires : tie.Need-shape_of-out
 put-last-requires c κs = search rules
 
-same_length : tie.Need-same-length
+same_length : tie.Need-returns
 same_length c = search rules
 
 returns : tie.Need-returns
 returns c =
     let last = c.before.before in
-    put_then (word last).put_word.ensures last.put_last.ensures
+    put_then (word last).put_word-a.ensures last.put_last.ensures
 
-pub put-refusal-spec : {M : Type 1} → statement M
-put-refusal-spec =
+pub put_refusal_spec : {M : Type 1} → statement M
+put_refusal_spec =
     tie.close
     (tie.spec slice-aggregate-put-word put-word-requires put-last-requires same_length returns)

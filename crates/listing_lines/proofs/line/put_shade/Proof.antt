@@ -6,50 +6,50 @@ use Rattle.listing_lines.proofs.line.put_shade.Statement.{statement}
 use Rattle.listing_lines.proofs.line.put_shade.Tie as tie
 
 -- where the function begins
-abbrev st : tie.After-shared-slice-known → tie.Start
+abbrev st : tie.After-shared_slice_known-1 → tie.Start
 st c = c.before.before
 
-mul-i : tie.Need-overflow-mul-i
+mul-i : tie.Need-overflow_mul-i
 mul-i c = search rules
 
-shared-slice-read-t10 : tie.Need-shared-slice-read-t10
+shared-slice-read-t10 : tie.Need-bounds-palette-i
 shared-slice-read-t10 c = search rules
 
-cast-t11 : tie.Need-overflow-cast-t11
-cast-t11 c = omega (arith, c.shared-slice-known2.given (3 * (st c.before).args.q))
+cast-t11 : tie.Need-overflow_cast-fields
+cast-t11 c = omega (arith, c.shared_slice_known-2-1.given (3 * (st c.before).args.q))
 
-add-t12 : tie.Need-overflow-add-t12
+add-t12 : tie.Need-overflow_add-fields
 add-t12 c = search rules
 
-shared-slice-read-t14 : tie.Need-shared-slice-read-t14
+shared-slice-read-t14 : tie.Need-bounds-palette-i-2
 shared-slice-read-t14 c = search rules
 
-cast-t15 : tie.Need-overflow-cast-t15
-cast-t15 c = omega (arith, c.shared-slice-known3.given (3 * (st c.before.before).args.q + 1))
+cast-t15 : tie.Need-overflow_cast-fields-2
+cast-t15 c = omega (arith, c.shared_slice_known-3-1.given (3 * (st c.before.before).args.q + 1))
 
-add-t16 : tie.Need-overflow-add-t16
+add-t16 : tie.Need-overflow_add-fields-2
 add-t16 c = search rules
 
-shared-slice-read-t18 : tie.Need-shared-slice-read-t18
+shared-slice-read-t18 : tie.Need-bounds-palette-i-3
 shared-slice-read-t18 c = search rules
 
-cast-t19 : tie.Need-overflow-cast-t19
-cast-t19 c = omega (arith, c.shared-slice-known4.given (3 * (st c.before.before.before).args.q + 2))
+cast-t19 : tie.Need-overflow_cast-fields-3
+cast-t19 c = omega (arith, c.shared_slice_known-4-1.given (3 * (st c.before.before.before).args.q + 2))
 
-slice-aggregate-put-line : tie.Need-slice-aggregate-put-line
+slice-aggregate-put-line : tie.Need-slice_bounds-put_line-end
 slice-aggregate-put-line c = search rules
 
-put-line-requires : tie.Need-put-line-requires
+put-line-requires : tie.Need-put_line-requires
 put-line-requires c κs = search rules
 
-same_length : tie.Need-same-length
+same_length : tie.Need-shape_of-out
 same_length c = search rules
 
 returns : tie.Need-returns
 returns c = search rules
 
-pub put-shade-spec : {M : Type 1} → statement M
-put-shade-spec =
+pub put_shade_spec : {M : Type 1} → statement M
+put_shade_spec =
     tie.close
     (tie.spec
     mul-i

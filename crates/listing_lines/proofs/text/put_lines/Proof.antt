@@ -15,69 +15,69 @@ use Rattle.listing_lines.proofs.text.put_lines.Tie as tie
 -- ---- where things are done
 
 -- where the function begins
-abbrev st : tie.After-count-shades → tie.Start
+abbrev st : tie.After-count_shades → tie.Start
 st c = c.before.before.before.before.before
 
 -- where the shades are counted
-abbrev counted : tie.After-put-head → tie.After-count-shades
+abbrev counted : tie.After-put_head-a → tie.After-count_shades
 counted c = c.before.before.before
 
 -- where line 1 is put
-abbrev headed : tie.After-put-rows → tie.After-put-head
+abbrev headed : tie.After-put_rows-b → tie.After-put_head-a
 headed c = c.before.before.before.before.before
 
 -- where the lines of the shades are
-abbrev listed : tie.After-put-last → tie.After-put-rows
+abbrev listed : tie.After-put_last → tie.After-put_rows-b
 listed c = c.before.before.before.before
 
 -- ---- what is there
 
 -- the palette
-abbrev palette : tie.After-count-shades → List ℕ
+abbrev palette : tie.After-count_shades → List ℕ
 palette c = (st c).args.palette.now
 
 -- the count of a shade
-abbrev count : tie.After-count-shades → ℕ → ℕ
-count c q = get_or c.count-shades.new.1.1.0 q 0
+abbrev count : tie.After-count_shades → ℕ → ℕ
+count c q = get_or c.count_shades.new.counts q 0
 
 -- it is the one that the index picture gives
-count-is : (c : tie.After-count-shades) (q : ℕ) → q < length (palette c) / 3
+count-is : (c : tie.After-count_shades) (q : ℕ) → q < length (palette c) / 3
     → count c q ≡ mapped_to (st c).args.index.now q
 count-is c q h =
     let z = length-replicate {A = ℕ} 64 0 in
-    ap (λ (l : List ℕ). get_or l q 0) c.count-shades.ensures
+    ap (λ (l : List ℕ). get_or l q 0) c.count_shades.ensures
     ∙ fill-at (length (palette c) / 3) q (mapped_to (st c).args.index.now) (replicate 64 0) h
     (omega (arith, z, (st c).requires.0))
 
 -- ---- the proof
 
-slice-aggregate-count-shades : tie.Need-slice-aggregate-count-shades
+slice-aggregate-count-shades : tie.Need-slice_bounds-count_shades-end
 slice-aggregate-count-shades c = search rules
 
-count-shades-requires : tie.Need-count-shades-requires
+count-shades-requires : tie.Need-count_shades-requires
 count-shades-requires c κs = search rules
 
-put-head-requires : tie.Need-put-head-requires
+put-head-requires : tie.Need-put_head-a-requires
 put-head-requires c κs = search rules
 
-slice-aggregate-put-rows : tie.Need-slice-aggregate-put-rows
+slice-aggregate-put-rows : tie.Need-slice_bounds-put_rows-end
 slice-aggregate-put-rows c = search rules
 
-put-rows-requires : tie.Need-put-rows-requires
+put-rows-requires : tie.Need-put_rows-b-requires
 put-rows-requires c κs =
     let h = c.before.before.before.before in
-    let put = h.put-head.ensures in
+    let put = h.put_head-a.ensures in
     let s = st (counted h) in (
-      omega (arith, (counted h).count-shades.auto.1.1.0, length-replicate {A = ℕ} 64 0, s.pre.0),
+      omega (arith, (counted h).count_shades.auto.1.1.0, length-replicate {A = ℕ} 64 0, s.pre.0),
       omega (arith, put.ends, put-length put, head-length s.args.summary, s.pre.0, s.pre.1),
     )
 
-put-last-requires : tie.Need-put-last-requires
+put-last-requires : tie.Need-put_last-requires
 put-last-requires c κs =
     let l = c.before.before.before in
     let k = counted (headed l) in
-    let head = (headed l).put-head.ensures in
-    let rows = l.put-rows.ensures in
+    let head = (headed l).put_head-a.ensures in
+    let rows = l.put_rows-b.ensures in
     let s = st k in
     omega (
       arith,
@@ -91,7 +91,7 @@ put-last-requires c κs =
       s.pre.1,
     )
 
-same_length : tie.Need-same-length
+same_length : tie.Need-shape_of-out
 same_length c = search rules
 
 returns : tie.Need-returns
@@ -100,10 +100,10 @@ returns c =
     let l = listed e in
     let k = counted (headed l) in
     lines-put (st k).args.summary (palette k) (st k).args.index.now (count k) (count-is k)
-    (headed l).put-head.ensures l.put-rows.ensures e.put_last.ensures
+    (headed l).put_head-a.ensures l.put_rows-b.ensures e.put_last.ensures
 
-pub put-lines-spec : {M : Type 1} → statement M
-put-lines-spec =
+pub put_lines_spec : {M : Type 1} → statement M
+put_lines_spec =
     tie.close
     (tie.spec
     slice-aggregate-count-shades

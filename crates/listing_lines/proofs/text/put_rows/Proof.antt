@@ -10,76 +10,76 @@ use Rattle.listing_lines.proofs.Rows.{rows_start, rows_step, rows-done, rows-len
 use Rattle.listing_lines.proofs.text.put_rows.Statement.{statement}
 use Rattle.listing_lines.proofs.text.put_rows.Tie as tie
 
-abbrev invariant-loop : tie.invariant-loop
+abbrev invariant-loop : tie.invariant-loop-q
 invariant-loop out₀ at palette counts k a₀ q₀ out a q =
     (q ≤ k) × PutMeets at (lines_of (shade_rows q palette (λ i. get_or counts i 0))) out₀ a out
 
-abbrev decreases-loop : tie.decreases-loop
+abbrev decreases-loop : tie.decreases-loop-q
 decreases-loop out₀ at palette counts k a₀ q₀ out a q = k - q
 
 -- where the function begins
-abbrev st : tie.At-loop invariant-loop decreases-loop → tie.Start invariant-loop decreases-loop
+abbrev st : tie.At-loop-q invariant-loop decreases-loop → tie.Start invariant-loop decreases-loop
 st c = c.before.before.before.before
 
 -- the turn in which a shade's line is put
-abbrev turn : tie.After-shared-slice-known3 invariant-loop decreases-loop → tie.In-loop invariant-loop decreases-loop
+abbrev turn : tie.After-shared_slice_known-in-loop-q-1 invariant-loop decreases-loop → tie.In-loop-q invariant-loop decreases-loop
 turn c = c.before.before
 
 -- where it is put
-abbrev put : tie.After-slice-known2 invariant-loop decreases-loop → tie.After-put-shade invariant-loop decreases-loop
+abbrev put : tie.After-slice_known-in-loop-q-1 invariant-loop decreases-loop → tie.After-put_shade-a invariant-loop decreases-loop
 put c = c.before.before
 
 -- the count of a shade
 abbrev count : tie.Start invariant-loop decreases-loop → ℕ → ℕ
 count c q = get_or c.args.counts.now q 0
 
-loop-holds : tie.Need-loop-init invariant-loop decreases-loop
+loop-holds : tie.Need-loop-q-init invariant-loop decreases-loop
 loop-holds c =
     let s = c.before.before.before in
-    (omega arith, rows_start s.args.at s.args.palette.now (count s) s.args.out.now)
+    (omega arith, rows_start s.args.at s.args.palette.now (count s) s.args.out-1.now)
 
-mul-put-shade : tie.Need-overflow-mul-put-shade invariant-loop decreases-loop
+mul-put-shade : tie.Need-offset_bounds-counts-q invariant-loop decreases-loop
 mul-put-shade c = search rules
 
-shared-slice-read-put-shade : tie.Need-shared-slice-read-put-shade invariant-loop decreases-loop
+shared-slice-read-put-shade : tie.Need-bounds-counts-q invariant-loop decreases-loop
 shared-slice-read-put-shade c = search rules
 
-put-shade-requires : tie.Need-put-shade-requires invariant-loop decreases-loop
+put-shade-requires : tie.Need-put_shade-a-requires invariant-loop decreases-loop
 put-shade-requires c κs =
     let t = turn c in
-    let l = t.before.loop in
+    let l = t.before.loop-q in
     let s = st t.before in
     let n = rows-length l.q s.args.palette.now (count s) in (
-      omega (arith, t.loop-test.taken),
-      omega (arith, t.loop-test.taken, n, l.inv.1.ends, put-length l.inv.1, s.pre.1),
+      omega (arith, t.loop-q-test.taken),
+      omega (arith, t.loop-q-test.taken, n, l.inv.1.ends, put-length l.inv.1, s.pre.1),
     )
 
-add-q : tie.Need-overflow-add-q invariant-loop decreases-loop
+add-q : tie.Need-overflow_add-q invariant-loop decreases-loop
 add-q c = search rules
 
-loop-less : tie.Need-loop-smaller invariant-loop decreases-loop
+loop-less : tie.Need-loop-q-smaller invariant-loop decreases-loop
 loop-less c = omega arith
 
-loop-again : tie.Need-loop-preserved invariant-loop decreases-loop
+loop-again : tie.Need-loop-q-preserved invariant-loop decreases-loop
 loop-again c =
     let t = turn (put c).before in
     let s = st t.before in
-    let l = t.before.loop in (
-      omega (arith, t.loop-test.taken),
-      rows_step l.q s.args.palette.now (count s) l.inv.1 (put c).put-shade.ensures,
+    let l = t.before.loop-q in (
+      omega (arith, t.loop-q-test.taken),
+      rows_step l.q s.args.palette.now (count s) l.inv.1 (put c).put_shade-a.ensures,
     )
 
-same_length : tie.Need-same-length invariant-loop decreases-loop
-same_length c = put-length c.before.loop.invariant.1
+same_length : tie.Need-shape_of-out invariant-loop decreases-loop
+same_length c = put-length c.before.loop-q.invariant.1
 
 returns : tie.Need-returns invariant-loop decreases-loop
 returns c =
     let s = st c.before in
-    let i = c.before.loop.invariant in
-    rows-done s.args.palette.now (count s) i.0 c.loop-test.false i.1
+    let i = c.before.loop-q.invariant in
+    rows-done s.args.palette.now (count s) i.0 c.loop-q-test.false i.1
 
-pub put-rows-spec : {M : Type 1} → statement M
-put-rows-spec =
+pub put_rows_spec : {M : Type 1} → statement M
+put_rows_spec =
     tie.close
     (tie.spec
     invariant-loop

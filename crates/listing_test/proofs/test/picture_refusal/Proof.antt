@@ -14,80 +14,80 @@ use Rattle.listing_test.proofs.test.picture_refusal.Statement.{statement}
 use Rattle.listing_test.proofs.test.picture_refusal.Tie as tie
 
 -- where the header is read, at the size's test
-abbrev read_at : tie.After-bad-size → tie.After-read-header
+abbrev read_at : tie.After-bad_size → tie.After-read_header-h
 read_at c = c.before.before.before.before
 
 -- the picture
-abbrev p : tie.After-read-header → List ℕ
+abbrev p : tie.After-read_header-h → List ℕ
 p c = c.before.before.args.picture.now
 
 -- the header's width
-abbrev width : tie.After-bad-size → ℕ
-width c = c.before.before.h.given.0.0
+abbrev width : tie.After-bad_size → ℕ
+width c = c.before.before.h-1.given.0.0
 
 -- its height
-abbrev height : tie.After-bad-size → ℕ
-height c = c.before.before.h.given.0.1.0
+abbrev height : tie.After-bad_size → ℕ
+height c = c.before.before.h-1.given.0.1.0
 
 -- its depth
-abbrev depth : tie.After-bad-size → ℕ
-depth c = c.before.before.h.given.0.1.1.0
+abbrev depth : tie.After-bad_size → ℕ
+depth c = c.before.before.h-1.given.0.1.1.0
 
 -- the first place after it
-abbrev start : tie.After-bad-size → ℕ
-start c = c.before.before.h.given.0.1.1.1.0
+abbrev start : tie.After-bad_size → ℕ
+start c = c.before.before.h-1.given.0.1.1.1.0
 
 -- what the header is
-header : (c : tie.After-bad-size) → header_of (p (read_at c)) ≡ Read (width c) (height c) (depth c) (start c)
-header c = sym (read_at c).read-header.ensures ∙ c.before.before.h.given.1
+header : (c : tie.After-bad_size) → header_of (p (read_at c)) ≡ Read (width c) (height c) (depth c) (start c)
+header c = sym (read_at c).read_header-h.ensures ∙ c.before.before.h-1.given.1
 
 -- past the size's test: it fails
-size_ok : (c : tie.Else1) → bad_size (width c.before) (height c.before) ≡ false
-size_ok c = sym c.before.bad-size.ensures ∙ c.if1.false
+size_ok : (c : tie.Else-bad_size) → bad_size (width c.before) (height c.before) ≡ false
+size_ok c = sym c.before.bad_size.ensures ∙ c.if-bad_size.false
 
-read-header-requires : tie.Need-read-header-requires
+read-header-requires : tie.Need-read_header-h-requires
 read-header-requires c κs = search rules
 
-enum-known-h : tie.Need-enum-known-h
+enum-known-h : tie.Need-enum_known-h
 enum-known-h c = search rules
 
-enum_told : tie.Need-enum-told
+enum_told : tie.Need-enum_told-1
 enum_told c = search rules
 
-returns : tie.Need-returns
+returns : tie.Need-returns-in_default
 returns c =
     let a = c.before.before in
-    sym (small-bad-header (p a) _ (sym a.read-header.ensures ∙ c.enum_told.given.1))
+    sym (small-bad-header (p a) _ (sym a.read_header-h.ensures ∙ c.enum_told-1.given.1))
 
-bad-size-requires : tie.Need-bad-size-requires
+bad-size-requires : tie.Need-bad_size-requires
 bad-size-requires c κs = search rules
 
-returns-2 : tie.Need-returns-2
+returns-2 : tie.Need-returns-then-bad_size
 returns-2 c =
     let b = c.before in
-    sym (small-bad-size (p (read_at b)) _ _ _ _ (header b) (sym b.bad-size.ensures ∙ c.if1.true))
+    sym (small-bad-size (p (read_at b)) _ _ _ _ (header b) (sym b.bad_size.ensures ∙ c.if-bad_size.true))
 
 area-requires : tie.Need-area-requires
 area-requires c κs = sides-at-most _ _ (size_ok c)
 
-returns-3 : tie.Need-returns-3
+returns-3 : tie.Need-returns-then-area-gt-MOST_LISTED
 returns-3 c =
     let e = c.before.before in
     let b = e.before in
     sym (small-over (p (read_at b)) _ _ _ _ (header b) (size_ok e) (omega arith))
 
-read-picture-requires : tie.Need-read-picture-requires
+read-picture-requires : tie.Need-read_picture-p-requires
 read-picture-requires c κs = search rules
 
-returns-4 : tie.Need-returns-4
+returns-4 : tie.Need-returns
 returns-4 c =
     let e = c.before.before.before in
     let b = e.before in
-    ap (λ (x : Picture). x.refusal) c.read-picture.ensures
+    ap (λ (x : Picture). x.refusal) c.read_picture-p.ensures
     ∙ small-rest (p (read_at b)) _ _ _ _ (header b) (size_ok e) (omega arith)
 
-pub picture-refusal-spec : {M : Type 1} → statement M
-picture-refusal-spec =
+pub picture_refusal_spec : {M : Type 1} → statement M
+picture_refusal_spec =
     tie.close
     (tie.spec
     read-header-requires

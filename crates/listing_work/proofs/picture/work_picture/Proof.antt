@@ -9,103 +9,103 @@ use Rattle.listing_work.proofs.picture.work_picture.Statement.{statement}
 use Rattle.listing_work.proofs.picture.work_picture.Tie as tie
 
 -- where the function begins
-abbrev st : tie.After-raster-of → tie.Start
+abbrev st : tie.After-raster_of-raster → tie.Start
 st c = c.before.before
 
 -- where the raster is told
-abbrev told : tie.After-add-strip → tie.After-raster-of
+abbrev told : tie.After-add_strip-added → tie.After-raster_of-raster
 told c = c.before.before.before
 
 -- where it is added
-abbrev added : tie.After-run → tie.After-add-strip
+abbrev added : tie.After-run-ran → tie.After-add_strip-added
 added c = c.before.before.before.before.before.before.before.before
 
 -- where the run is made, at its refusal
-abbrev ran-refused : tie.Then1 → tie.After-run
+abbrev ran-refused : tie.Then-number-ne-DONE → tie.After-run-ran
 ran-refused c = c.before.before.before
 
 -- where it is made, at its acceptance
-abbrev ran : tie.Else1 → tie.After-run
+abbrev ran : tie.Else-number-ne-DONE → tie.After-run-ran
 ran c = c.before.before.before
 
 -- where the run is accepted, from where table and members are lent on
-abbrev shared : tie.After-members3 → tie.Else1
+abbrev shared : tie.After-members-3-1 → tie.Else-number-ne-DONE
 shared c = c.before.before.before
 
 -- the picture
-abbrev p : tie.After-run → List ℕ
+abbrev p : tie.After-run-ran → List ℕ
 p c = (st (told (added c))).args.picture.now
 
 -- the count
-abbrev k : tie.After-run → ℕ
+abbrev k : tie.After-run-ran → ℕ
 k c = (st (told (added c))).args.count
 
 -- the raster is the picture's
-raster-is : (c : tie.After-run) → (told (added c)).raster-of.result.now ≡ raster_of (p c)
-raster-is c = (told (added c)).raster-of.ensures
+raster-is : (c : tie.After-run-ran) → (told (added c)).raster_of-raster.result.now ≡ raster_of (p c)
+raster-is c = (told (added c)).raster_of-raster.ensures
 
-raster-of-requires : tie.Need-raster-of-requires
+raster-of-requires : tie.Need-raster_of-raster-requires
 raster-of-requires c κs = search rules
 
-slice-aggregate-add-strip : tie.Need-slice-aggregate-add-strip
+slice-aggregate-add-strip : tie.Need-slice_bounds-add_strip-end
 slice-aggregate-add-strip c = search rules
 
-slice-aggregate-add-strip-2 : tie.Need-slice-aggregate-add-strip-2
+slice-aggregate-add-strip-2 : tie.Need-slice_bounds-add_strip-end-2
 slice-aggregate-add-strip-2 c = search rules
 
-add-strip-requires : tie.Need-add-strip-requires
+add-strip-requires : tie.Need-add_strip-added-requires
 add-strip-requires c κs = search rules
 
-slice-aggregate-run : tie.Need-slice-aggregate-run
+slice-aggregate-run : tie.Need-slice_bounds-run-end
 slice-aggregate-run c = search rules
 
-slice-aggregate-run-2 : tie.Need-slice-aggregate-run-2
+slice-aggregate-run-2 : tie.Need-slice_bounds-run-end-2
 slice-aggregate-run-2 c = search rules
 
-slice-aggregate-run-3 : tie.Need-slice-aggregate-run-3
+slice-aggregate-run-3 : tie.Need-slice_bounds-run-end-3
 slice-aggregate-run-3 c = search rules
 
-slice-aggregate-run-4 : tie.Need-slice-aggregate-run-4
+slice-aggregate-run-4 : tie.Need-slice_bounds-run-end-4
 slice-aggregate-run-4 c = search rules
 
-run-requires : tie.Need-run-requires
+run-requires : tie.Need-run-ran-requires
 run-requires c κs = search rules
 
 refused-requires : tie.Need-refused-requires
 refused-requires c κs = search rules
 
-returns : tie.Need-returns
+returns : tie.Need-returns-then-number-ne-DONE
 returns c =
     let t = c.before in
     let r = ran-refused t in
-    let w = ready (p r) (k r) (raster-is r) (added r).add-strip.ensures r.run.ensures in
-    ready_refused w c.refused.ensures t.if1.true
+    let w = ready (p r) (k r) (raster-is r) (added r).add_strip-added.ensures r.run-ran.ensures in
+    ready_refused w c.refused.ensures t.if-number-ne-DONE.true
 
-slice-aggregate-work-run : tie.Need-slice-aggregate-work-run
+slice-aggregate-work-run : tie.Need-slice_bounds-work_run-end
 slice-aggregate-work-run c = search rules
 
-slice-aggregate-work-run-2 : tie.Need-slice-aggregate-work-run-2
+slice-aggregate-work-run-2 : tie.Need-slice_bounds-work_run-end-2
 slice-aggregate-work-run-2 c = search rules
 
-slice-aggregate-work-run-3 : tie.Need-slice-aggregate-work-run-3
+slice-aggregate-work-run-3 : tie.Need-slice_bounds-work_run-end-3
 slice-aggregate-work-run-3 c = search rules
 
-work-run-requires : tie.Need-work-run-requires
+work-run-requires : tie.Need-work_run-requires
 work-run-requires c κs =
     let e = shared c in
     let r = ran e in
-    let w = ready (p r) (k r) (raster-is r) (added r).add-strip.ensures r.run.ensures in
-    (ready-count w e.if1.left, ready-room w e.if1.left)
+    let w = ready (p r) (k r) (raster-is r) (added r).add_strip-added.ensures r.run-ran.ensures in
+    (ready-count w e.if-number-ne-DONE.left, ready-room w e.if-number-ne-DONE.left)
 
-returns-2 : tie.Need-returns-2
+returns-2 : tie.Need-returns
 returns-2 c =
     let e = shared c.before in
     let r = ran e in
-    let w = ready (p r) (k r) (raster-is r) (added r).add-strip.ensures r.run.ensures in
-    ready-left w c.work-run.ensures (raster-is r) e.if1.left
+    let w = ready (p r) (k r) (raster-is r) (added r).add_strip-added.ensures r.run-ran.ensures in
+    ready-left w c.work_run.ensures (raster-is r) e.if-number-ne-DONE.left
 
-pub work-picture-spec : {M : Type 1} → statement M
-work-picture-spec =
+pub work_picture_spec : {M : Type 1} → statement M
+work_picture_spec =
     tie.close
     (tie.spec
     raster-of-requires

@@ -11,69 +11,69 @@ use Rattle.listing_work.proofs.picture.work_run.Statement.{statement}
 use Rattle.listing_work.proofs.picture.work_run.Tie as tie
 
 -- where the function begins
-abbrev st : tie.After-palette-from-groups → tie.Start
+abbrev st : tie.After-palette_from_groups → tie.Start
 st c = c.before.before.before.before.before.before.before.before
 
 -- where the palette is made
-abbrev made : tie.After-map-strip → tie.After-palette-from-groups
+abbrev made : tie.After-map_strip-mapped → tie.After-palette_from_groups
 made c = c.before.before.before.before
 
-mul-n : tie.Need-overflow-mul-n
+mul-n : tie.Need-overflow_mul-n
 mul-n c = search rules
 
-array-share-prefix-shades : tie.Need-array-share-prefix-shades
+array-share-prefix-shades : tie.Need-slice_bounds-shades-end
 array-share-prefix-shades c = c.before.before.before.before.before.requires.1
 
-slice-aggregate-palette-from-groups : tie.Need-slice-aggregate-palette-from-groups
+slice-aggregate-palette-from-groups : tie.Need-slice_bounds-palette_from_groups-end
 slice-aggregate-palette-from-groups c =
     sym (length-take-le _ _ c.before.before.before.before.before.before.requires.1)
 
-slice-aggregate-palette-from-groups-2 : tie.Need-slice-aggregate-palette-from-groups-2
+slice-aggregate-palette-from-groups-2 : tie.Need-slice_bounds-palette_from_groups-end-2
 slice-aggregate-palette-from-groups-2 c = search rules
 
-palette-from-groups-requires : tie.Need-palette-from-groups-requires
+palette-from-groups-requires : tie.Need-palette_from_groups-requires
 palette-from-groups-requires c κs = search rules
 
-array-share-prefix-palette : tie.Need-array-share-prefix-palette
+array-share-prefix-palette : tie.Need-slice_bounds-palette-end
 array-share-prefix-palette c = search rules
 
-slice-aggregate-map-strip : tie.Need-slice-aggregate-map-strip
+slice-aggregate-map-strip : tie.Need-slice_bounds-map_strip-end
 slice-aggregate-map-strip c =
     let m = c.before.before in
-    let long = m.palette-from-groups.auto.1.1.1.1.1.1.0 ∙ length-replicate {A = ℕ} 192 0 in
+    let long = m.palette_from_groups.auto.1.1.1.1.1.1.0 ∙ length-replicate {A = ℕ} 192 0 in
     sym (length-take-le _ _ (omega (arith, long, (st m).requires.0)))
 
-slice-aggregate-map-strip-2 : tie.Need-slice-aggregate-map-strip-2
+slice-aggregate-map-strip-2 : tie.Need-slice_bounds-map_strip-end-2
 slice-aggregate-map-strip-2 c = search rules
 
-map-strip-requires : tie.Need-map-strip-requires
+map-strip-requires : tie.Need-map_strip-mapped-requires
 map-strip-requires c κs = search rules
 
 refused-requires : tie.Need-refused-requires
 refused-requires c κs = search rules
 
-returns : tie.Need-returns
+returns : tie.Need-returns-then-number-ne-DONE
 returns c =
     let m = c.before.before.before in
     let a = (st (made m)).args in
     run-refused a.raster.now a.rec a.keys.now a.weights.now a.ran a.members.now a.count
-    (made m).palette-from-groups.ensures m.map-strip.ensures c.refused.ensures c.before.if1.true
+    (made m).palette_from_groups.ensures m.map_strip-mapped.ensures c.refused.ensures c.before.if-number-ne-DONE.true
 
 bit-requires : tie.Need-bit-requires
 bit-requires c κs = search rules
 
-cast-t28 : tie.Need-overflow-cast-t28
+cast-t28 : tie.Need-overflow_cast-summary
 cast-t28 c = search rules
 
-returns-2 : tie.Need-returns-2
+returns-2 : tie.Need-returns
 returns-2 c =
     let m = c.before.before.before in
     let a = (st (made m)).args in
     run-left a.raster.now a.rec a.keys.now a.weights.now a.ran a.members.now a.count
-    (made m).palette-from-groups.ensures m.map-strip.ensures c.bit.ensures.0 c.before.if1.false
+    (made m).palette_from_groups.ensures m.map_strip-mapped.ensures c.bit.ensures.0 c.before.if-number-ne-DONE.false
 
-pub work-run-spec : {M : Type 1} → statement M
-work-run-spec =
+pub work_run_spec : {M : Type 1} → statement M
+work_run_spec =
     tie.close
     (tie.spec
     mul-n

@@ -15,77 +15,77 @@ use Rattle.lloyd.proofs.runs.run_with.Statement.{statement}
 use Rattle.lloyd.proofs.runs.run_with.Tie as tie
 
 -- what the call was given, from the tests
-abbrev st : tie.After-run-refusal → tie.Start
+abbrev st : tie.After-run_refusal-number → tie.Start
 st c = c.before.before.before.before.before.before.before
 
 -- the tests, from the limit that is asked for
-abbrev tested : tie.After-limit-of → tie.After-run-refusal
+abbrev tested : tie.After-limit_of-rounds → tie.After-run_refusal-number
 tested c = c.before.before
 
 -- past them no row holds
-none : (c : tie.After-limit-of)
+none : (c : tie.After-limit_of-rounds)
     → (let s = (st (tested c)).args in
-    first_of (run_rows s.rec s.keys.now s.weights.now s.count s.limit s.members.now
-    s.totals.now) ≡ done)
-none c = sym (tested c).run-refusal.ensures ∙ c.before.if1.false
+    first_of (run_rows s.rec s.keys.now s.weights.now s.count s.limit s.members-1.now
+    s.totals-1.now) ≡ done)
+none c = sym (tested c).run_refusal-number.ensures ∙ c.before.if-number-ne-DONE.false
 
-limit_is : (c : tie.After-limit-of) → c.limit-of.result ≡ limit_of (st (tested c)).args.limit
-limit_is c = c.limit-of.ensures
+limit_is : (c : tie.After-limit_of-rounds) → c.limit_of-rounds.result ≡ limit_of (st (tested c)).args.limit
+limit_is c = c.limit_of-rounds.ensures
 
-run-refusal-requires : tie.Need-run-refusal-requires
+run-refusal-requires : tie.Need-run_refusal-number-requires
 run-refusal-requires c κs = search rules
 
 refused-requires : tie.Need-refused-requires
 refused-requires c κs = search rules
 
-same_length : tie.Need-same-length
+same_length : tie.Need-shape_of-members-then-number-ne-DONE
 same_length c = search rules
 
-same-length-2 : tie.Need-same-length-2
+same-length-2 : tie.Need-shape_of-totals-then-number-ne-DONE
 same-length-2 c = search rules
 
-returns : tie.Need-returns
+returns : tie.Need-returns-then-number-ne-DONE
 returns c =
     let t = c.before.before in
     let s = (st t).args in
-    with-meets-refused s.rec s.keys.now s.weights.now s.count s.limit s.members.now
-    s.totals.now (kind_of s.leaps) _ _ t.run-refusal.ensures c.before.if1.true c.refused.ensures
+    with-meets-refused s.rec s.keys.now s.weights.now s.count s.limit s.members-1.now
+    s.totals-1.now (kind_of s.leaps) _ _ t.run_refusal-number.ensures c.before.if-number-ne-DONE.true c.refused.ensures
 
-limit-of-requires : tie.Need-limit-of-requires
+limit-of-requires : tie.Need-limit_of-rounds-requires
 limit-of-requires c κs = search rules
 
-slice-aggregate-make-run : tie.Need-slice-aggregate-make-run
+slice-aggregate-make-run : tie.Need-slice_bounds-make_run-end
 slice-aggregate-make-run c = search rules
 
-make-run-requires : tie.Need-make-run-requires
+make-run-requires : tie.Need-make_run-a-requires
 make-run-requires c κs =
     let l = c.before.before.before in
     let s = (st (tested l)).args in (
       rw (limit_is l)
-          (runnable-of-none s.rec s.keys.now s.weights.now s.count s.limit s.members.now
-          s.totals.now (none l)),
-      table-of-none s.rec s.keys.now s.weights.now s.count s.limit s.members.now
-          s.totals.now (none l),
+          (runnable-of-none s.rec s.keys.now s.weights.now s.count s.limit s.members-1.now
+          s.totals-1.now (none l)),
+      table-of-none s.rec s.keys.now s.weights.now s.count s.limit s.members-1.now
+          s.totals-1.now (none l),
       refl,
     )
 
-same-length-3 : tie.Need-same-length-3
+same-length-3 : tie.Need-shape_of-members
 same-length-3 c = search rules
 
-same-length-4 : tie.Need-same-length-4
+same-length-4 : tie.Need-shape_of-totals
 same-length-4 c = search rules
 
-returns-2 : tie.Need-returns-2
+returns-2 : tie.Need-returns
 returns-2 c =
     let m = c.before.before.before.before.before in
     let l = m.before.before.before.before in
     let s = (st (tested l)).args in
-    with-meets-made s.rec s.keys.now s.weights.now s.count s.limit s.members.now
-    s.totals.now (kind_of s.leaps) _ _ _ _ _ _ _ (none l) (rw (limit_is l) at m.make-run.ensures.0)
-    m.make-run.ensures.1 refl
+    with-meets-made s.rec s.keys.now s.weights.now s.count s.limit s.members-1.now
+    s.totals-1.now (kind_of s.leaps) _ _ _ _ _ _ _ (none l) (rw (limit_is l) at m.make_run-a.ensures.0)
+    m.make_run-a.ensures.1 refl
 
-pub run-with-spec : {M : Type 1} → statement M
-run-with-spec =
+pub run_with_spec : {M : Type 1} → statement M
+run_with_spec =
     tie.close
     (tie.spec
     run-refusal-requires

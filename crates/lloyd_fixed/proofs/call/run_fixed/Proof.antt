@@ -7,7 +7,7 @@ use borrow.Author.Rules.{rules}
 use Rattle.number.proofs.Fills.{fill-length}
 use Rattle.refusal.specs.{done, first_of}
 use Rattle.colour.specs.{Bytes}
-use Rattle.shades.specs.{OnGrid}
+use Rattle.shades-1.specs.{OnGrid}
 use Rattle.lloyd_tests.specs.{limit_of}
 use Rattle.lloyd_stock.specs.{most_fixed, stock}
 use Rattle.lloyd_stock.proofs.Promises.{bad-fixed-exactly, stock-length, stock-low, stock-laid}
@@ -24,134 +24,134 @@ use Rattle.lloyd_fixed.proofs.call.run_fixed.Statement.{statement}
 use Rattle.lloyd_fixed.proofs.call.run_fixed.Tie as tie
 
 -- what the call was given, from the tests
-abbrev st : tie.After-fixed-refusal → tie.Start
+abbrev st : tie.After-fixed_refusal-number → tie.Start
 st c = c.before.before.before.before.before.before.before.before
 
 -- the tests, from the limit that is asked for
-abbrev tested : tie.After-limit-of → tie.After-fixed-refusal
+abbrev tested : tie.After-limit_of-rounds → tie.After-fixed_refusal-number
 tested c = c.before.before
 
 -- past them no row holds
-none : (c : tie.After-limit-of)
+none : (c : tie.After-limit_of-rounds)
     → (let s = (st (tested c)).args in
     first_of (fixed_rows s.rec s.keys.now s.weights.now s.fixed.now s.count s.limit
-    s.members.now s.totals.now) ≡ done)
-none c = sym (tested c).fixed-refusal.ensures ∙ c.before.if1.false
+    s.members-1.now s.totals-1.now) ≡ done)
+none c = sym (tested c).fixed_refusal-number.ensures ∙ c.before.if-number-ne-DONE.false
 
 -- so all tests failed
-good : (c : tie.After-limit-of)
+good : (c : tie.After-limit_of-rounds)
     → (let s = (st (tested c)).args in
-    FixedGood s.rec s.keys.now s.weights.now s.fixed.now s.count s.limit s.members.now
-    s.totals.now)
+    FixedGood s.rec s.keys.now s.weights.now s.fixed.now s.count s.limit s.members-1.now
+    s.totals-1.now)
 good c =
     let s = (st (tested c)).args in
-    good-of-none s.rec s.keys.now s.weights.now s.fixed.now s.count s.limit s.members.now
-    s.totals.now (none c)
+    good-of-none s.rec s.keys.now s.weights.now s.fixed.now s.count s.limit s.members-1.now
+    s.totals-1.now (none c)
 
-limit_is : (c : tie.After-limit-of) → c.limit-of.result ≡ limit_of (st (tested c)).args.limit
-limit_is c = c.limit-of.ensures
+limit_is : (c : tie.After-limit_of-rounds) → c.limit_of-rounds.result ≡ limit_of (st (tested c)).args.limit
+limit_is c = c.limit_of-rounds.ensures
 
 -- the fixed list has 3 to 189 bytes
-fixed-most : (c : tie.After-limit-of)
+fixed-most : (c : tie.After-limit_of-rounds)
     → (let n = length (st (tested c)).args.fixed.now in (3 ≤ n) × (n ≤ most_fixed))
 fixed-most c =
     let w = (bad-fixed-exactly (st (tested c)).args.fixed.now).0 (good c).whole in
     (omega (arith, w.0, w.2), omega (arith, w.1, w.2))
 
-fixed-bytes : (c : tie.After-limit-of) → Bytes (st (tested c)).args.fixed.now
-fixed-bytes c i = omega (arith, (tested c).before.before.before.before.before.shared-slice-known3.given i)
+fixed-bytes : (c : tie.After-limit_of-rounds) → Bytes (st (tested c)).args.fixed.now
+fixed-bytes c i = omega (arith, (tested c).before.before.before.before.before.shared_slice_known-3-1.given i)
 
 -- where the limit is asked for, from the shades laid
-abbrev asked : tie.After-lay-stock → tie.After-limit-of
+abbrev asked : tie.After-lay_stock → tie.After-limit_of-rounds
 asked c = c.before.before
 
 -- the front of what is laid is the stock
-base-is : (c : tie.After-lay-stock)
+base-is : (c : tie.After-lay_stock)
     → (let fixed = (st (tested (asked c))).args.fixed.now in
-    take (length fixed) c.lay-stock.new.1.0 ≡ stock fixed)
+    take (length fixed) c.lay_stock.new.base ≡ stock fixed)
 base-is c =
     let fixed = (st (tested (asked c))).args.fixed.now in
-    ap (take (length fixed)) c.lay-stock.ensures
+    ap (take (length fixed)) c.lay_stock.ensures
     ∙ stock-laid fixed _ (omega (arith, (fixed-most (asked c)).1))
 
-fixed-refusal-requires : tie.Need-fixed-refusal-requires
+fixed-refusal-requires : tie.Need-fixed_refusal-number-requires
 fixed-refusal-requires c κs = search rules
 
 refused-requires : tie.Need-refused-requires
 refused-requires c κs = search rules
 
-same_length : tie.Need-same-length
+same_length : tie.Need-shape_of-members-then-number-ne-DONE
 same_length c = search rules
 
-same-length-2 : tie.Need-same-length-2
+same-length-2 : tie.Need-shape_of-totals-then-number-ne-DONE
 same-length-2 c = search rules
 
-returns : tie.Need-returns
+returns : tie.Need-returns-then-number-ne-DONE
 returns c =
     let t = c.before.before in
     let s = (st t).args in
     fixed-meets-refused s.rec s.keys.now s.weights.now s.fixed.now s.count s.limit
-    s.members.now s.totals.now _ _ t.fixed-refusal.ensures c.before.if1.true c.refused.ensures
+    s.members-1.now s.totals-1.now _ _ t.fixed_refusal-number.ensures c.before.if-number-ne-DONE.true c.refused.ensures
 
-limit-of-requires : tie.Need-limit-of-requires
+limit-of-requires : tie.Need-limit_of-rounds-requires
 limit-of-requires c κs = search rules
 
-slice-aggregate-lay-stock : tie.Need-slice-aggregate-lay-stock
+slice-aggregate-lay-stock : tie.Need-slice_bounds-lay_stock-end
 slice-aggregate-lay-stock c = search rules
 
-lay-stock-requires : tie.Need-lay-stock-requires
+lay-stock-requires : tie.Need-lay_stock-requires
 lay-stock-requires c κs = omega (arith, (fixed-most c.before).1)
 
-array-share-prefix-base : tie.Need-array-share-prefix-base
+array-share-prefix-base : tie.Need-slice_bounds-base-end
 array-share-prefix-base c =
     let l = c.before in
-    omega (arith, ap length l.lay-stock.ensures ∙ fill-length _ _ _, (fixed-most (asked l)).1)
+    omega (arith, ap length l.lay_stock.ensures ∙ fill-length _ _ _, (fixed-most (asked l)).1)
 
-slice-aggregate-run-from : tie.Need-slice-aggregate-run-from
+slice-aggregate-run-from : tie.Need-slice_bounds-run_from-end
 slice-aggregate-run-from c =
     let l = c.before.before in
     sym (ap length (base-is l) ∙ stock-length (st (tested (asked l))).args.fixed.now)
 
-slice-aggregate-run-from-2 : tie.Need-slice-aggregate-run-from-2
+slice-aggregate-run-from-2 : tie.Need-slice_bounds-run_from-end-2
 slice-aggregate-run-from-2 c = search rules
 
-run-from-requires : tie.Need-run-from-requires
+run-from-requires : tie.Need-run_from-a-requires
 run-from-requires c κs =
     let l = c.before.before.before.before.before in
     let a = asked l in
     let s = (st (tested a)).args in
     let fixed = s.fixed.now in (
       rw (limit_is a)
-          (fixed-able s.rec s.keys.now s.weights.now fixed s.count s.limit s.members.now
-          s.totals.now (good a)),
+          (fixed-able s.rec s.keys.now s.weights.now fixed s.count s.limit s.members-1.now
+          s.totals-1.now (good a)),
       subst OnGrid (sym (base-is l)) (stock-low fixed (fixed-bytes a)),
       omega (arith, ap length (base-is l), stock-length fixed, (fixed-most a).0),
       omega (
         arith,
-        (some-free s.rec s.keys.now s.weights.now fixed s.count s.limit s.members.now
-            s.totals.now (good a)).0,
+        (some-free s.rec s.keys.now s.weights.now fixed s.count s.limit s.members-1.now
+            s.totals-1.now (good a)).0,
       ),
       refl,
     )
 
-same-length-3 : tie.Need-same-length-3
+same-length-3 : tie.Need-shape_of-members
 same-length-3 c = search rules
 
-same-length-4 : tie.Need-same-length-4
+same-length-4 : tie.Need-shape_of-totals
 same-length-4 c = search rules
 
-returns-2 : tie.Need-returns-2
+returns-2 : tie.Need-returns
 returns-2 c =
     let m = c.before.before.before.before.before in
     let l = m.before.before.before.before.before.before in
     let a = asked l in
     let s = (st (tested a)).args in
     fixed-meets-made s.rec s.keys.now s.weights.now s.fixed.now s.count s.limit
-    s.members.now s.totals.now _ _ (base-is l) (limit_is a) _ _ _ _ _ _ _ (none a) m.run-from.ensures.0
-    m.run-from.ensures.1 refl
+    s.members-1.now s.totals-1.now _ _ (base-is l) (limit_is a) _ _ _ _ _ _ _ (none a) m.run_from-a.ensures.0
+    m.run_from-a.ensures.1 refl
 
-pub run-fixed-spec : {M : Type 1} → statement M
-run-fixed-spec =
+pub run_fixed_spec : {M : Type 1} → statement M
+run_fixed_spec =
     tie.close
     (tie.spec
     fixed-refusal-requires

@@ -10,25 +10,25 @@ use Rattle.lloyd_stock.proofs.Lefts.{left-at-least}
 use Rattle.lloyd_fixed.proofs.order.few_left.Statement.{statement}
 use Rattle.lloyd_fixed.proofs.order.few_left.Tie as tie
 
-returns : tie.Need-returns
+returns : tie.Need-returns-then-count-used
 returns c =
     let s = c.before.before.before in
     let fixed = s.args.fixed.now in
-    let enough = left-at-least fixed (λ i. omega (arith, c.before.shared-slice-known2.given i)) s.requires.0
+    let enough = left-at-least fixed (λ i. omega (arith, c.before.shared_slice_known-2-1.given i)) s.requires.0
     s.requires.1 in
     sym (le-ltb (colours_left s.args.rec.used s.args.keys.now fixed) (s.args.count - fixed_in fixed)
-    (omega (arith, c.if1.true, enough)))
+    (omega (arith, c.if-count-used.true, enough)))
 
-colours-left-requires : tie.Need-colours-left-requires
+colours-left-requires : tie.Need-colours_left-requires
 colours-left-requires c κs = search rules
 
-sub-result : tie.Need-overflow-sub-result
+sub-result : tie.Need-overflow_sub-result
 sub-result c = search rules
 
-returns-2 : tie.Need-returns-2
+returns-2 : tie.Need-returns
 returns-2 c =
     let a = c.before.before.before.before.args in
-    ap (λ n. ltb n (a.count - fixed_in a.fixed.now)) c.colours-left.ensures
+    ap (λ n. ltb n (a.count - fixed_in a.fixed.now)) c.colours_left.ensures
 
-pub few-left-spec : {M : Type 1} → statement M
-few-left-spec = tie.close (tie.spec returns colours-left-requires sub-result returns-2)
+pub few_left_spec : {M : Type 1} → statement M
+few_left_spec = tie.close (tie.spec returns colours-left-requires sub-result returns-2)

@@ -9,51 +9,51 @@ use Rattle.lloyd_refusal.proofs.order.run_refusal.Statement.{statement}
 use Rattle.lloyd_refusal.proofs.order.run_refusal.Tie as tie
 
 -- what the call was given
-abbrev st : tie.After-bad-table → tie.Start
+abbrev st : tie.After-bad_table → tie.Start
 st c = c.before.before.before.before.before
 
 -- past each test: it fails
-table-ok : (c : tie.Else1)
+table-ok : (c : tie.Else-bad_table)
     → (let s = (st c.before).args in bad_table s.rec s.keys.now s.weights.now ≡ false)
-table-ok c = sym c.before.bad-table.ensures ∙ c.if1.false
+table-ok c = sym c.before.bad_table.ensures ∙ c.if-bad_table.false
 
-count-ok : (c : tie.Else2) → bad_count (st c.before.before.before).args.count ≡ false
-count-ok c = sym c.before.bad-count.ensures ∙ c.if2.false
+count-ok : (c : tie.Else-bad_count) → bad_count (st c.before.before.before).args.count ≡ false
+count-ok c = sym c.before.bad_count.ensures ∙ c.if-bad_count.false
 
-colours-ok : (c : tie.Else3)
+colours-ok : (c : tie.Else-used-count)
     → (let s = (st c.before.before.before.before).args in few_colours s.rec s.count ≡ false)
-colours-ok c = le-ltb _ _ c.if3.false
+colours-ok c = le-ltb _ _ c.if-used-count.false
 
-bad-table-requires : tie.Need-bad-table-requires
+bad-table-requires : tie.Need-bad_table-requires
 bad-table-requires c κs = search rules
 
-returns : tie.Need-returns
-returns c = simp (sym c.before.bad-table.ensures ∙ c.if1.true)
+returns : tie.Need-returns-then-bad_table
+returns c = simp (sym c.before.bad_table.ensures ∙ c.if-bad_table.true)
 
-bad-count-requires : tie.Need-bad-count-requires
+bad-count-requires : tie.Need-bad_count-requires
 bad-count-requires c κs = search rules
 
-returns-2 : tie.Need-returns-2
+returns-2 : tie.Need-returns-then-bad_count
 returns-2 c =
     let b = c.before in
-    simp (table-ok b.before, sym b.bad-count.ensures ∙ c.if2.true)
+    simp (table-ok b.before, sym b.bad_count.ensures ∙ c.if-bad_count.true)
 
-returns-3 : tie.Need-returns-3
+returns-3 : tie.Need-returns-then-used-count
 returns-3 c =
     let e = c.before in
-    simp (table-ok e.before.before, count-ok e, lt-ltb _ _ c.if3.true)
+    simp (table-ok e.before.before, count-ok e, lt-ltb _ _ c.if-used-count.true)
 
-room-refusal-requires : tie.Need-room-refusal-requires
+room-refusal-requires : tie.Need-room_refusal-requires
 room-refusal-requires c κs = search rules
 
-returns-4 : tie.Need-returns-4
+returns-4 : tie.Need-returns
 returns-4 c =
     let f = c.before in
     let e = f.before in
-    simp (table-ok e.before.before, count-ok e, colours-ok f) c.room-refusal.ensures
+    simp (table-ok e.before.before, count-ok e, colours-ok f) c.room_refusal.ensures
 
-pub run-refusal-spec : {M : Type 1} → statement M
-run-refusal-spec =
+pub run_refusal_spec : {M : Type 1} → statement M
+run_refusal_spec =
     tie.close
     (tie.spec
     bad-table-requires

@@ -17,108 +17,108 @@ use Rattle.lloyd_rounds.proofs.round.plain_round.Statement.{statement}
 use Rattle.lloyd_rounds.proofs.round.plain_round.Tie as tie
 
 -- what the call was given
-abbrev st : tie.After-bad-table → tie.Start
+abbrev st : tie.After-bad_table → tie.Start
 st c = c.before.before.before.before.before
 
-abbrev rec' : tie.After-bad-table → Record
+abbrev rec' : tie.After-bad_table → Record
 rec' c = (st c).args.rec
 
-abbrev ks : tie.After-bad-table → List ℕ
+abbrev ks : tie.After-bad_table → List ℕ
 ks c = (st c).args.keys.now
 
-abbrev ws : tie.After-bad-table → List ℕ
+abbrev ws : tie.After-bad_table → List ℕ
 ws c = (st c).args.weights.now
 
-abbrev a : tie.After-bad-table → State
-a c = state_of (st c).args.coordinates.now (st c).args.members.now
+abbrev a : tie.After-bad_table → State
+a c = state_of (st c).args.coordinates-1.now (st c).args.members-1.now
 
 -- past each test: it fails
-table-ok : (c : tie.Else1) → bad_table (rec' c.before) (ks c.before) (ws c.before) ≡ false
-table-ok c = sym c.before.bad-table.ensures ∙ c.if1.false
+table-ok : (c : tie.Else-bad_table) → bad_table (rec' c.before) (ks c.before) (ws c.before) ≡ false
+table-ok c = sym c.before.bad_table.ensures ∙ c.if-bad_table.false
 
-count-ok : (c : tie.Else2) → bad_coordinates (length (a c.before.before.before).coordinates) ≡ false
-count-ok c = sym c.before.bad-coordinates.ensures ∙ c.if2.false
+count-ok : (c : tie.Else-bad_coordinates) → bad_coordinates (length (a c.before.before.before).coordinates-1) ≡ false
+count-ok c = sym c.before.bad_coordinates.ensures ∙ c.if-bad_coordinates.false
 
-centre-ok : (c : tie.Else3) → bad_centre (a c.before.before.before.before.before.before).coordinates ≡ false
-centre-ok c = sym c.before.bad-centre.ensures ∙ c.if3.false
+centre-ok : (c : tie.Else-bad_centre) → bad_centre (a c.before.before.before.before.before.before).coordinates-1 ≡ false
+centre-ok c = sym c.before.bad_centre.ensures ∙ c.if-bad_centre.false
 
 -- where the tests are made
-abbrev tested : tie.Else4 → tie.After-bad-table
+abbrev tested : tie.Else-members-used → tie.After-bad_table
 tested c = c.before.before.before.before.before.before.before
 
 -- past all of them
-good : (c : tie.Else4) → PlainGood (rec' (tested c)) (ks (tested c)) (ws (tested c)) (a (tested c))
+good : (c : tie.Else-members-used) → PlainGood (rec' (tested c)) (ks (tested c)) (ws (tested c)) (a (tested c))
 good c = record {
   table = table-ok c.before.before.before.before.before.before;
   count = count-ok c.before.before.before.before;
   centre = centre-ok c.before;
-  room = le-ltb _ _ c.if4.false;
+  room = le-ltb _ _ c.if-members-used.false;
 }
 
-bad-table-requires : tie.Need-bad-table-requires
+bad-table-requires : tie.Need-bad_table-requires
 bad-table-requires c κs = search rules
 
 refused-requires : tie.Need-refused-requires
 refused-requires c κs = search rules
 
-returns : tie.Need-returns
+returns : tie.Need-returns-then-bad_table
 returns c =
     let i = c.before in
     let t = i.before in
-    plain-meets-refused (rec' t) (ks t) (ws t) (a t) BAD-TABLE _ (simp (sym t.bad-table.ensures ∙ i.if1.true))
+    plain-meets-refused (rec' t) (ks t) (ws t) (a t) BAD-TABLE _ (simp (sym t.bad_table.ensures ∙ i.if-bad_table.true))
     c.refused.ensures
 
-bad-coordinates-requires : tie.Need-bad-coordinates-requires
+bad-coordinates-requires : tie.Need-bad_coordinates-requires
 bad-coordinates-requires c κs = search rules
 
-refused-requires-2 : tie.Need-refused-requires-2
+refused-requires-2 : tie.Need-refused-requires-then-bad_coordinates
 refused-requires-2 c κs = search rules
 
-returns-2 : tie.Need-returns-2
+returns-2 : tie.Need-returns-then-bad_coordinates
 returns-2 c =
     let i = c.before in
     let b = i.before in
     let t = b.before.before in
     plain-meets-refused (rec' t) (ks t) (ws t) (a t) BAD-COUNT _
-    (simp (table-ok b.before, sym b.bad-coordinates.ensures ∙ i.if2.true)) c.refused2.ensures
+    (simp (table-ok b.before, sym b.bad_coordinates.ensures ∙ i.if-bad_coordinates.true)) c.refused-then-bad_coordinates.ensures
 
-bad-centre-requires : tie.Need-bad-centre-requires
+bad-centre-requires : tie.Need-bad_centre-requires
 bad-centre-requires c κs =
     let e = c.before in
-    coordinates-at-most (length (a e.before.before.before).coordinates) (count-ok e)
+    coordinates-at-most (length (a e.before.before.before).coordinates-1) (count-ok e)
 
-refused-requires-3 : tie.Need-refused-requires-3
+refused-requires-3 : tie.Need-refused-requires-then-bad_centre
 refused-requires-3 c κs = search rules
 
-same_length : tie.Need-same-length
+same_length : tie.Need-shape_of-coordinates-then-bad_centre
 same_length c = search rules
 
-returns-3 : tie.Need-returns-3
+returns-3 : tie.Need-returns-then-bad_centre
 returns-3 c =
     let i = c.before in
     let b = i.before in
     let e = b.before.before in
     let t = e.before.before.before in
     plain-meets-refused (rec' t) (ks t) (ws t) (a t) BAD-CENTRE _
-    (simp (table-ok e.before.before, count-ok e, sym b.bad-centre.ensures ∙ i.if3.true))
-    c.refused3.ensures
+    (simp (table-ok e.before.before, count-ok e, sym b.bad_centre.ensures ∙ i.if-bad_centre.true))
+    c.refused-then-bad_centre.ensures
 
-refused-requires-4 : tie.Need-refused-requires-4
+refused-requires-4 : tie.Need-refused-requires-then-members-used
 refused-requires-4 c κs = search rules
 
-same-length-2 : tie.Need-same-length-2
+same-length-2 : tie.Need-shape_of-coordinates-then-members-used
 same-length-2 c = search rules
 
-returns-4 : tie.Need-returns-4
+returns-4 : tie.Need-returns-then-members-used
 returns-4 c =
     let i = c.before in
     let b = i.before in
     let e = b.before.before.before in
     let t = e.before.before.before in
     plain-meets-refused (rec' t) (ks t) (ws t) (a t) SHORT-ROOM _
-    (simp (table-ok e.before.before, count-ok e, centre-ok b, lt-ltb _ _ i.if4.true)) c.refused4.ensures
+    (simp (table-ok e.before.before, count-ok e, centre-ok b, lt-ltb _ _ i.if-members-used.true)) c.refused-then-members-used.ensures
 
-plain-step-requires : tie.Need-plain-step-requires
+plain-step-requires : tie.Need-plain_step-requires
 plain-step-requires c κs =
     let g = c.before.before in
     let t = tested g in
@@ -127,21 +127,21 @@ plain-step-requires c κs =
 made-requires : tie.Need-made-requires
 made-requires c κs = search rules
 
-same-length-3 : tie.Need-same-length-3
+same-length-3 : tie.Need-shape_of-coordinates
 same-length-3 c = search rules
 
-same-length-4 : tie.Need-same-length-4
+same-length-4 : tie.Need-shape_of-members
 same-length-4 c = search rules
 
-returns-5 : tie.Need-returns-5
+returns-5 : tie.Need-returns
 returns-5 c =
     let p = c.before.before.before.before.before in
     let g = p.before.before.before in
     let t = tested g in
     plain-meets-made (rec' t) (ks t) (ws t) (a t) (good g) _ _ _ _ _ p.plain_step.ensures c.made.ensures
 
-pub plain-round-spec : {M : Type 1} → statement M
-plain-round-spec =
+pub plain_round_spec : {M : Type 1} → statement M
+plain_round_spec =
     tie.close
     (tie.spec
     bad-table-requires

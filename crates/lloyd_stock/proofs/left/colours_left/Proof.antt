@@ -13,60 +13,60 @@ use Rattle.lloyd_stock.proofs.Lefts.{left_is}
 use Rattle.lloyd_stock.proofs.left.colours_left.Statement.{statement}
 use Rattle.lloyd_stock.proofs.left.colours_left.Tie as tie
 
-abbrev invariant-loop : tie.invariant-loop
+abbrev invariant-loop : tie.invariant-loop-q
 invariant-loop keys used fixed n taken₀ q₀ taken q = Counting (fixed_in fixed) (takes_one used keys fixed) taken q
 
-abbrev decreases-loop : tie.decreases-loop
+abbrev decreases-loop : tie.decreases-loop-q
 decreases-loop keys used fixed n taken₀ q₀ taken q = fixed_in fixed - q
 
 -- there are 63 fixed shades at most
-few : (c : tie.At-loop invariant-loop decreases-loop) → fixed_in c.before.before.before.args.fixed.now ≤ 63
+few : (c : tie.At-loop-q invariant-loop decreases-loop) → fixed_in c.before.before.before.args.fixed.now ≤ 63
 few c = let s = c.before.before.before in ((bad-fixed-exactly s.args.fixed.now).0 s.requires.1).1
 
 -- past the loop the count is what the used colours have less
-taken_is : (c : tie.After-loop invariant-loop decreases-loop) → let a = c.before.before.before.before.args in
-    (c.before.loop.taken ≤ a.used)
-    × (a.used - c.before.loop.taken ≡ colours_left a.used a.keys.now a.fixed.now)
+taken_is : (c : tie.After-loop-q invariant-loop decreases-loop) → let a = c.before.before.before.before.args in
+    (c.before.loop-q.taken ≤ a.used)
+    × (a.used - c.before.loop-q.taken ≡ colours_left a.used a.keys.now a.fixed.now)
 taken_is c =
     let s = c.before.before.before.before in
-    left_is s.args.fixed.now (λ i. omega (arith, c.before.before.shared-slice-known2.given i)) s.requires.0
-    s.requires.1 c.before.loop.taken (counting-done c.before.loop.invariant (omega arith))
+    left_is s.args.fixed.now (λ i. omega (arith, c.before.before.shared_slice_known-2-1.given i)) s.requires.0
+    s.requires.1 c.before.loop-q.taken (counting-done c.before.loop-q.invariant (omega arith))
 
-loop-holds : tie.Need-loop-init invariant-loop decreases-loop
+loop-holds : tie.Need-loop-q-init invariant-loop decreases-loop
 loop-holds c = counting-start _ _
 
-takes-one-requires : tie.Need-takes-one-requires invariant-loop decreases-loop
+takes-one-requires : tie.Need-takes_one-requires invariant-loop decreases-loop
 takes-one-requires c κs = (c.before.before.before.before.requires.0, omega arith)
 
-bit-requires : tie.Need-bit-requires invariant-loop decreases-loop
+bit-requires : tie.Need-bit-taken-requires invariant-loop decreases-loop
 bit-requires c κs = search rules
 
-add-taken : tie.Need-overflow-add-taken invariant-loop decreases-loop
+add-taken : tie.Need-overflow_add-taken invariant-loop decreases-loop
 add-taken c = omega (arith, few c.before.before.before)
 
-add-q : tie.Need-overflow-add-q invariant-loop decreases-loop
+add-q : tie.Need-overflow_add-q invariant-loop decreases-loop
 add-q c = omega arith
 
-loop-less : tie.Need-loop-smaller invariant-loop decreases-loop
+loop-less : tie.Need-loop-q-smaller invariant-loop decreases-loop
 loop-less c = omega arith
 
-loop-again : tie.Need-loop-preserved invariant-loop decreases-loop
+loop-again : tie.Need-loop-q-preserved invariant-loop decreases-loop
 loop-again c =
     let turn = c.before.before in
-    counting-step turn.before.loop.invariant (omega arith) c.bit.result
-    (c.bit.ensures.0 ∙ ap bit c.before.takes_one.ensures)
+    counting-step turn.before.loop-q.invariant (omega arith) c.bit-taken.result
+    (c.bit-taken.ensures.0 ∙ ap bit c.before.takes_one.ensures)
 
-cast-result : tie.Need-overflow-cast-result invariant-loop decreases-loop
+cast-result : tie.Need-overflow_cast-result invariant-loop decreases-loop
 cast-result c = omega (arith, few c.before)
 
-sub-result : tie.Need-overflow-sub-result invariant-loop decreases-loop
+sub-result : tie.Need-overflow_sub-result invariant-loop decreases-loop
 sub-result c = (taken_is c).0
 
 returns : tie.Need-returns invariant-loop decreases-loop
 returns c = (taken_is c).1
 
-pub colours-left-spec : {M : Type 1} → statement M
-colours-left-spec =
+pub colours_left_spec : {M : Type 1} → statement M
+colours_left_spec =
     tie.close
     (tie.spec
     invariant-loop

@@ -8,48 +8,48 @@ use Rattle.lloyd_stock.proofs.Matches.{Unseen, among-found, unseen-start, unseen
 use Rattle.lloyd_stock.proofs.left.has_equal.Statement.{statement}
 use Rattle.lloyd_stock.proofs.left.has_equal.Tie as tie
 
-abbrev invariant-loop : tie.invariant-loop
+abbrev invariant-loop : tie.invariant-loop-i
 invariant-loop fixed q key i₀ i = Unseen q (fixed_key fixed) (fixed_key fixed q) i
 
-abbrev decreases-loop : tie.decreases-loop
+abbrev decreases-loop : tie.decreases-loop-i
 decreases-loop fixed q key i₀ i = q - i
 
 -- where the shade's key is told, from a turn
-abbrev told : tie.At-loop invariant-loop decreases-loop → tie.After-fixed-key invariant-loop decreases-loop
+abbrev told : tie.At-loop-i invariant-loop decreases-loop → tie.After-fixed_key-key invariant-loop decreases-loop
 told c = c.before
 
-fixed-key-requires : tie.Need-fixed-key-requires invariant-loop decreases-loop
+fixed-key-requires : tie.Need-fixed_key-key-requires invariant-loop decreases-loop
 fixed-key-requires c κs = search rules
 
-loop-holds : tie.Need-loop-init invariant-loop decreases-loop
+loop-holds : tie.Need-loop-i-init invariant-loop decreases-loop
 loop-holds c = unseen-start _ _ _
 
-fixed-key-requires-2 : tie.Need-fixed-key-requires-2 invariant-loop decreases-loop
+fixed-key-requires-2 : tie.Need-fixed_key-requires invariant-loop decreases-loop
 fixed-key-requires-2 c κs = omega arith
 
-returns : tie.Need-returns invariant-loop decreases-loop
+returns : tie.Need-returns-then-fixed_key-key invariant-loop decreases-loop
 returns c =
     let l = c.before.before.before in
-    sym (among-found _ _ _ l.loop.i c.before.before.loop-test.true
-    (sym c.before.fixed-key2.ensures ∙ c.if1.true ∙ (told l).fixed-key.ensures))
+    sym (among-found _ _ _ l.loop-i.i c.before.before.loop-i-test.true
+    (sym c.before.fixed_key.ensures ∙ c.if-fixed_key-key.true ∙ (told l).fixed_key-key.ensures))
 
-add-i : tie.Need-overflow-add-i invariant-loop decreases-loop
+add-i : tie.Need-overflow_add-i invariant-loop decreases-loop
 add-i c = omega arith
 
-loop-less : tie.Need-loop-smaller invariant-loop decreases-loop
+loop-less : tie.Need-loop-i-smaller invariant-loop decreases-loop
 loop-less c = omega arith
 
-loop-again : tie.Need-loop-preserved invariant-loop decreases-loop
+loop-again : tie.Need-loop-i-preserved invariant-loop decreases-loop
 loop-again c =
     let l = c.before.before.before in
-    unseen-step l.loop.invariant c.before.before.loop-test.true
-    (λ e. c.if1.false (c.before.fixed-key2.ensures ∙ e ∙ sym (told l).fixed-key.ensures))
+    unseen-step l.loop-i.invariant c.before.before.loop-i-test.true
+    (λ e. c.if-fixed_key-key.false (c.before.fixed_key.ensures ∙ e ∙ sym (told l).fixed_key-key.ensures))
 
-returns-2 : tie.Need-returns-2 invariant-loop decreases-loop
-returns-2 c = sym (unseen-done c.before.loop.invariant c.loop-test.false)
+returns-2 : tie.Need-returns invariant-loop decreases-loop
+returns-2 c = sym (unseen-done c.before.loop-i.invariant c.loop-i-test.false)
 
-pub has-equal-spec : {M : Type 1} → statement M
-has-equal-spec =
+pub has_equal_spec : {M : Type 1} → statement M
+has_equal_spec =
     tie.close
     (tie.spec
     invariant-loop

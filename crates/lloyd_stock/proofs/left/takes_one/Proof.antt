@@ -12,30 +12,30 @@ found : (c : tie.After-stands) → let a = c.before.before.before.before.before.
     c.stands.result ≡ among a.used (key_at a.keys.now) (fixed_key a.fixed.now a.q)
 found c =
     let k = c.before.before in
-    found_among k.before.before.before.requires.0 k.fixed-key.ensures c.stands.ensures
+    found_among k.before.before.before.requires.0 k.fixed_key-key.ensures c.stands.ensures
 
-fixed-key-requires : tie.Need-fixed-key-requires
+fixed-key-requires : tie.Need-fixed_key-key-requires
 fixed-key-requires c κs = search rules
 
-place-requires : tie.Need-place-requires
+place-requires : tie.Need-place-at-requires
 place-requires c κs = let u = c.before.before.before.requires.0 in (u.within, used-in-order u)
 
 stands-requires : tie.Need-stands-requires
 stands-requires c κs = search rules
 
-has-equal-requires : tie.Need-has-equal-requires
+has-equal-requires : tie.Need-has_equal-requires
 has-equal-requires c κs = search rules
 
-returns : tie.Need-returns
+returns : tie.Need-returns-then-stands
 returns c =
     let t = c.before in
-    simp (sym (found t.before) ∙ t.if1.true) (ap not c.has-Equal.ensures)
+    simp (sym (found t.before) ∙ t.if-stands.true) (ap not c.has-Equal.ensures)
 
-returns-2 : tie.Need-returns-2
-returns-2 c = simp (sym (found c.before) ∙ c.if1.false)
+returns-2 : tie.Need-returns
+returns-2 c = simp (sym (found c.before) ∙ c.if-stands.false)
 
-pub takes-one-spec : {M : Type 1} → statement M
-takes-one-spec =
+pub takes_one_spec : {M : Type 1} → statement M
+takes_one_spec =
     tie.close
     (tie.spec
     fixed-key-requires

@@ -10,48 +10,48 @@ use Rattle.lloyd_tests.specs.Tests.{member_off}
 use Rattle.lloyd_tests.proofs.test.bad_member.Statement.{statement}
 use Rattle.lloyd_tests.proofs.test.bad_member.Tie as tie
 
-abbrev invariant-loop : tie.invariant-loop
+abbrev invariant-loop : tie.invariant-loop-i
 invariant-loop members used count bad₀ i₀ bad i = Counting used (member_off count members) bad i
 
-abbrev decreases-loop : tie.decreases-loop
+abbrev decreases-loop : tie.decreases-loop-i
 decreases-loop members used count bad₀ i₀ bad i = used - i
 
-loop-holds : tie.Need-loop-init invariant-loop decreases-loop
+loop-holds : tie.Need-loop-i-init invariant-loop decreases-loop
 loop-holds c = counting-start _ (member_off c.before.args.count c.before.args.members.now)
 
-mul_wide : tie.Need-overflow-mul-wide invariant-loop decreases-loop
+mul_wide : tie.Need-offset_bounds-members-i invariant-loop decreases-loop
 mul_wide c = omega arith
 
-shared-slice-read-wide : tie.Need-shared-slice-read-wide invariant-loop decreases-loop
+shared-slice-read-wide : tie.Need-bounds-members-i invariant-loop decreases-loop
 shared-slice-read-wide c = omega arith
 
 wide-requires : tie.Need-wide-requires invariant-loop decreases-loop
 wide-requires c κs = search rules
 
-bit-requires : tie.Need-bit-requires invariant-loop decreases-loop
+bit-requires : tie.Need-bit-bad-requires invariant-loop decreases-loop
 bit-requires c κs = search rules
 
-add-bad : tie.Need-overflow-add-bad invariant-loop decreases-loop
+add-bad : tie.Need-overflow_add-bad invariant-loop decreases-loop
 add-bad c = omega arith
 
-add-i : tie.Need-overflow-add-i invariant-loop decreases-loop
+add-i : tie.Need-overflow_add-i invariant-loop decreases-loop
 add-i c = omega arith
 
-loop-less : tie.Need-loop-smaller invariant-loop decreases-loop
+loop-less : tie.Need-loop-i-smaller invariant-loop decreases-loop
 loop-less c = omega arith
 
-loop-again : tie.Need-loop-preserved invariant-loop decreases-loop
+loop-again : tie.Need-loop-i-preserved invariant-loop decreases-loop
 loop-again c =
     let wide = c.before in
     let count = wide.before.before.before.before.before.args.count in
-    counting-step wide.before.before.before.loop.invariant (omega arith) c.bit.result
-    (c.bit.ensures.0 ∙ ap (λ n. bit (leb count n)) wide.wide.ensures)
+    counting-step wide.before.before.before.loop-i.invariant (omega arith) c.bit-bad.result
+    (c.bit-bad.ensures.0 ∙ ap (λ n. bit (leb count n)) wide.wide.ensures)
 
 returns : tie.Need-returns invariant-loop decreases-loop
-returns c = ap (ltb 0) (counting-done c.before.loop.invariant c.loop-test.false)
+returns c = ap (ltb 0) (counting-done c.before.loop-i.invariant c.loop-i-test.false)
 
-pub bad-member-spec : {M : Type 1} → statement M
-bad-member-spec =
+pub bad_member_spec : {M : Type 1} → statement M
+bad_member_spec =
     tie.close
     (tie.spec
     invariant-loop

@@ -17,42 +17,42 @@ use Rattle.map_block.proofs.block.map_many.Statement.{statement}
 use Rattle.map_block.proofs.block.map_many.Tie as tie
 
 -- where the lists to work in are known
-abbrev lists : tie.After-search-slots-arg4 → tie.After-slice-known4
+abbrev lists : tie.After-search_slots-arg-4-1 → tie.After-slice_known-4-1
 lists c = c.before.before.before.before.before
 
 -- where the slices to read are known
-abbrev known : tie.After-search-slots-arg4 → tie.After-shared-slice-known3
+abbrev known : tie.After-search_slots-arg-4-1 → tie.After-shared_slice_known-3-1
 known c = (lists c).before.before.before.before.before
 
 -- where the function begins
-abbrev st : tie.After-search-slots-arg4 → tie.Start
+abbrev st : tie.After-search_slots-arg-4-1 → tie.Start
 st c = (known c).before.before.before
 
 -- where the lists to work in come back
-abbrev back : tie.After-settle-arg2 → tie.After-blues
+abbrev back : tie.After-settle-arg2 → tie.After-blues-1
 back c = c.before.before.before.before.before
 
 -- where the slots are searched
-abbrev found : tie.After-settle-arg2 → tie.After-search-slots
+abbrev found : tie.After-settle-arg2 → tie.After-search_slots
 found c = (back c).before.before.before.before.before
 
 -- the strip is of bytes
-bytes : (c : tie.After-search-slots-arg4) → Bytes (st c).args.strip.now
-bytes c i = omega (arith, (known c).before.before.shared-slice-known.given i)
+bytes : (c : tie.After-search_slots-arg-4-1) → Bytes (st c).args.strip.now
+bytes c i = omega (arith, (known c).before.before.shared_slice_known-1.given i)
 
 -- the slots are searched
-all : (c : tie.After-search-slots)
+all : (c : tie.After-search_slots)
     → let a = (st c.before).args in
-    Searched (pixel_at a.strip.now) a.shades.now a.count (length a.index.now) a.which.now
-    c.search-slots.new.1.1.1.1.1.1.1.0
+    Searched (pixel_at a.strip.now) a.shades.now a.count (length a.index-1.now) a.which.now
+    c.search_slots.new.best
 all c =
     let a = (st c.before).args in
     let p = (st c.before).requires in
     searched-all p.1 p.2 p.5
-    (λ i q l. levels-of-pixel a.strip.now a.keys.now i q (bytes c.before)) a.best.now
-    (omega (arith, p.4.number, p.5.few)) c.search-slots.ensures
+    (λ i q l. levels-of-pixel a.strip.now a.keys.now i q (bytes c.before)) a.best-1.now
+    (omega (arith, p.4.number, p.5.few)) c.search_slots.ensures
 
-search-slots-requires : tie.Need-search-slots-requires
+search-slots-requires : tie.Need-search_slots-requires
 search-slots-requires c κs =
     let p = (st c).requires in
     let few = p.5.few in
@@ -64,29 +64,29 @@ settle-requires c κs =
     let p = start.pre in
     searched-found start.args.strip.now (all (found c)) p.1 p.2 p.0 p.4.slot (omega (arith, p.3))
 
-same_length : tie.Need-same-length
+same_length : tie.Need-shape_of-reds
 same_length c = search rules
 
-same-length-2 : tie.Need-same-length-2
+same-length-2 : tie.Need-shape_of-greens
 same-length-2 c = search rules
 
-same-length-3 : tie.Need-same-length-3
+same-length-3 : tie.Need-shape_of-blues
 same-length-3 c = search rules
 
-same-length-4 : tie.Need-same-length-4
+same-length-4 : tie.Need-shape_of-best
 same-length-4 c = search rules
 
-same-length-5 : tie.Need-same-length-5
+same-length-5 : tie.Need-shape_of-index
 same-length-5 c = search rules
 
 returns : tie.Need-returns
 returns c =
     let f = found c.before.before.before in
     let e = c.before.before.settle.ensures in
-    (searched-index (all f) (st f.before).args.index.now e.0, searched-errors (all f) e.1)
+    (searched-index (all f) (st f.before).args.index-1.now e.0, searched-errors (all f) e.1)
 
-pub map-many-spec : {M : Type 1} → statement M
-map-many-spec =
+pub map_many_spec : {M : Type 1} → statement M
+map_many_spec =
     tie.close
     (tie.spec
     search-slots-requires

@@ -19,98 +19,98 @@ use Rattle.map_block.proofs.few.map_few.Statement.{statement}
 use Rattle.map_block.proofs.few.map_few.Tie as tie
 
 -- where the lists to work in are known
-abbrev lists : tie.After-join → tie.After-slice-known4
+abbrev lists : tie.After-join-joined → tie.After-slice_known-4-1
 lists c = c.before.before.before.before.before
 
 -- where the slots of the pixels are known
-abbrev known : tie.After-join → tie.After-shared-slice-known
+abbrev known : tie.After-join-joined → tie.After-shared_slice_known-1
 known c = (lists c).before.before.before.before.before
 
 -- where the function begins
-abbrev st : tie.After-join → tie.Start
+abbrev st : tie.After-join-joined → tie.Start
 st c = (known c).before
 
 -- where the lists are lent to search
-abbrev lent : tie.After-search-slots-arg5 → tie.After-link2
+abbrev lent : tie.After-search-slots-arg5 → tie.After-link-2-1
 lent c = c.before.before.before.before.before
 
 -- where the slots are joined
-abbrev linked : tie.After-search-slots-arg5 → tie.After-join
+abbrev linked : tie.After-search-slots-arg5 → tie.After-join-joined
 linked c = (lent c).before.before.before
 
 -- and from their search
-abbrev here : tie.After-search-slots → tie.After-join
+abbrev here : tie.After-search_slots → tie.After-join-joined
 here c = linked c.before
 
 -- where the lists have come back
-abbrev back : tie.After-told → tie.After-best
+abbrev back : tie.After-told-1 → tie.After-best-1
 back c = c.before.before.before.before.before
 
 -- the first of them
-abbrev first : tie.After-best → tie.After-slice-known8
+abbrev first : tie.After-best-1 → tie.After-slice_known-8-1
 first c = c.before.before.before.before.before
 
 -- where the joined slots are searched
-abbrev found : tie.After-told → tie.After-search-slots
+abbrev found : tie.After-told-1 → tie.After-search_slots
 found c = (first (back c)).before.before
 
 -- where they are told of, from the function's end
-abbrev end : tie.After-slice-known12 → tie.After-told2
+abbrev end : tie.After-slice_known-12-1 → tie.After-told-2-1
 end c = c.before.before.before.before.before
 
 -- the slots are joined
-joined : (c : tie.After-join)
-    → Gathered (slot_key (st c).args.keys.now) (st c).args.slots c.join.new.0 c.join.new.1.1.0
-    c.join.result
-joined c = c.join.ensures
+joined : (c : tie.After-join-joined)
+    → Gathered (slot_key (st c).args.keys-1.now) (st c).args.slots c.join-joined.new.keys c.join-joined.new.link
+    c.join-joined.result
+joined c = c.join-joined.ensures
 
 -- in no more than there are pixels
-fewer : (c : tie.After-join) → c.join.result ≤ length (st c).args.index.now
+fewer : (c : tie.After-join-joined) → c.join-joined.result ≤ length (st c).args.index-1.now
 fewer c = omega (arith, (joined c).few, (st c).requires.3.few)
 
 -- they are searched
-all : (c : tie.After-search-slots)
+all : (c : tie.After-search_slots)
     → let g = here c in
     let a = (st g).args in
-    Searched (levels_at a.keys.now) a.shades.now a.count a.slots g.join.last.1.1.0
-    c.search-slots.new.1.1.1.1.1.1.1.0
+    Searched (levels_at a.keys-1.now) a.shades.now a.count a.slots g.join-joined.last.1.1.0
+    c.search_slots.new.best
 all c =
     let g = here c in
     let p = (st g).pre in
     searched-all p.0 p.1 (joined g)
-    (λ i q l. levels-same g.join.last.0 (st g).args.keys.now i q) (st g).args.best.now
-    (omega (arith, fewer g, p.4.number)) c.search-slots.ensures
+    (λ i q l. levels-same g.join-joined.last.0 (st g).args.keys-1.now i q) (st g).args.best-1.now
+    (omega (arith, fewer g, p.4.number)) c.search_slots.ensures
 
 -- and told of
 told : (c : tie.After-tell)
     → let a = (st (here (found c.before))).args in
-    NearestTold (levels_at a.keys.now) a.shades.now a.count a.slots c.tell.new.1.1.1.1.1.0
+    NearestTold (levels_at a.keys-1.now) a.shades.now a.count a.slots c.tell.new.told
 told c =
     let f = found c.before in
     let g = here f in
-    joined-told (st g).args.keys.now (joined g) (all f) _ (omega (arith, (st g).pre.3.at_most)) c.tell.ensures
+    joined-told (st g).args.keys-1.now (joined g) (all f) _ (omega (arith, (st g).pre.3.at_most)) c.tell.ensures
 
-slice-aggregate-join : tie.Need-slice-aggregate-join
+slice-aggregate-join : tie.Need-slice_bounds-join-end
 slice-aggregate-join c = search rules
 
-join-requires : tie.Need-join-requires
+join-requires : tie.Need-join-joined-requires
 join-requires c κs = search rules
 
-search-slots-requires : tie.Need-search-slots-requires
+search-slots-requires : tie.Need-search_slots-requires
 search-slots-requires c κs =
     let g = linked c in
     let p = (st g).pre in (
       p.0,
       p.1,
-      omega (arith, fewer g, p.4.key, g.join.kept.0),
+      omega (arith, fewer g, p.4.key, g.join-joined.kept.0),
       omega (arith, fewer g, p.4.number),
       room_for (fewer g) p.4.point,
     )
 
-slice-aggregate-tell : tie.Need-slice-aggregate-tell
+slice-aggregate-tell : tie.Need-slice_bounds-tell-end
 slice-aggregate-tell c = search rules
 
-slice-aggregate-tell-2 : tie.Need-slice-aggregate-tell-2
+slice-aggregate-tell-2 : tie.Need-slice_bounds-tell-end-2
 slice-aggregate-tell-2 c = search rules
 
 tell-requires : tie.Need-tell-requires
@@ -118,51 +118,51 @@ tell-requires c κs =
     let f = found c in
     let g = here f in
     let p = (st g).pre in
-    joined-tellable (st g).args.keys.now (joined g) (all f) p.0 p.1
-    (omega (arith, p.3.at_most, g.join.kept.1.1.0))
-    (omega (arith, fewer g, p.4.key, g.join.kept.0)) _
+    joined-tellable (st g).args.keys-1.now (joined g) (all f) p.0 p.1
+    (omega (arith, p.3.at_most, g.join-joined.kept.1.1.0))
+    (omega (arith, fewer g, p.4.key, g.join-joined.kept.0)) _
     (omega (arith, p.3.at_most))
 
-slice-aggregate-add-told : tie.Need-slice-aggregate-add-told
+slice-aggregate-add-told : tie.Need-slice_bounds-add_told-end
 slice-aggregate-add-told c = search rules
 
-add-told-requires : tie.Need-add-told-requires
+add-told-requires : tie.Need-add_told-requires
 add-told-requires c κs =
     let t = c.before.before.before in
     let p = (st (here (found t.before))).requires in
     told-asked (told t) _ _ p.3 p.0 p.1 p.4.slot (omega (arith, p.2))
 
-same_length : tie.Need-same-length
+same_length : tie.Need-shape_of-keys
 same_length c =
     let t = (end c).before in
-    (here (found t.before)).join.auto.0
+    (here (found t.before)).join-joined.auto.0
 
-same-length-2 : tie.Need-same-length-2
+same-length-2 : tie.Need-shape_of-reds
 same-length-2 c = search rules
 
-same-length-3 : tie.Need-same-length-3
+same-length-3 : tie.Need-shape_of-greens
 same-length-3 c = search rules
 
-same-length-4 : tie.Need-same-length-4
+same-length-4 : tie.Need-shape_of-blues
 same-length-4 c = search rules
 
-same-length-5 : tie.Need-same-length-5
+same-length-5 : tie.Need-shape_of-best
 same-length-5 c = search rules
 
-same-length-6 : tie.Need-same-length-6
+same-length-6 : tie.Need-shape_of-index
 same-length-6 c = search rules
 
 returns : tie.Need-returns
 returns c =
     let t = (end c).before in
     let start = st (here (found t.before)) in
-    let e = c.before.before.add-told.ensures in (
-      told-index (told t) _ _ start.pre.3 start.args.index.now e.0,
+    let e = c.before.before.add_told.ensures in (
+      told-index (told t) _ _ start.pre.3 start.args.index-1.now e.0,
       told-errors (told t) _ _ start.pre.3 e.1,
     )
 
-pub map-few-spec : {M : Type 1} → statement M
-map-few-spec =
+pub map_few_spec : {M : Type 1} → statement M
+map_few_spec =
     tie.close
     (tie.spec
     slice-aggregate-join

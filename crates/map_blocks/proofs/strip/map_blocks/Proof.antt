@@ -17,54 +17,54 @@ use Rattle.map_blocks.proofs.strip.Blocks.{
 use Rattle.map_blocks.proofs.strip.map_blocks.Statement.{statement}
 use Rattle.map_blocks.proofs.strip.map_blocks.Tie as tie
 
-abbrev invariant-loop : tie.invariant-loop
+abbrev invariant-loop : tie.invariant-loop-i
 invariant-loop
     strip s k index₀ keys₀ which₀ reds₀ greens₀ blues₀ best₀ n errors₀ i₀
     index keys which reds greens blues best errors i =
     Mapped strip s k index₀ index errors i × Lists keys which reds greens blues best
 
-abbrev decreases-loop : tie.decreases-loop
+abbrev decreases-loop : tie.decreases-loop-i
 decreases-loop
     strip s k index₀ keys₀ which₀ reds₀ greens₀ blues₀ best₀ n errors₀ i₀
     index keys which reds greens blues best errors i =
     length index₀ - i
 
 -- where the function begins
-abbrev st : tie.At-loop invariant-loop decreases-loop → tie.Start invariant-loop decreases-loop
+abbrev st : tie.At-loop-i invariant-loop decreases-loop → tie.Start invariant-loop decreases-loop
 st c = c.before.before.before.before
 
 -- the turn, from where the first list is lent
-abbrev turn : tie.After-keys invariant-loop decreases-loop → tie.At-loop invariant-loop decreases-loop
+abbrev turn : tie.After-keys-1 invariant-loop decreases-loop → tie.At-loop-i invariant-loop decreases-loop
 turn c = c.before.before.before.before
 
 -- that, from where the last list is lent
-abbrev lent : tie.After-best invariant-loop decreases-loop → tie.After-keys invariant-loop decreases-loop
+abbrev lent : tie.After-best-1 invariant-loop decreases-loop → tie.After-keys-1 invariant-loop decreases-loop
 lent c = c.before.before.before.before.before
 
 -- where the block's end is told, from the same
-abbrev ended : tie.After-best invariant-loop decreases-loop → tie.After-block-end invariant-loop decreases-loop
+abbrev ended : tie.After-best-1 invariant-loop decreases-loop → tie.After-block_end-e invariant-loop decreases-loop
 ended c = (lent c).before.before
 
 -- and from its mapping
-abbrev told : tie.After-map-block invariant-loop decreases-loop → tie.After-block-end invariant-loop decreases-loop
+abbrev told : tie.After-map_block-block invariant-loop decreases-loop → tie.After-block_end-e invariant-loop decreases-loop
 told c = ended c.before.before
 
 -- where the lists have come back
-abbrev back : tie.After-slice-known2 invariant-loop decreases-loop → tie.After-reds2 invariant-loop decreases-loop
+abbrev back : tie.After-slice_known-in-loop-i-1 invariant-loop decreases-loop → tie.After-reds-in-loop-i-1 invariant-loop decreases-loop
 back c = c.before.before.before.before.before
 
 -- where the block is mapped
-abbrev mapped : tie.After-slice-known2 invariant-loop decreases-loop → tie.After-map-block invariant-loop decreases-loop
+abbrev mapped : tie.After-slice_known-in-loop-i-1 invariant-loop decreases-loop → tie.After-map_block-block invariant-loop decreases-loop
 mapped c = (back c).before.before.before
 
 -- the strip is of bytes
-bytes : (c : tie.At-loop invariant-loop decreases-loop) → Bytes (st c).args.strip.now
-bytes c i = omega (arith, c.before.before.before.shared-slice-known.given i)
+bytes : (c : tie.At-loop-i invariant-loop decreases-loop) → Bytes (st c).args.strip.now
+bytes c i = omega (arith, c.before.before.before.shared_slice_known-1.given i)
 
-loop-holds : tie.Need-loop-init invariant-loop decreases-loop
+loop-holds : tie.Need-loop-i-init invariant-loop decreases-loop
 loop-holds c =
     let a = c.before.before.before.args in (
-      mapped-start a.strip.now a.shades.now a.count a.index.now,
+      mapped-start a.strip.now a.shades.now a.count a.index-1.now,
       record {
         keys_long = refl;
         which_long = refl;
@@ -75,85 +75,85 @@ loop-holds c =
       },
     )
 
-block-end-requires : tie.Need-block-end-requires invariant-loop decreases-loop
+block-end-requires : tie.Need-block_end-e-requires invariant-loop decreases-loop
 block-end-requires c κs = search rules
 
-mul-map-block : tie.Need-overflow-mul-map-block invariant-loop decreases-loop
+mul-map-block : tie.Need-overflow_mul-i invariant-loop decreases-loop
 mul-map-block c = omega (arith, (st c.before.before).pre.3)
 
-mul-map-block-2 : tie.Need-overflow-mul-map-block-2 invariant-loop decreases-loop
-mul-map-block-2 c = omega (arith, c.block-end.ensures, (st c.before.before).pre.3)
+mul-map-block-2 : tie.Need-overflow_mul-e invariant-loop decreases-loop
+mul-map-block-2 c = omega (arith, c.block_end-e.ensures, (st c.before.before).pre.3)
 
-sub-map-block : tie.Need-overflow-sub-map-block invariant-loop decreases-loop
-sub-map-block c = omega (arith, c.block-end.ensures)
+sub-map-block : tie.Need-slice_bounds-map_block-count invariant-loop decreases-loop
+sub-map-block c = omega (arith, c.block_end-e.ensures)
 
-part-map-block-start : tie.Need-slice-bounds-map-block-start invariant-loop decreases-loop
-part-map-block-start c = omega (arith, c.block-end.ensures)
+part-map-block-start : tie.Need-slice_bounds-map_block-start invariant-loop decreases-loop
+part-map-block-start c = omega (arith, c.block_end-e.ensures)
 
-part-map-block-end : tie.Need-slice-bounds-map-block-end invariant-loop decreases-loop
-part-map-block-end c = omega (arith, c.block-end.ensures, (st c.before.before).pre.0)
+part-map-block-end : tie.Need-slice_bounds-map_block-end invariant-loop decreases-loop
+part-map-block-end c = omega (arith, c.block_end-e.ensures, (st c.before.before).pre.0)
 
-slice-aggregate-map-block : tie.Need-slice-aggregate-map-block invariant-loop decreases-loop
-slice-aggregate-map-block c = omega (arith, (turn c).loop.invariant.1.keys_long)
+slice-aggregate-map-block : tie.Need-slice_bounds-map_block-end-in-loop-i invariant-loop decreases-loop
+slice-aggregate-map-block c = omega (arith, (turn c).loop-i.invariant.1.keys_long)
 
-slice-aggregate-map-block-2 : tie.Need-slice-aggregate-map-block-2 invariant-loop decreases-loop
-slice-aggregate-map-block-2 c = omega (arith, (turn c.before).loop.inv.1.which_long)
+slice-aggregate-map-block-2 : tie.Need-slice_bounds-map_block-end-in-loop-i-2 invariant-loop decreases-loop
+slice-aggregate-map-block-2 c = omega (arith, (turn c.before).loop-i.inv.1.which_long)
 
-slice-aggregate-map-block-3 : tie.Need-slice-aggregate-map-block-3 invariant-loop decreases-loop
-slice-aggregate-map-block-3 c = omega (arith, (turn c.before.before).loop.inv.1.red_long)
+slice-aggregate-map-block-3 : tie.Need-slice_bounds-map_block-end-in-loop-i-3 invariant-loop decreases-loop
+slice-aggregate-map-block-3 c = omega (arith, (turn c.before.before).loop-i.inv.1.red_long)
 
-slice-aggregate-map-block-4 : tie.Need-slice-aggregate-map-block-4 invariant-loop decreases-loop
-slice-aggregate-map-block-4 c = omega (arith, (turn c.before.before.before).loop.inv.1.green_long)
+slice-aggregate-map-block-4 : tie.Need-slice_bounds-map_block-end-in-loop-i-4 invariant-loop decreases-loop
+slice-aggregate-map-block-4 c = omega (arith, (turn c.before.before.before).loop-i.inv.1.green_long)
 
-slice-aggregate-map-block-5 : tie.Need-slice-aggregate-map-block-5 invariant-loop decreases-loop
+slice-aggregate-map-block-5 : tie.Need-slice_bounds-map_block-end-in-loop-i-5 invariant-loop decreases-loop
 slice-aggregate-map-block-5 c =
-    omega (arith, (turn c.before.before.before.before).loop.inv.1.blue_long)
+    omega (arith, (turn c.before.before.before.before).loop-i.inv.1.blue_long)
 
-slice-aggregate-map-block-6 : tie.Need-slice-aggregate-map-block-6 invariant-loop decreases-loop
-slice-aggregate-map-block-6 c = omega (arith, (turn (lent c)).loop.inv.1.best_long)
+slice-aggregate-map-block-6 : tie.Need-slice_bounds-map_block-end-in-loop-i-6 invariant-loop decreases-loop
+slice-aggregate-map-block-6 c = omega (arith, (turn (lent c)).loop-i.inv.1.best_long)
 
-sub-map-block-2 : tie.Need-overflow-sub-map-block-2 invariant-loop decreases-loop
-sub-map-block-2 c = omega (arith, (ended c).block-end.ensures)
+sub-map-block-2 : tie.Need-slice_bounds-map_block-count-in-loop-i invariant-loop decreases-loop
+sub-map-block-2 c = omega (arith, (ended c).block_end-e.ensures)
 
-part-map-block-start-2 : tie.Need-slice-bounds-map-block-start-2 invariant-loop decreases-loop
-part-map-block-start-2 c = omega (arith, (ended c).block-end.ensures)
+part-map-block-start-2 : tie.Need-slice_bounds-map_block-start-in-loop-i invariant-loop decreases-loop
+part-map-block-start-2 c = omega (arith, (ended c).block_end-e.ensures)
 
-part-map-block-end-2 : tie.Need-slice-bounds-map-block-end-2 invariant-loop decreases-loop
+part-map-block-end-2 : tie.Need-slice_bounds-map_block-end-in-loop-i-7 invariant-loop decreases-loop
 part-map-block-end-2 c =
     let b = ended c in
-    omega (arith, b.block-end.ensures, mapped-long b.before.before.loop.inv.0)
+    omega (arith, b.block_end-e.ensures, mapped-long b.before.before.loop-i.inv.0)
 
-map-block-requires : tie.Need-map-block-requires invariant-loop decreases-loop
+map-block-requires : tie.Need-map_block-block-requires invariant-loop decreases-loop
 map-block-requires c κs =
     let b = ended c.before in
     let l = b.before.before in
-    let e = b.block-end.ensures in
-    block-asked l.loop.inv.0 b.block-end.result (omega arith) e.within (st l).pre l.loop.inv.1
+    let e = b.block_end-e.ensures in
+    block-asked l.loop-i.inv.0 b.block_end-e.result (omega arith) e.within (st l).pre l.loop-i.inv.1
     e.few
 
-plus-requires : tie.Need-plus-requires invariant-loop decreases-loop
+plus-requires : tie.Need-plus-errors-requires invariant-loop decreases-loop
 plus-requires c κs =
     let at = mapped c in
-    let b = (told at).block-end in
+    let b = (told at).block_end-e in
     let l = (told at).before.before in
-    errors-small l.loop.inv.0 b.result (omega (arith, b.ensures)) b.ensures.within (st l).pre (bytes l)
-    at.map-block.ensures.1
+    errors-small l.loop-i.inv.0 b.result (omega (arith, b.ensures)) b.ensures.within (st l).pre (bytes l)
+    at.map_block-block.ensures.1
 
-loop-less : tie.Need-loop-smaller invariant-loop decreases-loop
+loop-less : tie.Need-loop-i-smaller invariant-loop decreases-loop
 loop-less c =
-    let b = (told (mapped c.before)).block-end in
+    let b = (told (mapped c.before)).block_end-e in
     omega (arith, b.ensures)
 
-loop-again : tie.Need-loop-preserved invariant-loop decreases-loop
+loop-again : tie.Need-loop-i-preserved invariant-loop decreases-loop
 loop-again c =
     let at = mapped c.before in
-    let m = at.map-block in
-    let b = (told at).block-end in
+    let m = at.map_block-block in
+    let b = (told at).block_end-e in
     let l = (told at).before.before in
-    let w = l.loop.inv.1 in
+    let w = l.loop-i.inv.1 in
     let kept = m.kept.1.1.1 in (
-      rw c.plus.ensures
-          (mapped-step l.loop.inv.0 b.result (omega (arith, b.ensures)) b.ensures.within m.ensures.0
+      rw c.plus-errors.ensures
+          (mapped-step l.loop-i.inv.0 b.result (omega (arith, b.ensures)) b.ensures.within m.ensures.0
           m.ensures.1),
       record {
         keys_long = kept.0 ∙ w.keys_long;
@@ -165,17 +165,17 @@ loop-again c =
       },
     )
 
-same_length : tie.Need-same-length invariant-loop decreases-loop
-same_length c = mapped-long c.before.loop.invariant.0
+same_length : tie.Need-shape_of-index invariant-loop decreases-loop
+same_length c = mapped-long c.before.loop-i.invariant.0
 
 returns : tie.Need-returns invariant-loop decreases-loop
 returns c =
-    let w = c.before.loop.invariant.0 in
-    let e : c.before.loop.i ≡ length (st c.before).args.index.now = omega (arith, w.within) in
+    let w = c.before.loop-i.invariant.0 in
+    let e : c.before.loop-i.i ≡ length (st c.before).args.index-1.now = omega (arith, w.within) in
     (rw e at w.is, rw e at w.errors_are)
 
-pub map-blocks-spec : {M : Type 1} → statement M
-map-blocks-spec =
+pub map_blocks_spec : {M : Type 1} → statement M
+map_blocks_spec =
     tie.close
     (tie.spec
     invariant-loop

@@ -10,30 +10,30 @@ abbrev st : tie.After-widen → tie.Start
 st c = c.before.before.before.before.before
 
 -- where the palette is widened
-abbrev widened : tie.After-map-blocks-arg → tie.After-widen
+abbrev widened : tie.After-map_blocks-arg-1 → tie.After-widen
 widened c = c.before.before.before
 
-slice-aggregate-widen : tie.Need-slice-aggregate-widen
+slice-aggregate-widen : tie.Need-slice_bounds-widen-end
 slice-aggregate-widen c = search rules
 
 widen-requires : tie.Need-widen-requires
 widen-requires c κs = search rules
 
-slice-aggregate-map-blocks : tie.Need-slice-aggregate-map-blocks
+slice-aggregate-map-blocks : tie.Need-slice_bounds-map_blocks-end
 slice-aggregate-map-blocks c = search rules
 
-map-blocks-requires : tie.Need-map-blocks-requires
+map-blocks-requires : tie.Need-map_blocks-requires
 map-blocks-requires c κs =
     let w = widened c in
     let p = (st w).pre in
     let known = w.before.before.before in (
       p.pixels,
-      widened-shades p w.widen.ensures (λ i. omega (arith, known.shared-slice-known2.given i)),
+      widened-shades p w.widen.ensures (λ i. omega (arith, known.shared_slice_known-2-1.given i)),
       p.some,
       p.few,
     )
 
-same_length : tie.Need-same-length
+same_length : tie.Need-shape_of-index
 same_length c = search rules
 
 returns : tie.Need-returns
@@ -41,13 +41,13 @@ returns c =
     let at = c.before.before in
     let w = widened at.before in
     let p = (st w).pre in
-    let e = at.map-blocks.ensures in (
-      widened-index p w.widen.ensures (st w).args.index.now e.0,
+    let e = at.map_blocks.ensures in (
+      widened-index p w.widen.ensures (st w).args.index-1.now e.0,
       widened-errors p w.widen.ensures e.1,
     )
 
-pub map-pixels-spec : {M : Type 1} → statement M
-map-pixels-spec =
+pub map_pixels_spec : {M : Type 1} → statement M
+map_pixels_spec =
     tie.close
     (tie.spec
     slice-aggregate-widen

@@ -9,57 +9,57 @@ use Rattle.number.proofs.Fills.{fill-length, fill_more}
 use Rattle.map_blocks.proofs.strip.widen.Statement.{statement}
 use Rattle.map_blocks.proofs.strip.widen.Tie as tie
 
-abbrev invariant-loop : tie.invariant-loop
+abbrev invariant-loop : tie.invariant-loop-i
 invariant-loop palette wide₀ n i₀ wide i = (i ≤ length palette) × (wide ≡ fill i (λ j. get_or palette j 0) wide₀)
 
-abbrev decreases-loop : tie.decreases-loop
+abbrev decreases-loop : tie.decreases-loop-i
 decreases-loop palette wide₀ n i₀ wide i = length palette - i
 
 -- where the function begins
-abbrev st : tie.At-loop invariant-loop decreases-loop → tie.Start invariant-loop decreases-loop
+abbrev st : tie.At-loop-i invariant-loop decreases-loop → tie.Start invariant-loop decreases-loop
 st c = c.before.before.before
 
 -- the turn, from its level
-abbrev turn : tie.After-level invariant-loop decreases-loop → tie.At-loop invariant-loop decreases-loop
+abbrev turn : tie.After-level invariant-loop decreases-loop → tie.At-loop-i invariant-loop decreases-loop
 turn c = c.before.before.before
 
-loop-holds : tie.Need-loop-init invariant-loop decreases-loop
+loop-holds : tie.Need-loop-i-init invariant-loop decreases-loop
 unfolding fill
 loop-holds c = (omega arith, refl)
 
-shared-slice-read-level : tie.Need-shared-slice-read-level invariant-loop decreases-loop
+shared-slice-read-level : tie.Need-bounds-palette-i invariant-loop decreases-loop
 shared-slice-read-level c = omega arith
 
 level-requires : tie.Need-level-requires invariant-loop decreases-loop
 level-requires c κs = search rules
 
-mul_wide : tie.Need-overflow-mul-wide invariant-loop decreases-loop
+mul_wide : tie.Need-offset_bounds-wide-i invariant-loop decreases-loop
 mul_wide c = omega arith
 
-slice-write-wide : tie.Need-slice-write-wide invariant-loop decreases-loop
-slice-write-wide c = rw ((turn c).loop.invariant.1, fill-length) (omega (arith, (st (turn c)).pre))
+slice-write-wide : tie.Need-bounds-wide-i invariant-loop decreases-loop
+slice-write-wide c = rw ((turn c).loop-i.invariant.1, fill-length) (omega (arith, (st (turn c)).pre))
 
-add-i : tie.Need-overflow-add-i invariant-loop decreases-loop
+add-i : tie.Need-overflow_add-i invariant-loop decreases-loop
 add-i c = omega arith
 
-loop-less : tie.Need-loop-smaller invariant-loop decreases-loop
+loop-less : tie.Need-loop-i-smaller invariant-loop decreases-loop
 loop-less c = omega arith
 
-loop-again : tie.Need-loop-preserved invariant-loop decreases-loop
+loop-again : tie.Need-loop-i-preserved invariant-loop decreases-loop
 loop-again c =
-    let l = (turn c).loop in
+    let l = (turn c).loop-i in
     let start = st (turn c) in (
       omega arith,
       rw (c.level.ensures.0, l.inv.1) (fill_more l.i _ start.args.wide.now (omega (arith, start.pre))),
     )
 
-same_length : tie.Need-same-length invariant-loop decreases-loop
-same_length c = ap length c.before.loop.invariant.1 ∙ fill-length _ _ _
+same_length : tie.Need-shape_of-wide invariant-loop decreases-loop
+same_length c = ap length c.before.loop-i.invariant.1 ∙ fill-length _ _ _
 
 returns : tie.Need-returns invariant-loop decreases-loop
 returns c =
-    let e : c.before.loop.i ≡ length (st c.before).args.palette.now = omega arith in
-    rw e at c.before.loop.invariant.1
+    let e : c.before.loop-i.i ≡ length (st c.before).args.palette.now = omega arith in
+    rw e at c.before.loop-i.invariant.1
 
 pub widen_spec : {M : Type 1} → statement M
 widen_spec =

@@ -9,71 +9,71 @@ use Rattle.map_find.proofs.find.search_slots.Statement.{statement}
 use Rattle.map_find.proofs.find.search_slots.Tie as tie
 
 -- where the three lists are known
-abbrev known : tie.After-lay-out → tie.After-slice-known3
+abbrev known : tie.After-lay_out → tie.After-slice_known-3-1
 known c = c.before.before.before.before.before
 
 -- where the function begins
-abbrev st : tie.After-lay-out → tie.Start
+abbrev st : tie.After-lay_out → tie.Start
 st c = (known c).before.before.before.before.before
 
 -- where the three lists have come back
-abbrev back : tie.After-search-points-arg3 → tie.After-blues
+abbrev back : tie.After-search-points-arg3 → tie.After-blues-1
 back c = c.before.before.before.before
 
 -- where the colours are laid out
-abbrev laid : tie.After-search-points-arg3 → tie.After-lay-out
+abbrev laid : tie.After-search-points-arg3 → tie.After-lay_out
 laid c = (back c).before.before.before.before.before
 
 -- they are laid out
-done : (c : tie.After-lay-out)
+done : (c : tie.After-lay_out)
     → let a = (st c).args in
-    let x = c.lay-out.new.1.1 in
+    let x = c.lay_out.new.1.1 in
     LaidOut (levels_at a.keys.now) a.slots x.0 x.1.0 x.1.1.0
 done c =
-    let e = c.lay-out.ensures in
+    let e = c.lay_out.ensures in
     fronts-done record { within = le_refl _; red = e.0; green = e.1.0; blue = e.1.1 } (st c).requires.4
 
-lay-out-requires : tie.Need-lay-out-requires
+lay-out-requires : tie.Need-lay_out-requires
 lay-out-requires c κs = search rules
 
-sub-search-points : tie.Need-overflow-sub-search-points
+sub-search-points : tie.Need-slice_bounds-search_points-count
 sub-search-points c = omega arith
 
-part-search-points-start : tie.Need-slice-bounds-search-points-start
+part-search-points-start : tie.Need-slice_bounds-search_points-start
 part-search-points-start c = omega arith
 
-part-search-points-end : tie.Need-slice-bounds-search-points-end
+part-search-points-end : tie.Need-slice_bounds-search_points-end
 part-search-points-end c = omega (arith, (st (laid c)).requires.3)
 
-search-points-requires : tie.Need-search-points-requires
+search-points-requires : tie.Need-search_points-requires
 search-points-requires c κs =
     let at = laid c.before in
     let a = (st at).args in
     let p = (st at).pre in
-    let ready = keys-ready a.keys.now (done at) a.best.now p.3 in
+    let ready = keys-ready a.keys.now (done at) a.best-1.now p.3 in
     (ready.0, ready.1, p.0, p.1)
 
-same_length : tie.Need-same-length
+same_length : tie.Need-shape_of-reds
 same_length c = search rules
 
-same-length-2 : tie.Need-same-length-2
+same-length-2 : tie.Need-shape_of-greens
 same-length-2 c = search rules
 
-same-length-3 : tie.Need-same-length-3
+same-length-3 : tie.Need-shape_of-blues
 same-length-3 c = search rules
 
-same-length-4 : tie.Need-same-length-4
+same-length-4 : tie.Need-shape_of-best
 same-length-4 c = search rules
 
 returns : tie.Need-returns
 returns c =
     let at = laid c.before.before.before.before in
     let a = (st at).args in
-    keys-searched a.shades.now a.count a.keys.now (done at) a.best.now (st at).pre.3
-    c.before.before.search-points.ensures
+    keys-searched a.shades.now a.count a.keys.now (done at) a.best-1.now (st at).pre.3
+    c.before.before.search_points.ensures
 
-pub search-slots-spec : {M : Type 1} → statement M
-search-slots-spec =
+pub search_slots_spec : {M : Type 1} → statement M
+search_slots_spec =
     tie.close
     (tie.spec
     lay-out-requires

@@ -9,111 +9,111 @@ use Rattle.map_join.proofs.Joins.{Joining, takes-most, joining-start, joining-st
 use Rattle.map_join.proofs.keys.join.Statement.{statement}
 use Rattle.map_join.proofs.keys.join.Tie as tie
 
-abbrev invariant-loop : tie.invariant-loop
+abbrev invariant-loop : tie.invariant-loop-i
 invariant-loop keys₀ n link₀ sites₀ taken₀ i₀ keys link sites taken i =
     Joining keys₀ link₀ n keys link taken i × (length sites ≡ 251)
 
-abbrev decreases-loop : tie.decreases-loop
+abbrev decreases-loop : tie.decreases-loop-i
 decreases-loop keys₀ n link₀ sites₀ taken₀ i₀ keys link sites taken i = n - i
 
 -- where the function begins
-abbrev st : tie.At-loop invariant-loop decreases-loop → tie.Start invariant-loop decreases-loop
+abbrev st : tie.At-loop-i invariant-loop decreases-loop → tie.Start invariant-loop decreases-loop
 st c = c.before.before.before
 
 -- the loop, from the slot that the key takes
-abbrev turn : tie.After-slot-for invariant-loop decreases-loop → tie.At-loop invariant-loop decreases-loop
+abbrev turn : tie.After-slot_for-slot invariant-loop decreases-loop → tie.At-loop-i invariant-loop decreases-loop
 turn c = c.before.before.before.before
 
 -- the slots taken are fewer than the keys, and fewer than may be joined
-fewer : (c : tie.In-loop invariant-loop decreases-loop)
-    → let l = c.before.loop in (l.taken < length l.keys) × (l.taken < few_slots)
+fewer : (c : tie.In-loop-i invariant-loop decreases-loop)
+    → let l = c.before.loop-i in (l.taken < length l.keys) × (l.taken < few_slots)
 fewer c =
     let l = c.before in
-    let w = l.loop.invariant.0 in
-    let less : l.loop.taken < (st l).args.slots = omega (arith, w.joined.few, c.loop-test.true) in
+    let w = l.loop-i.invariant.0 in
+    let less : l.loop-i.taken < (st l).args.slots = omega (arith, w.joined.few, c.loop-i-test.true) in
     (omega (arith, less, w.keys_long, (st l).requires.0), omega (arith, less, (st l).requires.2))
 
 -- the slot that the key takes is one of them, or the next
-most : (c : tie.After-slot-for invariant-loop decreases-loop) → c.slot-for.result ≤ (turn c).loop.taken
-most c = takes-most c.slot-for.ensures
+most : (c : tie.After-slot_for-slot invariant-loop decreases-loop) → c.slot_for-slot.result ≤ (turn c).loop-i.taken
+most c = takes-most c.slot_for-slot.ensures
 
-loop-holds : tie.Need-loop-init invariant-loop decreases-loop
+loop-holds : tie.Need-loop-i-init invariant-loop decreases-loop
 loop-holds c =
     let a = c.before.before.args in
     (joining-start a.keys.now a.link.now a.slots, refl)
 
-mul-key : tie.Need-overflow-mul-key invariant-loop decreases-loop
+mul-key : tie.Need-offset_bounds-keys-i invariant-loop decreases-loop
 mul-key c = omega (arith, (st c.before).pre.2)
 
-slice-read-key : tie.Need-slice-read-key invariant-loop decreases-loop
+slice-read-key : tie.Need-bounds-keys-i invariant-loop decreases-loop
 slice-read-key c =
     let l = c.before.before in
-    omega (arith, l.loop.invariant.0.keys_long, (st l).requires.0)
+    omega (arith, l.loop-i.invariant.0.keys_long, (st l).requires.0)
 
-cast-site : tie.Need-overflow-cast-site invariant-loop decreases-loop
+cast-site : tie.Need-overflow_cast-site invariant-loop decreases-loop
 cast-site c = omega arith
 
-mul-slot-for : tie.Need-overflow-mul-slot-for invariant-loop decreases-loop
+mul-slot-for : tie.Need-offset_bounds-sites-site invariant-loop decreases-loop
 mul-slot-for c = omega arith
 
-array-read-slot-for : tie.Need-array-read-slot-for invariant-loop decreases-loop
-array-read-slot-for c = omega (arith, c.before.before.before.loop.invariant.1)
+array-read-slot-for : tie.Need-bounds-sites-site invariant-loop decreases-loop
+array-read-slot-for c = omega (arith, c.before.before.before.loop-i.invariant.1)
 
-slot-for-requires : tie.Need-slot-for-requires invariant-loop decreases-loop
+slot-for-requires : tie.Need-slot_for-slot-requires invariant-loop decreases-loop
 slot-for-requires c κs = omega (arith, (fewer c.before.before).0)
 
-mul-keys : tie.Need-overflow-mul-keys invariant-loop decreases-loop
+mul-keys : tie.Need-offset_bounds-keys-slot invariant-loop decreases-loop
 mul-keys c = omega (arith, most c, (fewer c.before.before.before).1)
 
-slice-write-keys : tie.Need-slice-write-keys invariant-loop decreases-loop
+slice-write-keys : tie.Need-bounds-keys-slot invariant-loop decreases-loop
 slice-write-keys c = omega (arith, most c, (fewer c.before.before.before).0)
 
-mul-sites : tie.Need-overflow-mul-sites invariant-loop decreases-loop
+mul-sites : tie.Need-offset_bounds-sites-site-in-loop-i invariant-loop decreases-loop
 mul-sites c = omega arith
 
-array-write-sites : tie.Need-array-write-sites invariant-loop decreases-loop
-array-write-sites c = omega (arith, (turn c).loop.invariant.1)
+array-write-sites : tie.Need-bounds-sites-site-in-loop-i invariant-loop decreases-loop
+array-write-sites c = omega (arith, (turn c).loop-i.invariant.1)
 
-cast-link : tie.Need-overflow-cast-link invariant-loop decreases-loop
+cast-link : tie.Need-overflow_cast-link invariant-loop decreases-loop
 cast-link c = omega (arith, most c, (fewer c.before.before.before).1)
 
-slice-write-link : tie.Need-slice-write-link invariant-loop decreases-loop
-slice-write-link c = omega (arith, (turn c).loop.invariant.0.link_long, (st (turn c)).pre.1)
+slice-write-link : tie.Need-bounds-link-i invariant-loop decreases-loop
+slice-write-link c = omega (arith, (turn c).loop-i.invariant.0.link_long, (st (turn c)).pre.1)
 
-with-slot-requires : tie.Need-with-slot-requires invariant-loop decreases-loop
+with-slot-requires : tie.Need-with_slot-taken-requires invariant-loop decreases-loop
 with-slot-requires c κs = (most c, omega (arith, (fewer c.before.before.before).1))
 
-add-i : tie.Need-overflow-add-i invariant-loop decreases-loop
+add-i : tie.Need-overflow_add-i invariant-loop decreases-loop
 add-i c = omega arith
 
-loop-less : tie.Need-loop-smaller invariant-loop decreases-loop
+loop-less : tie.Need-loop-i-smaller invariant-loop decreases-loop
 loop-less c = omega arith
 
-loop-again : tie.Need-loop-preserved invariant-loop decreases-loop
+loop-again : tie.Need-loop-i-preserved invariant-loop decreases-loop
 loop-again c =
     let at = c.before in
     let l = turn at in
-    let e = c.with-slot.ensures in (
-      joining-step l.loop.inv.0 (omega arith) at.slot-for.ensures
+    let e = c.with_slot-taken.ensures in (
+      joining-step l.loop-i.inv.0 (omega arith) at.slot_for-slot.ensures
           (omega (arith, most at, (fewer at.before.before.before).0))
-          (omega (arith, l.loop.inv.0.link_long, (st l).pre.1)) e.0 e.1 e.2,
-      length-set l.loop.sites (slot_key l.loop.keys l.loop.i % 251) at.slot-for.result ∙ l.loop.inv.1,
+          (omega (arith, l.loop-i.inv.0.link_long, (st l).pre.1)) e.0 e.1 e.2,
+      length-set l.loop-i.sites (slot_key l.loop-i.keys l.loop-i.i % 251) at.slot_for-slot.result ∙ l.loop-i.inv.1,
     )
 
-same_length : tie.Need-same-length invariant-loop decreases-loop
-same_length c = c.before.loop.invariant.0.keys_long
+same_length : tie.Need-shape_of-keys invariant-loop decreases-loop
+same_length c = c.before.loop-i.invariant.0.keys_long
 
-same-length-2 : tie.Need-same-length-2 invariant-loop decreases-loop
-same-length-2 c = c.before.loop.invariant.0.link_long
+same-length-2 : tie.Need-shape_of-link invariant-loop decreases-loop
+same-length-2 c = c.before.loop-i.invariant.0.link_long
 
 returns : tie.Need-returns invariant-loop decreases-loop
 returns c =
-    let l = c.before.loop in
+    let l = c.before.loop-i in
     let e : l.i ≡ (st c.before).args.slots = omega (arith, l.invariant.0.within) in
     rw e at l.invariant.0.joined
 
-pub join-spec : {M : Type 1} → statement M
-join-spec =
+pub join_spec : {M : Type 1} → statement M
+join_spec =
     tie.close
     (tie.spec
     invariant-loop

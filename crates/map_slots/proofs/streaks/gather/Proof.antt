@@ -9,121 +9,121 @@ use Rattle.map_slots.proofs.Gathers.{Gathering, gathering-start, gathering-takes
 use Rattle.map_slots.proofs.streaks.gather.Statement.{statement}
 use Rattle.map_slots.proofs.streaks.gather.Tie as tie
 
-abbrev invariant-loop : tie.invariant-loop
+abbrev invariant-loop : tie.invariant-loop-i
 invariant-loop strip keys₀ which₀ n slots₀ last₀ i₀ keys which slots last i =
     Gathering strip keys₀ which₀ keys which slots last i
 
-abbrev decreases-loop : tie.decreases-loop
+abbrev decreases-loop : tie.decreases-loop-i
 decreases-loop strip keys₀ which₀ n slots₀ last₀ i₀ keys which slots last i = length strip / 3 - i
 
 -- where the function begins
-abbrev st : tie.At-loop invariant-loop decreases-loop → tie.Start invariant-loop decreases-loop
+abbrev st : tie.At-loop-i invariant-loop decreases-loop → tie.Start invariant-loop decreases-loop
 st c = c.before.before.before.before
 
 -- the loop, from the key of the turn's pixel
-abbrev keyed : tie.After-key-of invariant-loop decreases-loop → tie.At-loop invariant-loop decreases-loop
+abbrev keyed : tie.After-key_of-key invariant-loop decreases-loop → tie.At-loop-i invariant-loop decreases-loop
 keyed c = c.before.before.before.before.before
 
 -- and from the test whether the key differs
-abbrev turn : tie.After-bit invariant-loop decreases-loop → tie.At-loop invariant-loop decreases-loop
+abbrev turn : tie.After-bit invariant-loop decreases-loop → tie.At-loop-i invariant-loop decreases-loop
 turn c = keyed c.before
 
 -- the slot of the turn's pixel
 abbrev slot : tie.After-bit invariant-loop decreases-loop → ℕ
-slot c = (turn c).loop.slots + c.bit.result - 1
+slot c = (turn c).loop-i.slots + c.bit.result - 1
 
 -- it takes that slot
 takes : (c : tie.After-bit invariant-loop decreases-loop)
-    → let l = (turn c).loop in (0 < l.slots + c.bit.result)
+    → let l = (turn c).loop-i in (0 < l.slots + c.bit.result)
     × (l.slots + c.bit.result ≤ l.slots + 1)
-    × Takes l.keys l.slots c.before.key_of.result (slot c)
-takes c = gathering-takes (turn c).loop.invariant c.before.key_of.ensures.1 c.bit.ensures.0
+    × Takes l.keys l.slots c.before.key_of-key.result (slot c)
+takes c = gathering-takes (turn c).loop-i.invariant c.before.key_of-key.ensures.1 c.bit.ensures.0
 
 -- and has room there
-room : (c : tie.After-bit invariant-loop decreases-loop) → slot c < length (turn c).loop.keys
+room : (c : tie.After-bit invariant-loop decreases-loop) → slot c < length (turn c).loop-i.keys
 room c =
-    let w = (turn c).loop.invariant in
+    let w = (turn c).loop-i.invariant in
     omega (arith, takes c, w.gathered.few, w.keys_long, (st (turn c)).pre.0)
 
-loop-holds : tie.Need-loop-init invariant-loop decreases-loop
+loop-holds : tie.Need-loop-i-init invariant-loop decreases-loop
 loop-holds c =
     let a = c.before.before.before.args in
     gathering-start a.strip.now a.keys.now a.which.now
 
-mul_at : tie.Need-overflow-mul-at invariant-loop decreases-loop
+mul_at : tie.Need-overflow_mul-at invariant-loop decreases-loop
 mul_at c = omega arith
 
-shared-slice-read-key-of : tie.Need-shared-slice-read-key-of invariant-loop decreases-loop
+shared-slice-read-key-of : tie.Need-bounds-strip-at invariant-loop decreases-loop
 shared-slice-read-key-of c = omega arith
 
-add-key-of : tie.Need-overflow-add-key-of invariant-loop decreases-loop
+add-key-of : tie.Need-overflow_add-at invariant-loop decreases-loop
 add-key-of c = omega arith
 
-shared-slice-read-key-of-2 : tie.Need-shared-slice-read-key-of-2 invariant-loop decreases-loop
+shared-slice-read-key-of-2 : tie.Need-bounds-strip-at-in-loop-i invariant-loop decreases-loop
 shared-slice-read-key-of-2 c = omega arith
 
-add-key-of-2 : tie.Need-overflow-add-key-of-2 invariant-loop decreases-loop
+add-key-of-2 : tie.Need-overflow_add-at-in-loop-i invariant-loop decreases-loop
 add-key-of-2 c = omega arith
 
-shared-slice-read-key-of-3 : tie.Need-shared-slice-read-key-of-3 invariant-loop decreases-loop
+shared-slice-read-key-of-3 : tie.Need-bounds-strip-at-in-loop-i-2 invariant-loop decreases-loop
 shared-slice-read-key-of-3 c = omega arith
 
-key-of-requires : tie.Need-key-of-requires invariant-loop decreases-loop
+key-of-requires : tie.Need-key_of-key-requires invariant-loop decreases-loop
 key-of-requires c κs = search rules
 
 bit-requires : tie.Need-bit-requires invariant-loop decreases-loop
 bit-requires c κs = search rules
 
-cast-slots : tie.Need-overflow-cast-slots invariant-loop decreases-loop
+cast-slots : tie.Need-overflow_cast-slots invariant-loop decreases-loop
 cast-slots c = search rules
 
-add-slots : tie.Need-overflow-add-slots invariant-loop decreases-loop
-add-slots c = omega (arith, takes c, (turn c).loop.invariant.gathered.few)
+add-slots : tie.Need-overflow_add-slots invariant-loop decreases-loop
+add-slots c = omega (arith, takes c, (turn c).loop-i.invariant.gathered.few)
 
-sub-slot : tie.Need-overflow-sub-slot invariant-loop decreases-loop
+sub-slot : tie.Need-overflow_sub-slot invariant-loop decreases-loop
 sub-slot c = omega (arith, takes c)
 
-mul-keys : tie.Need-overflow-mul-keys invariant-loop decreases-loop
-mul-keys c = omega (arith, takes c, (turn c).loop.invariant.gathered.few, (st (turn c)).pre.2)
+mul-keys : tie.Need-offset_bounds-keys-slot invariant-loop decreases-loop
+mul-keys c = omega (arith, takes c, (turn c).loop-i.invariant.gathered.few, (st (turn c)).pre.2)
 
-slice-write-keys : tie.Need-slice-write-keys invariant-loop decreases-loop
+slice-write-keys : tie.Need-bounds-keys-slot invariant-loop decreases-loop
 slice-write-keys c = omega (arith, room c)
 
-cast-which : tie.Need-overflow-cast-which invariant-loop decreases-loop
-cast-which c = omega (arith, takes c, (turn c).loop.invariant.gathered.few, (st (turn c)).pre.2)
+cast-which : tie.Need-overflow_cast-which invariant-loop decreases-loop
+cast-which c = omega (arith, takes c, (turn c).loop-i.invariant.gathered.few, (st (turn c)).pre.2)
 
-mul-which : tie.Need-overflow-mul-which invariant-loop decreases-loop
+mul-which : tie.Need-offset_bounds-which-i invariant-loop decreases-loop
 mul-which c = omega arith
 
-slice-write-which : tie.Need-slice-write-which invariant-loop decreases-loop
-slice-write-which c = omega (arith, (turn c).loop.invariant.which_long, (st (turn c)).pre.1)
+slice-write-which : tie.Need-bounds-which-i invariant-loop decreases-loop
+slice-write-which c = omega (arith, (turn c).loop-i.invariant.which_long, (st (turn c)).pre.1)
 
-add-i : tie.Need-overflow-add-i invariant-loop decreases-loop
+add-i : tie.Need-overflow_add-i invariant-loop decreases-loop
 add-i c = omega arith
 
-loop-less : tie.Need-loop-smaller invariant-loop decreases-loop
+loop-less : tie.Need-loop-i-smaller invariant-loop decreases-loop
 loop-less c = omega arith
 
-loop-again : tie.Need-loop-preserved invariant-loop decreases-loop
+loop-again : tie.Need-loop-i-preserved invariant-loop decreases-loop
 loop-again c =
     let l = turn c in
-    gathering-step l.loop.inv (omega arith) c.before.key_of.ensures.0 (takes c).2
-    (omega (arith, takes c)) (omega arith) (takes c).1 (room c) (omega (arith, l.loop.inv.which_long, (st l).pre.1))
+    gathering-step l.loop-i.inv (omega arith) c.before.key_of-key.ensures.0 (takes c).2
+    (omega (arith, takes c)) (omega arith) (takes c).1 (room c) (omega (arith, l.loop-i.inv.which_long, (st l).pre.1))
 
-same_length : tie.Need-same-length invariant-loop decreases-loop
-same_length c = c.before.loop.invariant.keys_long
+same_length : tie.Need-shape_of-keys invariant-loop decreases-loop
+same_length c = c.before.loop-i.invariant.keys_long
 
-same-length-2 : tie.Need-same-length-2 invariant-loop decreases-loop
-same-length-2 c = c.before.loop.invariant.which_long
+same-length-2 : tie.Need-shape_of-which invariant-loop decreases-loop
+same-length-2 c = c.before.loop-i.invariant.which_long
 
 returns : tie.Need-returns invariant-loop decreases-loop
 returns c =
-    let l = c.before.loop in
+    let l = c.before.loop-i in
     let e : l.i ≡ length (st c.before).args.strip.now / 3 = omega (arith, l.invariant.within) in
     rw e at l.invariant.gathered
 
-pub gather-spec : {M : Type 1} → statement M
-gather-spec =
+pub gather_spec : {M : Type 1} → statement M
+gather_spec =
     tie.close
     (tie.spec
     invariant-loop

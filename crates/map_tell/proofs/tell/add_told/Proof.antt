@@ -17,162 +17,162 @@ use Rattle.map_tell.proofs.Tells.{told-first}
 use Rattle.map_tell.proofs.tell.add_told.Statement.{statement}
 use Rattle.map_tell.proofs.tell.add_told.Tie as tie
 
-abbrev invariant-loop : tie.invariant-loop
+abbrev invariant-loop : tie.invariant-loop-i
 invariant-loop which told index₀ n red₀ green₀ blue₀ i₀ index red green blue i =
     let x = told_of which told in
     Settled (x 3) (x 0) (x 1) (x 2) index₀ index red green blue i
 
-abbrev decreases-loop : tie.decreases-loop
+abbrev decreases-loop : tie.decreases-loop-i
 decreases-loop which told index₀ n red₀ green₀ blue₀ i₀ index red green blue i = length index₀ - i
 
 -- where the turn begins
-abbrev turn : tie.After-shared-slice-known2 invariant-loop decreases-loop → tie.In-loop invariant-loop decreases-loop
+abbrev turn : tie.After-shared_slice_known-in-loop-i-1 invariant-loop decreases-loop → tie.In-loop-i invariant-loop decreases-loop
 turn c = c.before.before
 
 -- the cells at the slot of the turn's pixel
-cells : (c : tie.In-loop invariant-loop decreases-loop)
+cells : (c : tie.In-loop-i invariant-loop decreases-loop)
     → let a = c.before.before.args in
-    4 * slot_of a.which.now c.before.loop.i + 3 < length a.told.now
-cells c = c.before.before.requires.cells c.before.loop.i (omega arith)
+    4 * slot_of a.which.now c.before.loop-i.i + 3 < length a.told.now
+cells c = c.before.before.requires.cells c.before.loop-i.i (omega arith)
 
 -- the errors so far are small
-small : (c : tie.After-shared-slice-known2 invariant-loop decreases-loop)
-    → let l = (turn c).before.loop in
+small : (c : tie.After-shared_slice_known-in-loop-i-1 invariant-loop decreases-loop)
+    → let l = (turn c).before.loop-i in
     (l.red ≤ l.i * 4294967295) × (l.green ≤ l.i * 4294967295) × (l.blue ≤ l.i * 4294967295)
 small c =
     let l = (turn c).before in
     let a = l.before.args in
-    let known = c.shared-slice-known2.given in
-    settled-small l.loop.inv 4294967295 (λ j b.
+    let known = c.shared_slice_known-in-loop-i-1.given in
+    settled-small l.loop-i.inv 4294967295 (λ j b.
     let at = 4 * slot_of a.which.now j in
     (omega (arith, known (at + 0)), omega (arith, known (at + 1)), omega (arith, known (at + 2))))
 
-loop-holds : tie.Need-loop-init invariant-loop decreases-loop
+loop-holds : tie.Need-loop-i-init invariant-loop decreases-loop
 loop-holds c =
     let a = c.args in
     let x = told_of a.which.now a.told.now in
     settled-start (x 3) (x 0) (x 1) (x 2) a.index.now
 
-mul_at : tie.Need-overflow-mul-at invariant-loop decreases-loop
+mul_at : tie.Need-offset_bounds-which-i invariant-loop decreases-loop
 mul_at c = omega (arith, c.before.before.requires.slots)
 
-shared-slice-read-at : tie.Need-shared-slice-read-at invariant-loop decreases-loop
+shared-slice-read-at : tie.Need-bounds-which-i invariant-loop decreases-loop
 shared-slice-read-at c = omega (arith, c.before.before.before.requires.slots)
 
-cast-at : tie.Need-overflow-cast-at invariant-loop decreases-loop
-cast-at c = omega (arith, c.shared-slice-known.given c.before.before.loop.i)
+cast-at : tie.Need-overflow_cast-at invariant-loop decreases-loop
+cast-at c = omega (arith, c.shared_slice_known-1.given c.before.before.loop-i.i)
 
-mul-at-2 : tie.Need-overflow-mul-at-2 invariant-loop decreases-loop
+mul-at-2 : tie.Need-overflow_mul-at invariant-loop decreases-loop
 mul-at-2 c = omega (arith, cells c.before)
 
-add-index : tie.Need-overflow-add-index invariant-loop decreases-loop
+add-index : tie.Need-overflow_add-index invariant-loop decreases-loop
 add-index c = omega (arith, cells c.before)
 
-mul-index : tie.Need-overflow-mul-index invariant-loop decreases-loop
-mul-index c = omega (arith, c.shared-slice-known.given c.before.before.loop.i)
+mul-index : tie.Need-offset_bounds-told-at invariant-loop decreases-loop
+mul-index c = omega (arith, c.shared_slice_known-1.given c.before.before.loop-i.i)
 
-shared-slice-read-index : tie.Need-shared-slice-read-index invariant-loop decreases-loop
+shared-slice-read-index : tie.Need-bounds-told-at invariant-loop decreases-loop
 shared-slice-read-index c = omega (arith, cells c.before.before)
 
-cast-index : tie.Need-overflow-cast-index invariant-loop decreases-loop
+cast-index : tie.Need-overflow_cast-index invariant-loop decreases-loop
 cast-index c =
     let l = c.before.before.before in
-    omega (arith, l.before.requires.byte l.loop.i (omega arith))
+    omega (arith, l.before.requires.byte l.loop-i.i (omega arith))
 
-slice-write-index : tie.Need-slice-write-index invariant-loop decreases-loop
-slice-write-index c = omega (arith, settled-long c.before.before.before.loop.invariant)
+slice-write-index : tie.Need-bounds-index-i invariant-loop decreases-loop
+slice-write-index c = omega (arith, settled-long c.before.before.before.loop-i.invariant)
 
-mul-red : tie.Need-overflow-mul-red invariant-loop decreases-loop
-mul-red c = omega (arith, c.before.shared-slice-known.given c.before.before.before.loop.i)
+mul-red : tie.Need-offset_bounds-told-at-in-loop-i invariant-loop decreases-loop
+mul-red c = omega (arith, c.before.shared_slice_known-1.given c.before.before.before.loop-i.i)
 
-shared-slice-read-red : tie.Need-shared-slice-read-red invariant-loop decreases-loop
+shared-slice-read-red : tie.Need-bounds-told-at-in-loop-i invariant-loop decreases-loop
 shared-slice-read-red c = omega (arith, cells (turn c.before))
 
-cast-red : tie.Need-overflow-cast-red invariant-loop decreases-loop
+cast-red : tie.Need-overflow_cast-red invariant-loop decreases-loop
 cast-red c =
     let l = (turn c.before).before in
-    omega (arith, c.shared-slice-known3.given (4 * slot_of l.before.args.which.now l.loop.i))
+    omega (arith, c.shared_slice_known-in-loop-i-2-1.given (4 * slot_of l.before.args.which.now l.loop-i.i))
 
-add-red : tie.Need-overflow-add-red invariant-loop decreases-loop
+add-red : tie.Need-overflow_add-red invariant-loop decreases-loop
 add-red c =
     let l = (turn c.before).before in
     omega (
       arith,
       small c.before,
       l.before.pre.few,
-      c.shared-slice-known3.given (4 * slot_of l.before.args.which.now l.loop.i),
+      c.shared_slice_known-in-loop-i-2-1.given (4 * slot_of l.before.args.which.now l.loop-i.i),
     )
 
-add-green : tie.Need-overflow-add-green invariant-loop decreases-loop
+add-green : tie.Need-overflow_add-green invariant-loop decreases-loop
 add-green c = omega (arith, cells (turn c.before))
 
-mul-green : tie.Need-overflow-mul-green invariant-loop decreases-loop
-mul-green c = omega (arith, c.before.before.shared-slice-known.given (turn c.before).before.loop.i)
+mul-green : tie.Need-offset_bounds-told-at-in-loop-i-2 invariant-loop decreases-loop
+mul-green c = omega (arith, c.before.before.shared_slice_known-1.given (turn c.before).before.loop-i.i)
 
-shared-slice-read-green : tie.Need-shared-slice-read-green invariant-loop decreases-loop
+shared-slice-read-green : tie.Need-bounds-told-at-in-loop-i-2 invariant-loop decreases-loop
 shared-slice-read-green c = omega (arith, cells (turn c.before.before))
 
-cast-green : tie.Need-overflow-cast-green invariant-loop decreases-loop
+cast-green : tie.Need-overflow_cast-green invariant-loop decreases-loop
 cast-green c =
     let l = (turn c.before.before).before in
-    omega (arith, c.shared-slice-known4.given (4 * slot_of l.before.args.which.now l.loop.i + 1))
+    omega (arith, c.shared_slice_known-in-loop-i-3-1.given (4 * slot_of l.before.args.which.now l.loop-i.i + 1))
 
-add-green-2 : tie.Need-overflow-add-green-2 invariant-loop decreases-loop
+add-green-2 : tie.Need-overflow_add-green-in-loop-i invariant-loop decreases-loop
 add-green-2 c =
     let l = (turn c.before.before).before in
     omega (
       arith,
       small c.before.before,
       l.before.pre.few,
-      c.shared-slice-known4.given (4 * slot_of l.before.args.which.now l.loop.i + 1),
+      c.shared_slice_known-in-loop-i-3-1.given (4 * slot_of l.before.args.which.now l.loop-i.i + 1),
     )
 
-add-blue : tie.Need-overflow-add-blue invariant-loop decreases-loop
+add-blue : tie.Need-overflow_add-blue invariant-loop decreases-loop
 add-blue c = omega (arith, cells (turn c.before.before))
 
-mul-blue : tie.Need-overflow-mul-blue invariant-loop decreases-loop
+mul-blue : tie.Need-offset_bounds-told-at-in-loop-i-3 invariant-loop decreases-loop
 mul-blue c =
-    omega (arith, c.before.before.before.shared-slice-known.given (turn c.before.before).before.loop.i)
+    omega (arith, c.before.before.before.shared_slice_known-1.given (turn c.before.before).before.loop-i.i)
 
-shared-slice-read-blue : tie.Need-shared-slice-read-blue invariant-loop decreases-loop
+shared-slice-read-blue : tie.Need-bounds-told-at-in-loop-i-3 invariant-loop decreases-loop
 shared-slice-read-blue c = omega (arith, cells (turn c.before.before.before))
 
-cast-blue : tie.Need-overflow-cast-blue invariant-loop decreases-loop
+cast-blue : tie.Need-overflow_cast-blue invariant-loop decreases-loop
 cast-blue c =
     let l = (turn c.before.before.before).before in
-    omega (arith, c.shared-slice-known5.given (4 * slot_of l.before.args.which.now l.loop.i + 2))
+    omega (arith, c.shared_slice_known-in-loop-i-4-1.given (4 * slot_of l.before.args.which.now l.loop-i.i + 2))
 
-add-blue-2 : tie.Need-overflow-add-blue-2 invariant-loop decreases-loop
+add-blue-2 : tie.Need-overflow_add-blue-in-loop-i invariant-loop decreases-loop
 add-blue-2 c =
     let l = (turn c.before.before.before).before in
     omega (
       arith,
       small c.before.before.before,
       l.before.pre.few,
-      c.shared-slice-known5.given (4 * slot_of l.before.args.which.now l.loop.i + 2),
+      c.shared_slice_known-in-loop-i-4-1.given (4 * slot_of l.before.args.which.now l.loop-i.i + 2),
     )
 
-add-i : tie.Need-overflow-add-i invariant-loop decreases-loop
+add-i : tie.Need-overflow_add-i invariant-loop decreases-loop
 add-i c = omega arith
 
-loop-less : tie.Need-loop-smaller invariant-loop decreases-loop
+loop-less : tie.Need-loop-i-smaller invariant-loop decreases-loop
 loop-less c = omega arith
 
-loop-again : tie.Need-loop-preserved invariant-loop decreases-loop
+loop-again : tie.Need-loop-i-preserved invariant-loop decreases-loop
 loop-again c =
     let l = (turn c.before.before.before).before in
     let a = l.before.args in
-    settled-step l.loop.inv (omega arith) (told-first a.told.now (slot_of a.which.now l.loop.i))
+    settled-step l.loop-i.inv (omega arith) (told-first a.told.now (slot_of a.which.now l.loop-i.i))
     refl refl
 
-same_length : tie.Need-same-length invariant-loop decreases-loop
-same_length c = settled-long c.before.loop.invariant
+same_length : tie.Need-shape_of-index invariant-loop decreases-loop
+same_length c = settled-long c.before.loop-i.invariant
 
 returns : tie.Need-returns invariant-loop decreases-loop
-returns c = settled-done c.before.loop.invariant (omega arith)
+returns c = settled-done c.before.loop-i.invariant (omega arith)
 
-pub add-told-spec : {M : Type 1} → statement M
-add-told-spec =
+pub add_told_spec : {M : Type 1} → statement M
+add_told_spec =
     tie.close
     (tie.spec
     invariant-loop

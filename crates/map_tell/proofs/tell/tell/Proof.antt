@@ -10,188 +10,188 @@ use Rattle.map_tell.proofs.Tells.{Telling, telling-start, telling-long, telling-
 use Rattle.map_tell.proofs.tell.tell.Statement.{statement}
 use Rattle.map_tell.proofs.tell.tell.Tie as tie
 
-abbrev invariant-loop : tie.invariant-loop
+abbrev invariant-loop : tie.invariant-loop-i
 invariant-loop keys link best n s told₀ i₀ told i = Telling (levels_of keys link) s (found_number link best) n told₀ told i
 
-abbrev decreases-loop : tie.decreases-loop
+abbrev decreases-loop : tie.decreases-loop-i
 decreases-loop keys link best n s told₀ i₀ told i = n - i
 
 -- where the function begins, from the loop's beginning
-abbrev begin : tie.After-slice-known invariant-loop decreases-loop → tie.Start invariant-loop decreases-loop
+abbrev begin : tie.After-slice_known-1 invariant-loop decreases-loop → tie.Start invariant-loop decreases-loop
 begin c = c.before.before.before.before.before
 
 -- and from a turn
-abbrev st : tie.At-loop invariant-loop decreases-loop → tie.Start invariant-loop decreases-loop
+abbrev st : tie.At-loop-i invariant-loop decreases-loop → tie.Start invariant-loop decreases-loop
 st c = begin c.before
 
 -- where the turn begins, from its red level
-abbrev turn : tie.After-red-of invariant-loop decreases-loop → tie.In-loop invariant-loop decreases-loop
+abbrev turn : tie.After-red_of invariant-loop decreases-loop → tie.In-loop-i invariant-loop decreases-loop
 turn c = c.before.before.before.before
 
 -- the first square, from the second
-abbrev first : tie.After-square2 invariant-loop decreases-loop → tie.After-square invariant-loop decreases-loop
+abbrev first : tie.After-square-in-loop-i invariant-loop decreases-loop → tie.After-square invariant-loop decreases-loop
 first c = c.before.before.before
 
 -- the second, from the third
-abbrev second : tie.After-square3 invariant-loop decreases-loop → tie.After-square2 invariant-loop decreases-loop
+abbrev second : tie.After-square-in-loop-i-2 invariant-loop decreases-loop → tie.After-square-in-loop-i invariant-loop decreases-loop
 second c = c.before.before.before
 
 -- there is room for the turn's cells
-room : (c : tie.In-loop invariant-loop decreases-loop) → 4 * c.before.loop.i + 3 < length c.before.loop.told
-room c = omega (arith, telling-long c.before.loop.invariant, (st c.before).pre.room, c.loop-test.true)
+room : (c : tie.In-loop-i invariant-loop decreases-loop) → 4 * c.before.loop-i.i + 3 < length c.before.loop-i.told
+room c = omega (arith, telling-long c.before.loop-i.invariant, (st c.before).pre.room, c.loop-i-test.true)
 
 -- the shade with the number found is in s
-inside : (c : tie.In-loop invariant-loop decreases-loop)
+inside : (c : tie.In-loop-i invariant-loop decreases-loop)
     → let a = (st c.before).args in
-    3 * found_number a.link.now a.best.now c.before.loop.i + 2 < length a.shades.now
-inside c = (st c.before).pre.inside c.before.loop.i (omega arith)
+    3 * found_number a.link.now a.best.now c.before.loop-i.i + 2 < length a.shades.now
+inside c = (st c.before).pre.inside c.before.loop-i.i (omega arith)
 
-loop-holds : tie.Need-loop-init invariant-loop decreases-loop
+loop-holds : tie.Need-loop-i-init invariant-loop decreases-loop
 loop-holds c =
     let a = (begin c).args in
     let link = a.link.now in
     telling-start (levels_of a.keys.now link) a.shades.now (found_number link a.best.now) a.slots
     a.told.now
 
-shared-slice-read-slot : tie.Need-shared-slice-read-slot invariant-loop decreases-loop
+shared-slice-read-slot : tie.Need-bounds-link-i invariant-loop decreases-loop
 shared-slice-read-slot c = omega (arith, (st c.before.before).pre.links)
 
-cast-slot : tie.Need-overflow-cast-slot invariant-loop decreases-loop
-cast-slot c = omega (arith, c.shared-slice-known5.given c.before.before.loop.i)
+cast-slot : tie.Need-overflow_cast-slot invariant-loop decreases-loop
+cast-slot c = omega (arith, c.shared_slice_known-in-loop-i-1.given c.before.before.loop-i.i)
 
-mul-key : tie.Need-overflow-mul-key invariant-loop decreases-loop
-mul-key c = omega (arith, c.shared-slice-known5.given c.before.before.loop.i)
+mul-key : tie.Need-offset_bounds-keys-slot invariant-loop decreases-loop
+mul-key c = omega (arith, c.shared_slice_known-in-loop-i-1.given c.before.before.loop-i.i)
 
-shared-slice-read-key : tie.Need-shared-slice-read-key invariant-loop decreases-loop
+shared-slice-read-key : tie.Need-bounds-keys-slot invariant-loop decreases-loop
 shared-slice-read-key c =
     let l = c.before.before.before in
-    (st l).requires.keyed l.loop.i (omega arith)
+    (st l).requires.keyed l.loop-i.i (omega arith)
 
-mul-number : tie.Need-overflow-mul-number invariant-loop decreases-loop
-mul-number c = omega (arith, c.before.shared-slice-known5.given c.before.before.before.loop.i)
+mul-number : tie.Need-offset_bounds-best-slot invariant-loop decreases-loop
+mul-number c = omega (arith, c.before.shared_slice_known-in-loop-i-1.given c.before.before.before.loop-i.i)
 
-shared-slice-read-number : tie.Need-shared-slice-read-number invariant-loop decreases-loop
+shared-slice-read-number : tie.Need-bounds-best-slot invariant-loop decreases-loop
 shared-slice-read-number c =
     let l = c.before.before.before.before in
-    (st l).requires.slotted l.loop.i (omega arith)
+    (st l).requires.slotted l.loop-i.i (omega arith)
 
-cast-from : tie.Need-overflow-cast-from invariant-loop decreases-loop
+cast-from : tie.Need-overflow_cast-from invariant-loop decreases-loop
 cast-from c = omega arith
 
-mul-from : tie.Need-overflow-mul-from invariant-loop decreases-loop
+mul-from : tie.Need-overflow_mul-from invariant-loop decreases-loop
 mul-from c = omega arith
 
-mul_at : tie.Need-overflow-mul-at invariant-loop decreases-loop
+mul_at : tie.Need-overflow_mul-at invariant-loop decreases-loop
 mul_at c = omega (arith, room c.before.before.before)
 
-red-of-requires : tie.Need-red-of-requires invariant-loop decreases-loop
+red-of-requires : tie.Need-red_of-requires invariant-loop decreases-loop
 red-of-requires c κs = search rules
 
-mul-square : tie.Need-overflow-mul-square invariant-loop decreases-loop
+mul-square : tie.Need-offset_bounds-shades-from invariant-loop decreases-loop
 mul-square c = omega arith
 
-shared-slice-read-square : tie.Need-shared-slice-read-square invariant-loop decreases-loop
+shared-slice-read-square : tie.Need-bounds-shades-from invariant-loop decreases-loop
 shared-slice-read-square c = omega (arith, inside (turn c.before))
 
 square-requires : tie.Need-square-requires invariant-loop decreases-loop
-square-requires c κs = (omega (arith, c.before.red-of.ensures.1), (st (turn c.before).before).pre.shades _)
+square-requires c κs = (omega (arith, c.before.red_of.ensures.1), (st (turn c.before).before).pre.shades _)
 
-mul-told : tie.Need-overflow-mul-told invariant-loop decreases-loop
+mul-told : tie.Need-offset_bounds-told-at invariant-loop decreases-loop
 mul-told c = omega (arith, room (turn c.before.before))
 
-slice-write-told : tie.Need-slice-write-told invariant-loop decreases-loop
+slice-write-told : tie.Need-bounds-told-at invariant-loop decreases-loop
 slice-write-told c = omega (arith, room (turn c.before.before))
 
-green-of-requires : tie.Need-green-of-requires invariant-loop decreases-loop
+green-of-requires : tie.Need-green_of-requires invariant-loop decreases-loop
 green-of-requires c κs = search rules
 
-add-square : tie.Need-overflow-add-square invariant-loop decreases-loop
+add-square : tie.Need-overflow_add-from invariant-loop decreases-loop
 add-square c = omega arith
 
-mul-square-2 : tie.Need-overflow-mul-square-2 invariant-loop decreases-loop
+mul-square-2 : tie.Need-offset_bounds-shades-from-in-loop-i invariant-loop decreases-loop
 mul-square-2 c = omega arith
 
-shared-slice-read-square-2 : tie.Need-shared-slice-read-square-2 invariant-loop decreases-loop
+shared-slice-read-square-2 : tie.Need-bounds-shades-from-in-loop-i invariant-loop decreases-loop
 shared-slice-read-square-2 c = omega (arith, inside (turn c.before.before.before.before))
 
-square-requires-2 : tie.Need-square-requires-2 invariant-loop decreases-loop
+square-requires-2 : tie.Need-square-requires-in-loop-i invariant-loop decreases-loop
 square-requires-2 c κs =
     let l = (turn c.before.before.before.before).before in
-    (omega (arith, c.before.green-of.ensures.1), (st l).pre.shades _)
+    (omega (arith, c.before.green_of.ensures.1), (st l).pre.shades _)
 
-add-told : tie.Need-overflow-add-told invariant-loop decreases-loop
+add-told : tie.Need-overflow_add-told invariant-loop decreases-loop
 add-told c = omega (arith, room (turn (first c).before.before))
 
-mul-told-2 : tie.Need-overflow-mul-told-2 invariant-loop decreases-loop
+mul-told-2 : tie.Need-offset_bounds-told-at-in-loop-i invariant-loop decreases-loop
 mul-told-2 c = omega (arith, room (turn (first c).before.before))
 
-slice-write-told-2 : tie.Need-slice-write-told-2 invariant-loop decreases-loop
+slice-write-told-2 : tie.Need-bounds-told-at-in-loop-i invariant-loop decreases-loop
 slice-write-told-2 c = rw length-set (omega (arith, room (turn (first c).before.before)))
 
-blue-of-requires : tie.Need-blue-of-requires invariant-loop decreases-loop
+blue-of-requires : tie.Need-blue_of-requires invariant-loop decreases-loop
 blue-of-requires c κs = search rules
 
-add-square-2 : tie.Need-overflow-add-square-2 invariant-loop decreases-loop
+add-square-2 : tie.Need-overflow_add-from-in-loop-i invariant-loop decreases-loop
 add-square-2 c = omega arith
 
-mul-square-3 : tie.Need-overflow-mul-square-3 invariant-loop decreases-loop
+mul-square-3 : tie.Need-offset_bounds-shades-from-in-loop-i-2 invariant-loop decreases-loop
 mul-square-3 c = omega arith
 
-shared-slice-read-square-3 : tie.Need-shared-slice-read-square-3 invariant-loop decreases-loop
+shared-slice-read-square-3 : tie.Need-bounds-shades-from-in-loop-i-2 invariant-loop decreases-loop
 shared-slice-read-square-3 c = omega (arith, inside (turn (first c.before.before).before.before))
 
-square-requires-3 : tie.Need-square-requires-3 invariant-loop decreases-loop
+square-requires-3 : tie.Need-square-requires-in-loop-i-2 invariant-loop decreases-loop
 square-requires-3 c κs =
     let l = (turn (first c.before.before).before.before).before in
-    (omega (arith, c.before.blue-of.ensures.1), (st l).pre.shades _)
+    (omega (arith, c.before.blue_of.ensures.1), (st l).pre.shades _)
 
-add-told-2 : tie.Need-overflow-add-told-2 invariant-loop decreases-loop
+add-told-2 : tie.Need-overflow_add-told-in-loop-i invariant-loop decreases-loop
 add-told-2 c = omega (arith, room (turn (first (second c)).before.before))
 
-mul-told-3 : tie.Need-overflow-mul-told-3 invariant-loop decreases-loop
+mul-told-3 : tie.Need-offset_bounds-told-at-in-loop-i-2 invariant-loop decreases-loop
 mul-told-3 c = omega (arith, room (turn (first (second c)).before.before))
 
-slice-write-told-3 : tie.Need-slice-write-told-3 invariant-loop decreases-loop
+slice-write-told-3 : tie.Need-bounds-told-at-in-loop-i-2 invariant-loop decreases-loop
 slice-write-told-3 c =
     rw (length-set, length-set) (omega (arith, room (turn (first (second c)).before.before)))
 
-add-told-3 : tie.Need-overflow-add-told-3 invariant-loop decreases-loop
+add-told-3 : tie.Need-overflow_add-told-in-loop-i-2 invariant-loop decreases-loop
 add-told-3 c = omega (arith, room (turn (first (second c)).before.before))
 
-mul-told-4 : tie.Need-overflow-mul-told-4 invariant-loop decreases-loop
+mul-told-4 : tie.Need-offset_bounds-told-at-in-loop-i-3 invariant-loop decreases-loop
 mul-told-4 c = omega (arith, room (turn (first (second c)).before.before))
 
-slice-write-told-4 : tie.Need-slice-write-told-4 invariant-loop decreases-loop
+slice-write-told-4 : tie.Need-bounds-told-at-in-loop-i-3 invariant-loop decreases-loop
 slice-write-told-4 c =
     rw (length-set, length-set, length-set) (omega (arith, room (turn (first (second c)).before.before)))
 
-add-i : tie.Need-overflow-add-i invariant-loop decreases-loop
+add-i : tie.Need-overflow_add-i invariant-loop decreases-loop
 add-i c = omega arith
 
-loop-less : tie.Need-loop-smaller invariant-loop decreases-loop
+loop-less : tie.Need-loop-i-smaller invariant-loop decreases-loop
 loop-less c = omega arith
 
-loop-again : tie.Need-loop-preserved invariant-loop decreases-loop
+loop-again : tie.Need-loop-i-preserved invariant-loop decreases-loop
 loop-again c =
     let two = second c in
     let one = first two in
     let l = (turn one.before.before).before in
-    telling-step l.loop.inv (omega arith) (st l).pre.room
-    one.before.before.red-of.ensures.0 two.before.before.green-of.ensures.0
-    c.before.before.blue-of.ensures.0 one.square.ensures.0 two.square2.ensures.0
-    c.square3.ensures.0
+    telling-step l.loop-i.inv (omega arith) (st l).pre.room
+    one.before.before.red_of.ensures.0 two.before.before.green_of.ensures.0
+    c.before.before.blue_of.ensures.0 one.square.ensures.0 two.square-in-loop-i.ensures.0
+    c.square-in-loop-i-2.ensures.0
 
-same_length : tie.Need-same-length invariant-loop decreases-loop
-same_length c = telling-long c.before.loop.invariant
+same_length : tie.Need-shape_of-told invariant-loop decreases-loop
+same_length c = telling-long c.before.loop-i.invariant
 
 returns : tie.Need-returns invariant-loop decreases-loop
 returns c =
-    let l = c.before.loop in
+    let l = c.before.loop-i in
     let e : l.i ≡ (st c.before).args.slots = omega (arith, l.invariant.within) in
     rw e at l.invariant.is
 
-pub tell-spec : {M : Type 1} → statement M
-tell-spec =
+pub tell_spec : {M : Type 1} → statement M
+tell_spec =
     tie.close
     (tie.spec
     invariant-loop

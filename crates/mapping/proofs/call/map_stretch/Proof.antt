@@ -10,42 +10,42 @@ use Rattle.mapping.proofs.call.map_stretch.Statement.{statement}
 use Rattle.mapping.proofs.call.map_stretch.Tie as tie
 
 -- where the function begins
-abbrev st : tie.After-map-pixels → tie.Start
+abbrev st : tie.After-map_pixels → tie.Start
 st c = c.before.before.before.before.before
 
-add-end : tie.Need-overflow-add-end
+add-end : tie.Need-overflow_add-end
 add-end c = search rules
 
-sub-map-pixels : tie.Need-overflow-sub-map-pixels
+sub-map-pixels : tie.Need-slice_bounds-map_pixels-count
 sub-map-pixels c = search rules
 
-part-map-pixels-start : tie.Need-slice-bounds-map-pixels-start
+part-map-pixels-start : tie.Need-slice_bounds-map_pixels-start
 part-map-pixels-start c = search rules
 
-part-map-pixels-end : tie.Need-slice-bounds-map-pixels-end
+part-map-pixels-end : tie.Need-slice_bounds-map_pixels-end
 part-map-pixels-end c = search rules
 
-map-pixels-requires : tie.Need-map-pixels-requires
+map-pixels-requires : tie.Need-map_pixels-requires
 map-pixels-requires c κs = search rules
 
-same_length : tie.Need-same-length
+same_length : tie.Need-shape_of-index
 same_length c = search rules
 
 returns : tie.Need-returns
 returns c =
     let at = c.before.before in
-    let m = at.map-pixels in
+    let m = at.map_pixels in
     let start = st at in
     let a = start.args in (
-      stretch-mapped a.first a.pixels (entry_for a.palette.now a.strip.now) a.index.now _
+      stretch-mapped a.first a.pixels (entry_for a.palette.now a.strip.now) a.index-1.now _
           start.pre.1 m.ensures.0,
       m.ensures.1
           ∙ ap (errors_of a.palette.now a.strip.now)
-          (mid_len a.first (a.first + a.pixels) a.index.now start.pre.1 ∙ omega arith),
+          (mid_len a.first (a.first + a.pixels) a.index-1.now start.pre.1 ∙ omega arith),
     )
 
-pub map-stretch-spec : {M : Type 1} → statement M
-map-stretch-spec =
+pub map_stretch_spec : {M : Type 1} → statement M
+map_stretch_spec =
     tie.close
     (tie.spec
     add-end

@@ -19,111 +19,111 @@ use Rattle.mapping.proofs.call.map_strip.Statement.{statement}
 use Rattle.mapping.proofs.call.map_strip.Tie as tie
 
 -- where the call begins
-abbrev st : tie.After-slice-known → tie.Start
+abbrev st : tie.After-slice_known-1 → tie.Start
 st c = c.before.before.before
 
 -- the strip that it was given
-abbrev s : tie.After-slice-known → List ℕ
+abbrev s : tie.After-slice_known-1 → List ℕ
 s c = (st c).args.strip.now
 
 -- the palette
-abbrev p : tie.After-slice-known → List ℕ
+abbrev p : tie.After-slice_known-1 → List ℕ
 p c = (st c).args.palette.now
 
 -- the index picture
-abbrev d : tie.After-slice-known → List ℕ
-d c = (st c).args.index.now
+abbrev d : tie.After-slice_known-1 → List ℕ
+d c = (st c).args.index-1.now
 
 -- the stretch's first place
-abbrev a : tie.After-slice-known → ℕ
+abbrev a : tie.After-slice_known-1 → ℕ
 a c = (st c).args.first
 
 -- past the first test, from past the second
-abbrev first : tie.Else2 → tie.Else1
+abbrev first : tie.Else-bad_palette → tie.Else-strip-ne0
 first c = c.before.before
 
 -- past the second, from where the twins are told
-abbrev second : tie.After-struct-known → tie.Else2
+abbrev second : tie.After-struct_known-1 → tie.Else-bad_palette
 second c = c.before.before
 
 -- past the first test: it fails
-whole : (c : tie.Else1) → bad_strip (s c.before) ≡ false
-whole c = ap not (eq-eqb _ _ c.if1.false)
+whole : (c : tie.Else-strip-ne0) → bad_strip (s c.before) ≡ false
+whole c = ap not (eq-eqb _ _ c.if-strip-ne0.false)
 
 -- past the second
-colours : (c : tie.Else2) → bad_palette (p (first c).before) ≡ false
-colours c = sym c.before.bad-palette.ensures ∙ c.if2.false
+colours : (c : tie.Else-bad_palette) → bad_palette (p (first c).before) ≡ false
+colours c = sym c.before.bad_palette.ensures ∙ c.if-bad_palette.false
 
 -- the third is told by the higher number
-twins-by : (c : tie.After-struct-known)
-    → twin_shade (p (first (second c)).before) ≡ ltb 0 c.before.twin-of.result.higher
+twins-by : (c : tie.After-struct_known-1)
+    → twin_shade (p (first (second c)).before) ≡ ltb 0 c.before.twin_of-twins.result.higher
 twins-by c =
     told-exactly (p (first (second c)).before)
-    ∙ ap (λ (t : Twins). ltb 0 t.higher) (sym c.before.twin-of.ensures)
+    ∙ ap (λ (t : Twins). ltb 0 t.higher) (sym c.before.twin_of-twins.ensures)
 
 -- past the third
-unlike : (c : tie.Else3) → twin_shade (p (first (second c.before)).before) ≡ false
-unlike c = twins-by c.before ∙ le-ltb 0 _ c.if3.false
+unlike : (c : tie.Else-twins-gt0) → twin_shade (p (first (second c.before)).before) ≡ false
+unlike c = twins-by c.before ∙ le-ltb 0 _ c.if-twins-gt0.false
 
 -- past the fourth
-few : (c : tie.Else4) → pixel_count (s (first (second c.before.before)).before) ≤ most_pixels
+few : (c : tie.Else-count-gt-MOST_PIXELS) → pixel_count (s (first (second c.before.before)).before) ≤ most_pixels
 few c = omega arith
 
 refused-requires : tie.Need-refused-requires
 refused-requires c κs = search rules
 
-returns : tie.Need-returns
+returns : tie.Need-returns-then-strip-ne0
 returns c =
     let t = c.before.before in
-    map-meets-refused (s t) (p t) (d t) (a t) BAD-STRIP _ (simp (ne_eqb _ _ c.before.if1.true))
+    map-meets-refused (s t) (p t) (d t) (a t) BAD-STRIP _ (simp (ne_eqb _ _ c.before.if-strip-ne0.true))
     c.refused.ensures
 
-bad-palette-requires : tie.Need-bad-palette-requires
+bad-palette-requires : tie.Need-bad_palette-requires
 bad-palette-requires c κs = search rules
 
-refused-requires-2 : tie.Need-refused-requires-2
+refused-requires-2 : tie.Need-refused-requires-then-bad_palette
 refused-requires-2 c κs = search rules
 
-returns-2 : tie.Need-returns-2
+returns-2 : tie.Need-returns-then-bad_palette
 returns-2 c =
     let b = c.before.before in
     let w = b.before in
     let t = w.before in
     map-meets-refused (s t) (p t) (d t) (a t) BAD-PALETTE _
-    (simp (whole w, sym b.bad-palette.ensures ∙ c.before.if2.true)) c.refused2.ensures
+    (simp (whole w, sym b.bad_palette.ensures ∙ c.before.if-bad_palette.true)) c.refused-then-bad_palette.ensures
 
-twin-of-requires : tie.Need-twin-of-requires
+twin-of-requires : tie.Need-twin_of-twins-requires
 twin-of-requires c κs = search rules
 
-refused-requires-3 : tie.Need-refused-requires-3
+refused-requires-3 : tie.Need-refused-requires-then-twins-gt0
 refused-requires-3 c κs = search rules
 
-returns-3 : tie.Need-returns-3
+returns-3 : tie.Need-returns-then-twins-gt0
 returns-3 c =
     let k = c.before.before in
     let e = second k in
     let w = first e in
     let t = w.before in
     map-meets-refused (s t) (p t) (d t) (a t) TWIN_SHADE _
-    (simp (whole w, colours e, twins-by k ∙ lt-ltb 0 _ c.before.if3.true))
-    (c.refused3.ensures ∙ ap (refused_map 18) k.before.twin-of.ensures)
+    (simp (whole w, colours e, twins-by k ∙ lt-ltb 0 _ c.before.if-twins-gt0.true))
+    (c.refused-then-twins-gt0.ensures ∙ ap (refused_map 18) k.before.twin_of-twins.ensures)
 
-refused-requires-4 : tie.Need-refused-requires-4
+refused-requires-4 : tie.Need-refused-requires-then-count-gt-MOST_PIXELS
 refused-requires-4 c κs = search rules
 
-returns-4 : tie.Need-returns-4
+returns-4 : tie.Need-returns-then-count-gt-MOST_PIXELS
 returns-4 c =
     let u = c.before.before in
     let e = second u.before in
     let w = first e in
     let t = w.before in
     map-meets-refused (s t) (p t) (d t) (a t) MANY-PIXELS _
-    (simp (whole w, colours e, unlike u, lt-ltb _ _ c.before.if4.true)) c.refused4.ensures
+    (simp (whole w, colours e, unlike u, lt-ltb _ _ c.before.if-count-gt-MOST_PIXELS.true)) c.refused-then-count-gt-MOST_PIXELS.ensures
 
-refused-requires-5 : tie.Need-refused-requires-5
+refused-requires-5 : tie.Need-refused-requires-then-room-pixels
 refused-requires-5 c κs = search rules
 
-returns-5 : tie.Need-returns-5
+returns-5 : tie.Need-returns-then-room-pixels
 returns-5 c =
     let f = c.before.before in
     let u = f.before in
@@ -131,12 +131,12 @@ returns-5 c =
     let w = first e in
     let t = w.before in
     map-meets-refused (s t) (p t) (d t) (a t) SHORT-ROOM _
-    (short-room (s t) (p t) (d t) (a t) (whole w) (colours e) (unlike u) (few f) (omega arith)) c.refused5.ensures
+    (short-room (s t) (p t) (d t) (a t) (whole w) (colours e) (unlike u) (few f) (omega arith)) c.refused-then-room-pixels.ensures
 
-refused-requires-6 : tie.Need-refused-requires-6
+refused-requires-6 : tie.Need-refused-requires-then-last-first
 refused-requires-6 c κs = search rules
 
-returns-6 : tie.Need-returns-6
+returns-6 : tie.Need-returns-then-last-first
 returns-6 c =
     let f = c.before.before.before in
     let u = f.before in
@@ -144,9 +144,9 @@ returns-6 c =
     let w = first e in
     let t = w.before in
     map-meets-refused (s t) (p t) (d t) (a t) SHORT-ROOM _
-    (short-room (s t) (p t) (d t) (a t) (whole w) (colours e) (unlike u) (few f) (omega arith)) c.refused6.ensures
+    (short-room (s t) (p t) (d t) (a t) (whole w) (colours e) (unlike u) (few f) (omega arith)) c.refused-then-last-first.ensures
 
-map-stretch-requires : tie.Need-map-stretch-requires
+map-stretch-requires : tie.Need-map_stretch-errors-requires
 map-stretch-requires c κs =
     let f = c.before.before.before in
     let e = second f.before.before in
@@ -159,17 +159,17 @@ answer-requires c κs =
     let m = c.before.before in
     let f = m.before.before.before.before in
     let t = (first (second f.before.before)).before in (
-      rw m.map-stretch.ensures.1
+      rw m.map_stretch-errors.ensures.1
           (small-errors (s t) (p t) (pixel_count (s t))
-          (λ i. omega (arith, t.before.before.shared-slice-known.given i))
-          (λ i. omega (arith, t.before.shared-slice-known2.given i)) (few f)),
+          (λ i. omega (arith, t.before.before.shared_slice_known-1.given i))
+          (λ i. omega (arith, t.before.shared_slice_known-2-1.given i)) (few f)),
       few f,
     )
 
-same_length : tie.Need-same-length
+same_length : tie.Need-shape_of-index
 same_length c = search rules
 
-returns-7 : tie.Need-returns-7
+returns-7 : tie.Need-returns
 returns-7 c =
     let m = c.before.before.before in
     let f = m.before.before.before.before in
@@ -178,10 +178,10 @@ returns-7 c =
     let w = first e in
     let t = w.before in
     map-meets-made (s t) (p t) (d t) (a t) (whole w) (colours e) (unlike u) (few f) (omega arith) _ _ _
-    m.map-stretch.ensures.1 c.answer.ensures m.map-stretch.ensures.0
+    m.map_stretch-errors.ensures.1 c.answer.ensures m.map_stretch-errors.ensures.0
 
-pub map-strip-spec : {M : Type 1} → statement M
-map-strip-spec =
+pub map_strip_spec : {M : Type 1} → statement M
+map_strip_spec =
     tie.close
     (tie.spec
     refused-requires

@@ -13,63 +13,63 @@ use Rattle.moves.proofs.Turns.{held-shades, held_stays, turn-shades, turn-counte
 use Rattle.moves.proofs.step.move_shades.Statement.{statement}
 use Rattle.moves.proofs.step.move_shades.Tie as tie
 
-abbrev invariant-loop : tie.invariant-loop
+abbrev invariant-loop : tie.invariant-loop-q
 invariant-loop sums shades₀ held count leaps moved₀ q₀ shades moved q =
     Counting count (λ j. not (stays (holding_move held (move_of leaps)) sums shades₀ j)) moved q
     × (shades ≡ fill (3 * q) (goes (holding_move held (move_of leaps)) sums shades₀) shades₀)
     × (held ≤ q)
 
-abbrev decreases-loop : tie.decreases-loop
+abbrev decreases-loop : tie.decreases-loop-q
 decreases-loop sums shades₀ held count leaps moved₀ q₀ shades moved q = count - q
 
-loop-holds : tie.Need-loop-init invariant-loop decreases-loop
+loop-holds : tie.Need-loop-q-init invariant-loop decreases-loop
 loop-holds c =
     let s = c.before in
     let a = s.args in (
       counting-from a.count a.held _ s.requires.1
-          (held_stays a.held (move_of a.leaps) a.sums.now a.shades.now),
-      held-shades a.held (move_of a.leaps) a.sums.now a.shades.now,
+          (held_stays a.held (move_of a.leaps) a.sums.now a.shades-1.now),
+      held-shades a.held (move_of a.leaps) a.sums.now a.shades-1.now,
       omega arith,
     )
 
-move-shade-requires : tie.Need-move-shade-requires invariant-loop decreases-loop
+move-shade-requires : tie.Need-move_shade-moved-requires invariant-loop decreases-loop
 move-shade-requires c κs =
     let l = c.before.before in
     let p = l.before.before.requires in
-    (p.0, omega arith, rw (l.loop.invariant.1, fill-length) (omega arith), l.loop.invariant.0.few)
+    (p.0, omega arith, rw (l.loop-q.invariant.1, fill-length) (omega arith), l.loop-q.invariant.0.few)
 
-add-q : tie.Need-overflow-add-q invariant-loop decreases-loop
+add-q : tie.Need-overflow_add-q invariant-loop decreases-loop
 add-q c = omega arith
 
-loop-less : tie.Need-loop-smaller invariant-loop decreases-loop
+loop-less : tie.Need-loop-q-smaller invariant-loop decreases-loop
 loop-less c = omega arith
 
-loop-again : tie.Need-loop-preserved invariant-loop decreases-loop
+loop-again : tie.Need-loop-q-preserved invariant-loop decreases-loop
 loop-again c =
     let m = c.before.before in
     let i = m.before.before in
     let l = i.before in
     let a = l.before.before.args in
-    let free = l.loop.invariant.2 in (
-      counting-next l.loop.invariant.0 (omega (arith, i.loop-test.true))
-          (turn-counted a.held (move_of a.leaps) a.sums.now a.shades.now l.loop.q free l.loop.invariant.1
-          l.loop.moved m.move-shade.ensures.1),
-      turn-shades a.held (move_of a.leaps) a.sums.now a.shades.now l.loop.q free l.loop.invariant.1
-          (omega arith) m.move-shade.ensures.0,
+    let free = l.loop-q.invariant.2 in (
+      counting-next l.loop-q.invariant.0 (omega (arith, i.loop-q-test.true))
+          (turn-counted a.held (move_of a.leaps) a.sums.now a.shades-1.now l.loop-q.q free l.loop-q.invariant.1
+          l.loop-q.moved m.move_shade-moved.ensures.1),
+      turn-shades a.held (move_of a.leaps) a.sums.now a.shades-1.now l.loop-q.q free l.loop-q.invariant.1
+          (omega arith) m.move_shade-moved.ensures.0,
       omega arith,
     )
 
-same_length : tie.Need-same-length invariant-loop decreases-loop
-same_length c = ap length c.before.loop.invariant.1 ∙ fill-length _ _ _
+same_length : tie.Need-shape_of-shades invariant-loop decreases-loop
+same_length c = ap length c.before.loop-q.invariant.1 ∙ fill-length _ _ _
 
 returns : tie.Need-returns invariant-loop decreases-loop
 returns c =
     let l = c.before in
-    let e : l.loop.q ≡ l.before.before.args.count = omega (arith, l.loop.invariant.0.within) in
-    (rw e at l.loop.invariant.1, counting-done l.loop.invariant.0 (omega (arith, c.loop-test.false)))
+    let e : l.loop-q.q ≡ l.before.before.args.count = omega (arith, l.loop-q.invariant.0.within) in
+    (rw e at l.loop-q.invariant.1, counting-done l.loop-q.invariant.0 (omega (arith, c.loop-q-test.false)))
 
-pub move-shades-spec : {M : Type 1} → statement M
-move-shades-spec =
+pub move_shades_spec : {M : Type 1} → statement M
+move_shades_spec =
     tie.close
     (tie.spec
     invariant-loop

@@ -11,75 +11,75 @@ use Rattle.moves.proofs.step.new_coordinate.Statement.{statement}
 use Rattle.moves.proofs.step.new_coordinate.Tie as tie
 
 -- a group with a pixel: what its mean asks
-asked : (c : tie.After-level-sum)
-    → (let pixels = c.before.before.pixels-of.result in
-    (0 < pixels) × (pixels ≤ most_pixels) × (c.level-sum.result ≤ most_level * pixels))
+asked : (c : tie.After-level_sum-coords)
+    → (let pixels = c.before.before.pixels_of-pixels.result in
+    (0 < pixels) × (pixels ≤ most_pixels) × (c.level_sum-coords.result ≤ most_level * pixels))
 asked c =
     let p = c.before.before in
     let s = p.before.before in
-    mean-asked s.requires.0 (s.args.i % 3) (s.args.i / 3) (omega arith) p.pixels-of.ensures
-    c.level-sum.ensures c.before.if1.false
+    mean-asked s.requires.0 (s.args.i % 3) (s.args.i / 3) (omega arith) p.pixels_of-pixels.ensures
+    c.level_sum-coords.ensures c.before.if-pixels-eq0.false
 
-pixels-of-requires : tie.Need-pixels-of-requires
+pixels-of-requires : tie.Need-pixels_of-pixels-requires
 pixels-of-requires c κs = search rules
 
-mul-result : tie.Need-overflow-mul-result
+mul-result : tie.Need-offset_bounds-shades-i
 mul-result c = search rules
 
-shared-slice-read-result : tie.Need-shared-slice-read-result
+shared-slice-read-result : tie.Need-bounds-shades-i
 shared-slice-read-result c = search rules
 
-returns : tie.Need-returns
+returns : tie.Need-returns-then-pixels-eq0
 returns c =
     let t = c.before in
-    rw (eq-eqb _ 0 (sym t.before.pixels-of.ensures ∙ t.if1.true))
+    rw (eq-eqb _ 0 (sym t.before.pixels_of-pixels.ensures ∙ t.if-pixels-eq0.true))
 
-level-sum-requires : tie.Need-level-sum-requires
+level-sum-requires : tie.Need-level_sum-coords-requires
 level-sum-requires c κs = search rules
 
-mul-coords : tie.Need-overflow-mul-coords
+mul-coords : tie.Need-overflow_mul-coords
 mul-coords c = let m = asked c in omega (arith, m.1, m.2)
 
-mul-leap : tie.Need-overflow-mul-leap
+mul-leap : tie.Need-offset_bounds-shades-i-then-leaps
 mul-leap c = search rules
 
-shared-slice-read-leap : tie.Need-shared-slice-read-leap
+shared-slice-read-leap : tie.Need-bounds-shades-i-then-leaps
 shared-slice-read-leap c = search rules
 
 leap-requires : tie.Need-leap-requires
 leap-requires c κs = let m = asked c.before.before in (m.0, m.1, omega (arith, m.2))
 
-returns-2 : tie.Need-returns-2
+returns-2 : tie.Need-returns-then-leaps
 returns-2 c =
     let t = c.before.before in
     let l = t.before in
-    let p = l.before.before.pixels-of in
+    let p = l.before.before.pixels_of-pixels in
     rw (
-      ne_eqb _ 0 (λ z. l.before.if1.false (p.ensures ∙ z)),
-      t.if2.true,
-      ← l.level-sum.ensures,
+      ne_eqb _ 0 (λ z. l.before.if-pixels-eq0.false (p.ensures ∙ z)),
+      t.if-leaps.true,
+      ← l.level_sum-coords.ensures,
       ← p.ensures,
     )
     c.leap.ensures
 
-rounded-mean-requires : tie.Need-rounded-mean-requires
+rounded-mean-requires : tie.Need-rounded_mean-requires
 rounded-mean-requires c κs = let m = asked c.before in (m.0, m.1, omega (arith, m.2))
 
-returns-3 : tie.Need-returns-3
+returns-3 : tie.Need-returns
 returns-3 c =
     let t = c.before in
     let l = t.before in
-    let p = l.before.before.pixels-of in
+    let p = l.before.before.pixels_of-pixels in
     rw (
-      ne_eqb _ 0 (λ z. l.before.if1.false (p.ensures ∙ z)),
-      t.if2.false,
-      ← l.level-sum.ensures,
+      ne_eqb _ 0 (λ z. l.before.if-pixels-eq0.false (p.ensures ∙ z)),
+      t.if-leaps.false,
+      ← l.level_sum-coords.ensures,
       ← p.ensures,
     )
-    c.rounded-mean.ensures.0
+    c.rounded_mean.ensures.0
 
-pub new-coordinate-spec : {M : Type 1} → statement M
-new-coordinate-spec =
+pub new_coordinate_spec : {M : Type 1} → statement M
+new_coordinate_spec =
     tie.close
     (tie.spec
     pixels-of-requires

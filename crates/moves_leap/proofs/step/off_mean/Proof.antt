@@ -5,17 +5,17 @@ use Rattle.moves_leap.proofs.Steps.{product-fits}
 use Rattle.moves_leap.proofs.step.off_mean.Statement.{statement}
 use Rattle.moves_leap.proofs.step.off_mean.Tie as tie
 
-mul-place : tie.Need-overflow-mul-place
+mul-place : tie.Need-overflow_mul-place
 mul-place c = omega (arith, product-fits c.args.pixels c.args.z c.requires (omega (arith, c.ranges)))
 
-sub-result : tie.Need-overflow-sub-result
+sub-result : tie.Need-overflow_sub-result
 sub-result c = search rules
 
-returns : tie.Need-returns
-returns c = omega (arith, c.if1.true)
+returns : tie.Need-returns-then-coords-place
+returns c = omega (arith, c.if-coords-place.true)
 
-returns-2 : tie.Need-returns-2
-returns-2 c = omega (arith, c.if1.false)
+returns-2 : tie.Need-returns
+returns-2 c = omega (arith, c.if-coords-place.false)
 
-pub off-mean-spec : {M : Type 1} → statement M
-off-mean-spec = tie.close (tie.spec mul-place sub-result returns returns-2)
+pub off_mean_spec : {M : Type 1} → statement M
+off_mean_spec = tie.close (tie.spec mul-place sub-result returns returns-2)

@@ -7,41 +7,41 @@ use Rattle.moves_leap.proofs.Steps.{product-fits, past-at-most, past-divided}
 use Rattle.moves_leap.proofs.step.past_mean.Statement.{statement}
 use Rattle.moves_leap.proofs.step.past_mean.Tie as tie
 
-mul-up : tie.Need-overflow-mul-up
+mul-up : tie.Need-overflow_mul-up
 mul-up c = search rules
 
-mul-down : tie.Need-overflow-mul-down
+mul-down : tie.Need-overflow_mul-down
 mul-down c = omega (arith, product-fits c.args.pixels c.args.z c.requires.1 (omega (arith, c.ranges)))
 
-mul-down-2 : tie.Need-overflow-mul-down-2
+mul-down-2 : tie.Need-overflow_mul-down-2
 mul-down-2 c = omega (arith, product-fits c.args.pixels c.args.z c.requires.1 (omega (arith, c.ranges)))
 
-returns : tie.Need-returns
+returns : tie.Need-returns-then-up-down
 returns c =
     let s = c.before in
-    sym (past-none s.args.pixels s.args.coords s.args.z s.requires.0 (omega (arith, c.if1.true)))
+    sym (past-none s.args.pixels s.args.coords s.args.z s.requires.0 (omega (arith, c.if-up-down.true)))
 
-mul-result : tie.Need-overflow-mul-result
+mul-result : tie.Need-overflow_mul-result
 mul-result c = search rules
 
-mul-result-2 : tie.Need-overflow-mul-result-2
+mul-result-2 : tie.Need-overflow_mul-result-2
 mul-result-2 c = search rules
 
-add-result : tie.Need-overflow-add-result
+add-result : tie.Need-overflow_add-result
 add-result c = search rules
 
-mul-result-3 : tie.Need-overflow-mul-result-3
+mul-result-3 : tie.Need-overflow_mul-result-3
 mul-result-3 c = search rules
 
-div-result : tie.Need-nonzero-div-result
+div-result : tie.Need-nonzero_div-result
 div-result c = search rules
 
-returns-2 : tie.Need-returns-2
+returns-2 : tie.Need-returns
 returns-2 c =
     let s = c.before in
     past-divided s.args.pixels s.args.coords s.args.z
 
-cast-result : tie.Need-overflow-cast-result
+cast-result : tie.Need-overflow_cast-result
 cast-result c =
     let s = c.before in
     omega (
@@ -50,8 +50,8 @@ cast-result c =
       past-at-most s.args.pixels s.args.coords s.args.z s.requires.0 s.requires.2,
     )
 
-pub past-mean-spec : {M : Type 1} → statement M
-past-mean-spec =
+pub past_mean_spec : {M : Type 1} → statement M
+past_mean_spec =
     tie.close
     (tie.spec
     mul-up

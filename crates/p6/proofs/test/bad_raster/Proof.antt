@@ -8,7 +8,7 @@ use Rattle.p6.proofs.test.bad_raster.Tie as tie
 area-requires : tie.Need-area-requires
 area-requires c κs = search rules
 
-mul-result : tie.Need-overflow-mul-result
+mul-result : tie.Need-overflow_mul-result
 mul-result c =
     let p = c.before.requires in
     omega (arith, c.area.ensures, mul-le-mul p.0 p.1)
@@ -16,5 +16,5 @@ mul-result c =
 returns : tie.Need-returns
 returns c = rw c.area.ensures
 
-pub bad-raster-spec : {M : Type 1} → statement M
-bad-raster-spec = tie.close (tie.spec area-requires mul-result returns)
+pub bad_raster_spec : {M : Type 1} → statement M
+bad_raster_spec = tie.close (tie.spec area-requires mul-result returns)

@@ -8,53 +8,53 @@ use Rattle.p6_gap.proofs.comment.Turns.{Passed, passed_start, passed-step, passe
 use Rattle.p6_gap.proofs.comment.comment_end.Statement.{statement}
 use Rattle.p6_gap.proofs.comment.comment_end.Tie as tie
 
-abbrev invariant-loop : tie.invariant-loop
+abbrev invariant-loop : tie.invariant-loop-i
 invariant-loop input at i₀ i = Passed input at i
 
-abbrev decreases-loop : tie.decreases-loop
+abbrev decreases-loop : tie.decreases-loop-i
 decreases-loop input at i₀ i = length input - i
 
 -- the turn of the loop
-abbrev turn : tie.After-ends-comment invariant-loop decreases-loop → tie.At-loop invariant-loop decreases-loop
+abbrev turn : tie.After-ends_comment invariant-loop decreases-loop → tie.At-loop-i invariant-loop decreases-loop
 turn c = c.before.before.before
 
-add-i : tie.Need-overflow-add-i invariant-loop decreases-loop
+add-i : tie.Need-overflow_add-i invariant-loop decreases-loop
 add-i c = omega (arith, c.before.requires, c.before.well-formed)
 
-loop-holds : tie.Need-loop-init invariant-loop decreases-loop
+loop-holds : tie.Need-loop-i-init invariant-loop decreases-loop
 loop-holds c = passed_start c.before.args.input.now c.before.args.at c.before.requires
 
-shared-slice-read-ends-comment : tie.Need-shared-slice-read-ends-comment invariant-loop decreases-loop
+shared-slice-read-ends-comment : tie.Need-bounds-input-i invariant-loop decreases-loop
 shared-slice-read-ends-comment c = omega arith
 
-ends-comment-requires : tie.Need-ends-comment-requires invariant-loop decreases-loop
+ends-comment-requires : tie.Need-ends_comment-requires invariant-loop decreases-loop
 ends-comment-requires c κs = search rules
 
-add-result : tie.Need-overflow-add-result invariant-loop decreases-loop
+add-result : tie.Need-overflow_add-result invariant-loop decreases-loop
 add-result c = search rules
 
-returns : tie.Need-returns invariant-loop decreases-loop
+returns : tie.Need-returns-then-ends_comment invariant-loop decreases-loop
 returns c =
     let w = c.before in
-    passed-done (turn w).loop.invariant (sym w.ends-comment.ensures ∙ c.if1.true)
+    passed-done (turn w).loop-i.invariant (sym w.ends_comment.ensures ∙ c.if-ends_comment.true)
 
-add-i-2 : tie.Need-overflow-add-i-2 invariant-loop decreases-loop
+add-i-2 : tie.Need-overflow_add-i-in-loop-i invariant-loop decreases-loop
 add-i-2 c = search rules
 
-loop-less : tie.Need-loop-smaller invariant-loop decreases-loop
+loop-less : tie.Need-loop-i-smaller invariant-loop decreases-loop
 loop-less c = omega arith
 
-loop-again : tie.Need-loop-preserved invariant-loop decreases-loop
+loop-again : tie.Need-loop-i-preserved invariant-loop decreases-loop
 loop-again c =
     let w = c.before in
-    passed-step (turn w).loop.invariant w.before.before.loop-test.true
-    (sym w.ends-comment.ensures ∙ c.if1.false)
+    passed-step (turn w).loop-i.invariant w.before.before.loop-i-test.true
+    (sym w.ends_comment.ensures ∙ c.if-ends_comment.false)
 
-returns-2 : tie.Need-returns-2 invariant-loop decreases-loop
-returns-2 c = passed-all c.before.loop.invariant c.loop-test.false
+returns-2 : tie.Need-returns invariant-loop decreases-loop
+returns-2 c = passed-all c.before.loop-i.invariant c.loop-i-test.false
 
-pub comment-end-spec : {M : Type 1} → statement M
-comment-end-spec =
+pub comment_end_spec : {M : Type 1} → statement M
+comment_end_spec =
     tie.close
     (tie.spec
     invariant-loop

@@ -4,23 +4,23 @@ use Rattle.p6_gap.specs.Bytes.{is_white}
 use Rattle.p6_gap.proofs.white.is_white.Statement.{statement}
 use Rattle.p6_gap.proofs.white.is_white.Tie as tie
 
-returns : tie.Need-returns
+returns : tie.Need-returns-then-byte-eq32
 unfolding is_white
-returns c = simp (eq-eqb _ _ c.if1.true)
+returns c = simp (eq-eqb _ _ c.if-byte-eq32.true)
 
-returns-2 : tie.Need-returns-2
+returns-2 : tie.Need-returns-then-byte-eq9
 unfolding is_white
-returns-2 c = simp (ne_eqb _ _ c.before.if1.false, eq-eqb _ _ c.if2.true)
+returns-2 c = simp (ne_eqb _ _ c.before.if-byte-eq32.false, eq-eqb _ _ c.if-byte-eq9.true)
 
-returns-3 : tie.Need-returns-3
+returns-3 : tie.Need-returns-then-byte-eq13
 unfolding is_white
 returns-3 c =
-    simp (ne_eqb _ _ c.before.before.if1.false, ne_eqb _ _ c.before.if2.false, eq-eqb _ _ c.if3.true)
+    simp (ne_eqb _ _ c.before.before.if-byte-eq32.false, ne_eqb _ _ c.before.if-byte-eq9.false, eq-eqb _ _ c.if-byte-eq13.true)
 
-returns-4 : tie.Need-returns-4
+returns-4 : tie.Need-returns
 unfolding is_white
 returns-4 c =
-    rw (ne_eqb _ _ c.before.before.if1.false, ne_eqb _ _ c.before.if2.false, ne_eqb _ _ c.if3.false)
+    rw (ne_eqb _ _ c.before.before.if-byte-eq32.false, ne_eqb _ _ c.before.if-byte-eq9.false, ne_eqb _ _ c.if-byte-eq13.false)
 
-pub is-white-spec : {M : Type 1} → statement M
-is-white-spec = tie.close (tie.spec returns returns-2 returns-3 returns-4)
+pub is_white_spec : {M : Type 1} → statement M
+is_white_spec = tie.close (tie.spec returns returns-2 returns-3 returns-4)

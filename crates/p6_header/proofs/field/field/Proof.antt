@@ -6,26 +6,26 @@ use Rattle.p6_header.proofs.field.field.Statement.{statement}
 use Rattle.p6_header.proofs.field.field.Tie as tie
 
 -- where the function begins
-abbrev st : tie.After-gap-end → tie.Start
+abbrev st : tie.After-gap_end-start → tie.Start
 st c = c.before.before
 
-gap-end-requires : tie.Need-gap-end-requires
+gap-end-requires : tie.Need-gap_end-start-requires
 gap-end-requires c κs = search rules
 
-returns : tie.Need-returns
+returns : tie.Need-returns-then-start-at
 returns c =
     let w = c.before in
     let a = (st w).args in
-    field-fails a.input.now a.at _ w.gap-end.ensures c.if1.true
+    field-fails a.input.now a.at _ w.gap_end-start.ensures c.if-start-at.true
 
 number-requires : tie.Need-number-requires
 number-requires c κs = search rules
 
-returns-2 : tie.Need-returns-2
+returns-2 : tie.Need-returns
 returns-2 c =
     let w = c.before.before in
     let a = (st w).args in
-    c.number.ensures ∙ field-reads a.input.now a.at _ w.gap-end.ensures c.before.if1.false
+    c.number.ensures ∙ field-reads a.input.now a.at _ w.gap_end-start.ensures c.before.if-start-at.false
 
-pub field-spec : {M : Type 1} → statement M
-field-spec = tie.close (tie.spec gap-end-requires returns number-requires returns-2)
+pub field_spec : {M : Type 1} → statement M
+field_spec = tie.close (tie.spec gap-end-requires returns number-requires returns-2)

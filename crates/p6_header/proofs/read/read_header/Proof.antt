@@ -27,205 +27,205 @@ use Rattle.p6_header.proofs.read.read_header.Statement.{statement}
 use Rattle.p6_header.proofs.read.read_header.Tie as tie
 
 -- where the function begins, at the letter
-abbrev st : tie.After-byte-at → tie.Start
+abbrev st : tie.After-byte_at → tie.Start
 st c = c.before.before
 
 -- where the letter is read, at the figure
-abbrev letter_at : tie.After-byte-at2 → tie.After-byte-at
+abbrev letter_at : tie.After-byte_at-2 → tie.After-byte_at
 letter_at c = c.before.before
 
 -- where the figure is read, at the width
-abbrev figure-at : tie.After-field → tie.After-byte-at2
+abbrev figure-at : tie.After-field-first → tie.After-byte_at-2
 figure-at c = c.before.before
 
 -- the input, at the width
-abbrev input : tie.After-field → List ℕ
+abbrev input : tie.After-field-first → List ℕ
 input a = (st (letter_at (figure-at a))).args.input.now
 
 -- where the width was asked for, at the height
-abbrev width-at : tie.After-field2 → tie.After-field
+abbrev width-at : tie.After-field-second → tie.After-field-first
 width-at b = b.before.before.before.before
 
 -- the width
-abbrev width : tie.After-field2 → ℕ
-width b = b.before.before.first.given.0.0
+abbrev width : tie.After-field-second → ℕ
+width b = b.before.before.first-1.given.0.0
 
 -- where the width ended
-abbrev width-end : tie.After-field2 → ℕ
-width-end b = b.before.before.first.given.0.1.0
+abbrev width-end : tie.After-field-second → ℕ
+width-end b = b.before.before.first-1.given.0.1.0
 
 -- where the height was asked for, at the depth
-abbrev height-at : tie.After-field3 → tie.After-field2
+abbrev height-at : tie.After-field-third → tie.After-field-second
 height-at d = d.before.before.before.before
 
 -- the height
-abbrev height : tie.After-field3 → ℕ
-height d = d.before.before.second.given.0.0
+abbrev height : tie.After-field-third → ℕ
+height d = d.before.before.second-1.given.0.0
 
 -- where the height ended
-abbrev height-end : tie.After-field3 → ℕ
-height-end d = d.before.before.second.given.0.1.0
+abbrev height-end : tie.After-field-third → ℕ
+height-end d = d.before.before.second-1.given.0.1.0
 
 -- with both letters there, the header goes on with the width
-at_width : (a : tie.After-field) → header_of (input a) ≡ and_then (field_at (input a) 2) (after_width (input a))
+at_width : (a : tie.After-field-first) → header_of (input a) ≡ and_then (field_at (input a) 2) (after_width (input a))
 at_width a =
     let f = figure-at a in
-    letters-pass (input a) _ _ (letter_at f).byte-at.ensures f.before.if1.left f.byte-at2.ensures
-    a.before.if2.false
+    letters-pass (input a) _ _ (letter_at f).byte_at.ensures f.before.if-byte_at-ne80.left f.byte_at-2.ensures
+    a.before.if-byte_at-ne54.false
 
 -- with the width read, it goes on with the height
-at-height : (b : tie.After-field2) → header_of (input (width-at b))
+at-height : (b : tie.After-field-second) → header_of (input (width-at b))
     ≡ after_width (input (width-at b)) (width b) (width-end b)
 at-height b =
     let a = width-at b in
-    field-passes (input a) 2 (width b) (width-end b) (after_width (input a)) _ (at_width a) a.field.ensures
-    b.before.before.first.given.1
+    field-passes (input a) 2 (width b) (width-end b) (after_width (input a)) _ (at_width a) a.field-first.ensures
+    b.before.before.first-1.given.1
 
 -- with the height read, it goes on with the depth
-at-depth : (d : tie.After-field3) → header_of (input (width-at (height-at d)))
+at-depth : (d : tie.After-field-third) → header_of (input (width-at (height-at d)))
     ≡ after_height (input (width-at (height-at d))) (width (height-at d)) (height d) (height-end d)
 at-depth d =
     let b = height-at d in
     let s = input (width-at b) in
     field-passes s (width-end b) (height d) (height-end d) (after_height s (width b)) _ (at-height b)
-    b.field2.ensures d.before.before.second.given.1
+    b.field-second.ensures d.before.before.second-1.given.1
 
 -- where the depth was asked for, at the last byte
-abbrev depth-at : tie.After-is-white → tie.After-field3
+abbrev depth-at : tie.After-is_white → tie.After-field-third
 depth-at c = c.before.before.before.before.before
 
 -- the depth
-abbrev depth : tie.After-is-white → ℕ
-depth c = c.before.before.before.third.given.0.0
+abbrev depth : tie.After-is_white → ℕ
+depth c = c.before.before.before.third-1.given.0.0
 
 -- where the depth ended
-abbrev depth-end : tie.After-is-white → ℕ
-depth-end c = c.before.before.before.third.given.0.1.0
+abbrev depth-end : tie.After-is_white → ℕ
+depth-end c = c.before.before.before.third-1.given.0.1.0
 
 -- the input, at the last byte
-abbrev whole : tie.After-is-white → List ℕ
+abbrev whole : tie.After-is_white → List ℕ
 whole c = input (width-at (height-at (depth-at c)))
 
 -- with the depth read, it goes on with the last byte
-at_last : (c : tie.After-is-white) → header_of (whole c)
+at_last : (c : tie.After-is_white) → header_of (whole c)
     ≡ last_white (whole c) (width (height-at (depth-at c))) (height (depth-at c)) (depth c) (depth-end c)
 at_last c =
     let d = depth-at c in
     let w = width (height-at d) in
     field-passes (whole c) (height-end d) (depth c) (depth-end c) (last_white (whole c) w (height d)) _ (at-depth d)
-    d.field3.ensures c.before.before.before.third.given.1
+    d.field-third.ensures c.before.before.before.third-1.given.1
 
 -- the last byte is white where the header is read
-white : (c : tie.Else3) → is_white (byte_at (whole c.before) (depth-end c.before)) ≡ true
+white : (c : tie.Else-not-is_white) → is_white (byte_at (whole c.before) (depth-end c.before)) ≡ true
 white c =
     let l = c.before in
-    white-is (whole l) (depth-end l) _ _ true l.before.byte-at3.ensures l.is_white.ensures
-    (not-false _ c.if3.false)
+    white-is (whole l) (depth-end l) _ _ true l.before.byte_at-3.ensures l.is_white.ensures
+    (not-false _ c.if-not-is_white.false)
 
-byte-at-requires : tie.Need-byte-at-requires
+byte-at-requires : tie.Need-byte_at-requires
 byte-at-requires c κs = search rules
 
-returns : tie.Need-returns
+returns : tie.Need-returns-then-byte_at-ne80
 returns c =
     let l = c.before in
-    letter-fails (st l).args.input.now _ l.byte-at.ensures c.if1.true
+    letter-fails (st l).args.input.now _ l.byte_at.ensures c.if-byte_at-ne80.true
 
-byte-at-requires-2 : tie.Need-byte-at-requires-2
+byte-at-requires-2 : tie.Need-byte_at-requires-2
 byte-at-requires-2 c κs = search rules
 
-returns-2 : tie.Need-returns-2
+returns-2 : tie.Need-returns-then-byte_at-ne54
 returns-2 c =
     let f = c.before in
     let l = letter_at f in
-    figure-fails (st l).args.input.now _ _ l.byte-at.ensures f.before.if1.false f.byte-at2.ensures
-    c.if2.true
+    figure-fails (st l).args.input.now _ _ l.byte_at.ensures f.before.if-byte_at-ne80.false f.byte_at-2.ensures
+    c.if-byte_at-ne54.true
 
-field-requires : tie.Need-field-requires
+field-requires : tie.Need-field-first-requires
 field-requires c κs = search rules
 
-enum-known-first : tie.Need-enum-known-first
+enum-known-first : tie.Need-enum_known-first
 enum-known-first c = search rules
 
-enum_told : tie.Need-enum-told
+enum_told : tie.Need-enum_told-1
 enum_told c = search rules
 
-place-in-requires : tie.Need-place-in-requires
+place-in-requires : tie.Need-place_in-requires
 place-in-requires c κs = search rules
 
-returns-3 : tie.Need-returns-3
+returns-3 : tie.Need-returns-in_default
 returns-3 c =
     let a = c.before.before.before in
     ap Bad c.IsPlace-in.ensures
-    ∙ field-ends (input a) 2 _ (after_width (input a)) _ (at_width a) a.field.ensures
-    c.before.enum_told.given.1
+    ∙ field-ends (input a) 2 _ (after_width (input a)) _ (at_width a) a.field-first.ensures
+    c.before.enum_told-1.given.1
 
-field-requires-2 : tie.Need-field-requires-2
+field-requires-2 : tie.Need-field-second-requires
 field-requires-2 c κs = search rules
 
-enum-known-second : tie.Need-enum-known-second
+enum-known-second : tie.Need-enum_known-second
 enum-known-second c = search rules
 
-enum-told-2 : tie.Need-enum-told-2
+enum-told-2 : tie.Need-enum_told-in_default-second
 enum-told-2 c = search rules
 
-place-in-requires-2 : tie.Need-place-in-requires-2
+place-in-requires-2 : tie.Need-place_in-requires-in_default-second
 place-in-requires-2 c κs = search rules
 
-returns-4 : tie.Need-returns-4
+returns-4 : tie.Need-returns-in_default-second
 returns-4 c =
     let b = c.before.before.before in
     let s = input (width-at b) in
-    ap Bad c.place-in2.ensures
-    ∙ field-ends s (width-end b) _ (after_height s (width b)) _ (at-height b) b.field2.ensures
-    c.before.enum-told2.given.1
+    ap Bad c.place_in-in_default-second.ensures
+    ∙ field-ends s (width-end b) _ (after_height s (width b)) _ (at-height b) b.field-second.ensures
+    c.before.enum_told-in_default-second-1.given.1
 
-field-requires-3 : tie.Need-field-requires-3
+field-requires-3 : tie.Need-field-third-requires
 field-requires-3 c κs = search rules
 
-enum-known-third : tie.Need-enum-known-third
+enum-known-third : tie.Need-enum_known-third
 enum-known-third c = search rules
 
-enum-told-3 : tie.Need-enum-told-3
+enum-told-3 : tie.Need-enum_told-in_default-third
 enum-told-3 c = search rules
 
-place-in-requires-3 : tie.Need-place-in-requires-3
+place-in-requires-3 : tie.Need-place_in-requires-in_default-third
 place-in-requires-3 c κs = search rules
 
-returns-5 : tie.Need-returns-5
+returns-5 : tie.Need-returns-in_default-third
 returns-5 c =
     let d = c.before.before.before in
     let b = height-at d in
     let s = input (width-at b) in
-    ap Bad c.place-in3.ensures
-    ∙ field-ends s (height-end d) _ (last_white s (width b) (height d)) _ (at-depth d) d.field3.ensures
-    c.before.enum-told3.given.1
+    ap Bad c.place_in-in_default-third.ensures
+    ∙ field-ends s (height-end d) _ (last_white s (width b) (height d)) _ (at-depth d) d.field-third.ensures
+    c.before.enum_told-in_default-third-1.given.1
 
-byte-at-requires-3 : tie.Need-byte-at-requires-3
+byte-at-requires-3 : tie.Need-byte_at-requires-3
 byte-at-requires-3 c κs = search rules
 
-is-white-requires : tie.Need-is-white-requires
+is-white-requires : tie.Need-is_white-requires
 is-white-requires c κs = search rules
 
-returns-6 : tie.Need-returns-6
+returns-6 : tie.Need-returns-then-not-is_white
 returns-6 c =
     let l = c.before in
     last-fails (whole l) _ _ (depth l) (depth-end l) (at_last l)
-    (white-is (whole l) (depth-end l) _ _ _ l.before.byte-at3.ensures l.is_white.ensures
-    (not-true _ c.if3.true))
+    (white-is (whole l) (depth-end l) _ _ _ l.before.byte_at-3.ensures l.is_white.ensures
+    (not-true _ c.if-not-is_white.true))
 
-add-t17 : tie.Need-overflow-add-t17
+add-t17 : tie.Need-overflow_add-result
 add-t17 c =
     let l = c.before in
     let a = width-at (height-at (depth-at l)) in
     omega (arith, (st (letter_at (figure-at a))).well-formed, white-inside (whole l) (depth-end l) (white c))
 
-returns-7 : tie.Need-returns-7
+returns-7 : tie.Need-returns
 returns-7 c =
     let l = c.before in
     last-passes (whole l) _ _ (depth l) (depth-end l) (at_last l) (white c)
 
-pub read-header-spec : {M : Type 1} → statement M
-read-header-spec =
+pub read_header_spec : {M : Type 1} → statement M
+read_header_spec =
     tie.close
     (tie.spec
     byte-at-requires

@@ -9,60 +9,60 @@ use Rattle.palette.specs.Palettes.{level_of}
 use Rattle.palette.proofs.call.fill_palette.Statement.{statement}
 use Rattle.palette.proofs.call.fill_palette.Tie as tie
 
-abbrev invariant-loop : tie.invariant-loop
+abbrev invariant-loop : tie.invariant-loop-i
 invariant-loop coordinates palette₀ n i₀ palette i =
     (i ≤ n) × (palette ≡ fill i (λ j. level_of (get_or coordinates j 0)) palette₀)
 
-abbrev decreases-loop : tie.decreases-loop
+abbrev decreases-loop : tie.decreases-loop-i
 decreases-loop coordinates palette₀ n i₀ palette i = n - i
 
 -- where the function begins
-abbrev st : tie.At-loop invariant-loop decreases-loop → tie.Start invariant-loop decreases-loop
+abbrev st : tie.At-loop-i invariant-loop decreases-loop → tie.Start invariant-loop decreases-loop
 st c = c.before.before.before
 
-loop-holds : tie.Need-loop-init invariant-loop decreases-loop
+loop-holds : tie.Need-loop-i-init invariant-loop decreases-loop
 unfolding fill
 loop-holds c = (omega arith, refl)
 
-mul-level-of : tie.Need-overflow-mul-level-of invariant-loop decreases-loop
+mul-level-of : tie.Need-offset_bounds-coordinates-i invariant-loop decreases-loop
 mul-level-of c = omega arith
 
-shared-slice-read-level-of : tie.Need-shared-slice-read-level-of invariant-loop decreases-loop
+shared-slice-read-level-of : tie.Need-bounds-coordinates-i invariant-loop decreases-loop
 shared-slice-read-level-of c = omega arith
 
-level-of-requires : tie.Need-level-of-requires invariant-loop decreases-loop
-level-of-requires c κs = (st c.before.before).pre.0 c.before.before.loop.i
+level-of-requires : tie.Need-level_of-requires invariant-loop decreases-loop
+level-of-requires c κs = (st c.before.before).pre.0 c.before.before.loop-i.i
 
-slice-write-palette : tie.Need-slice-write-palette invariant-loop decreases-loop
+slice-write-palette : tie.Need-bounds-palette-i invariant-loop decreases-loop
 slice-write-palette c =
-    rw (c.before.before.before.loop.invariant.1, fill-length) (omega (arith, (st c.before.before.before).pre.1))
+    rw (c.before.before.before.loop-i.invariant.1, fill-length) (omega (arith, (st c.before.before.before).pre.1))
 
-add-i : tie.Need-overflow-add-i invariant-loop decreases-loop
+add-i : tie.Need-overflow_add-i invariant-loop decreases-loop
 add-i c = omega arith
 
-loop-less : tie.Need-loop-smaller invariant-loop decreases-loop
+loop-less : tie.Need-loop-i-smaller invariant-loop decreases-loop
 loop-less c = omega arith
 
-loop-again : tie.Need-loop-preserved invariant-loop decreases-loop
+loop-again : tie.Need-loop-i-preserved invariant-loop decreases-loop
 loop-again c =
     let l = c.before.before.before in
     let a = (st l).args in
     let f : ℕ → ℕ = λ j. level_of (get_or a.coordinates.now j 0) in (
       omega arith,
-      rw (l.loop.invariant.1, c.level-of.ensures)
-          (fill_more l.loop.i f a.palette.now (omega (arith, (st l).requires.1))),
+      rw (l.loop-i.invariant.1, c.level_of.ensures)
+          (fill_more l.loop-i.i f a.palette.now (omega (arith, (st l).requires.1))),
     )
 
-same_length : tie.Need-same-length invariant-loop decreases-loop
-same_length c = ap length c.before.loop.invariant.1 ∙ fill-length _ _ _
+same_length : tie.Need-shape_of-palette invariant-loop decreases-loop
+same_length c = ap length c.before.loop-i.invariant.1 ∙ fill-length _ _ _
 
 returns : tie.Need-returns invariant-loop decreases-loop
 returns c =
-    let e : c.before.loop.i ≡ length (st c.before).args.coordinates.now = omega arith in
-    rw e at c.before.loop.invariant.1
+    let e : c.before.loop-i.i ≡ length (st c.before).args.coordinates.now = omega arith in
+    rw e at c.before.loop-i.invariant.1
 
-pub fill-palette-spec : {M : Type 1} → statement M
-fill-palette-spec =
+pub fill_palette_spec : {M : Type 1} → statement M
+fill_palette_spec =
     tie.close
     (tie.spec
     invariant-loop

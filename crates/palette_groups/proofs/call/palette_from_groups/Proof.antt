@@ -12,7 +12,7 @@ use Rattle.shades.specs.{bad_coordinates, bad_centre}
 use Rattle.shades.proofs.Checks.{coordinates-at-most}
 use Rattle.method.specs.{State, state_of}
 use Rattle.lloyd_tests.specs.{no_free, bad_member}
-use Rattle.palette.proofs.Ways.{short-palette}
+use Rattle.palette-1.proofs.Ways.{short-palette}
 use Rattle.palette_groups.proofs.Ways.{
   RoomsGood,
   groups-meets-refused,
@@ -24,50 +24,50 @@ use Rattle.palette_groups.proofs.call.palette_from_groups.Statement.{statement}
 use Rattle.palette_groups.proofs.call.palette_from_groups.Tie as tie
 
 -- what the call was given
-abbrev st : tie.After-bad-table → tie.Start
+abbrev st : tie.After-bad_table → tie.Start
 st c = c.before.before.before.before.before.before
 
-abbrev f : tie.After-bad-table → ℕ
+abbrev f : tie.After-bad_table → ℕ
 f c = (st c).args.fixed
 
-abbrev rec' : tie.After-bad-table → Record
+abbrev rec' : tie.After-bad_table → Record
 rec' c = (st c).args.rec
 
-abbrev ks : tie.After-bad-table → List ℕ
+abbrev ks : tie.After-bad_table → List ℕ
 ks c = (st c).args.keys.now
 
-abbrev ws : tie.After-bad-table → List ℕ
+abbrev ws : tie.After-bad_table → List ℕ
 ws c = (st c).args.weights.now
 
-abbrev a : tie.After-bad-table → State
+abbrev a : tie.After-bad_table → State
 a c = state_of (st c).args.coordinates.now (st c).args.members.now
 
-abbrev d : tie.After-bad-table → List ℕ
-d c = (st c).args.palette.now
+abbrev d : tie.After-bad_table → List ℕ
+d c = (st c).args.palette-1.now
 
 -- where the table is tested, from behind the test of the coordinates and that of the centres
-abbrev counted : tie.Else2 → tie.After-bad-table
+abbrev counted : tie.Else-bad_coordinates → tie.After-bad_table
 counted c = c.before.before.before
 
-abbrev tested : tie.Else4 → tie.After-bad-table
+abbrev tested : tie.Else-bad_centre → tie.After-bad_table
 tested c = counted c.before.before.before
 
 -- past each test: it fails
-table-ok : (c : tie.Else1) → bad_table (rec' c.before) (ks c.before) (ws c.before) ≡ false
-table-ok c = sym c.before.bad-table.ensures ∙ c.if1.false
+table-ok : (c : tie.Else-bad_table) → bad_table (rec' c.before) (ks c.before) (ws c.before) ≡ false
+table-ok c = sym c.before.bad_table.ensures ∙ c.if-bad_table.false
 
-count-ok : (c : tie.Else2) → bad_coordinates (length (a (counted c)).coordinates) ≡ false
-count-ok c = sym c.before.bad-coordinates.ensures ∙ c.if2.false
+count-ok : (c : tie.Else-bad_coordinates) → bad_coordinates (length (a (counted c)).coordinates) ≡ false
+count-ok c = sym c.before.bad_coordinates.ensures ∙ c.if-bad_coordinates.false
 
-free-ok : (c : tie.Else3)
+free-ok : (c : tie.Else-coordinates-fixed)
     → (let t = counted c.before in no_free (f t) (length (a t).coordinates / 3) ≡ false)
-free-ok c = lt-leb _ _ c.if3.false
+free-ok c = lt-leb _ _ c.if-coordinates-fixed.false
 
-centre-ok : (c : tie.Else4) → bad_centre (a (tested c)).coordinates ≡ false
-centre-ok c = sym c.before.bad-centre.ensures ∙ c.if4.false
+centre-ok : (c : tie.Else-bad_centre) → bad_centre (a (tested c)).coordinates ≡ false
+centre-ok c = sym c.before.bad_centre.ensures ∙ c.if-bad_centre.false
 
 -- past the tests of table, shades and rooms
-rooms-ok : (c : tie.Else6)
+rooms-ok : (c : tie.Else-palette-coordinates)
     → (let t = tested c.before.before in RoomsGood (f t) (rec' t) (ks t) (ws t) (a t) (d t))
 rooms-ok c =
     let e = c.before.before in
@@ -79,55 +79,55 @@ rooms-ok c =
       count = count;
       free = free-ok n;
       centre = centre-ok e;
-      members_room = le-ltb _ _ c.before.if5.false;
-      palette_room = short-palette (a t).coordinates (d t) count ∙ le-ltb _ _ c.if6.false;
+      members_room = le-ltb _ _ c.before.if-members-used.false;
+      palette_room = short-palette (a t).coordinates (d t) count ∙ le-ltb _ _ c.if-palette-coordinates.false;
     }
 
 -- the members too
-members-ok : (c : tie.Else7)
+members-ok : (c : tie.Else-bad_member)
     → (let t = tested c.before.before.before.before in
     bad_member (rec' t).used (length (a t).coordinates / 3) (a t).members ≡ false)
-members-ok c = sym c.before.bad-member.ensures ∙ c.if7.false
+members-ok c = sym c.before.bad_member.ensures ∙ c.if-bad_member.false
 
-bad-table-requires : tie.Need-bad-table-requires
+bad-table-requires : tie.Need-bad_table-requires
 bad-table-requires c κs = search rules
 
-returns : tie.Need-returns
+returns : tie.Need-returns-then-bad_table
 returns c =
     let t = c.before in
     groups-meets-refused (f t) (rec' t) (ks t) (ws t) (a t) (d t) BAD-TABLE
-    (simp (sym t.bad-table.ensures ∙ c.if1.true))
+    (simp (sym t.bad_table.ensures ∙ c.if-bad_table.true))
 
-bad-coordinates-requires : tie.Need-bad-coordinates-requires
+bad-coordinates-requires : tie.Need-bad_coordinates-requires
 bad-coordinates-requires c κs = search rules
 
-returns-2 : tie.Need-returns-2
+returns-2 : tie.Need-returns-then-bad_coordinates
 returns-2 c =
     let b = c.before in
     let t = b.before.before in
     groups-meets-refused (f t) (rec' t) (ks t) (ws t) (a t) (d t) BAD-COUNT
-    (simp (table-ok b.before, sym b.bad-coordinates.ensures ∙ c.if2.true))
+    (simp (table-ok b.before, sym b.bad_coordinates.ensures ∙ c.if-bad_coordinates.true))
 
-returns-3 : tie.Need-returns-3
+returns-3 : tie.Need-returns-then-coordinates-fixed
 returns-3 c =
     let e = c.before in
     let t = counted e in
     groups-meets-refused (f t) (rec' t) (ks t) (ws t) (a t) (d t) BAD-COUNT
-    (simp (table-ok e.before.before, count-ok e, le-leb _ _ c.if3.true))
+    (simp (table-ok e.before.before, count-ok e, le-leb _ _ c.if-coordinates-fixed.true))
 
-bad-centre-requires : tie.Need-bad-centre-requires
+bad-centre-requires : tie.Need-bad_centre-requires
 bad-centre-requires c κs = coordinates-at-most _ (count-ok c.before)
 
-returns-4 : tie.Need-returns-4
+returns-4 : tie.Need-returns-then-bad_centre
 returns-4 c =
     let b = c.before in
     let n = b.before in
     let e = n.before in
     let t = counted e in
     groups-meets-refused (f t) (rec' t) (ks t) (ws t) (a t) (d t) BAD-CENTRE
-    (simp (table-ok e.before.before, count-ok e, free-ok n, sym b.bad-centre.ensures ∙ c.if4.true))
+    (simp (table-ok e.before.before, count-ok e, free-ok n, sym b.bad_centre.ensures ∙ c.if-bad_centre.true))
 
-returns-5 : tie.Need-returns-5
+returns-5 : tie.Need-returns-then-members-used
 returns-5 c =
     let e = c.before in
     let t = tested e in
@@ -138,10 +138,10 @@ returns-5 c =
       count-ok n.before,
       free-ok n,
       centre-ok e,
-      lt-ltb _ _ c.if5.true,
+      lt-ltb _ _ c.if-members-used.true,
     ))
 
-returns-6 : tie.Need-returns-6
+returns-6 : tie.Need-returns-then-palette-coordinates
 returns-6 c =
     let m = c.before in
     let e = m.before in
@@ -154,16 +154,16 @@ returns-6 c =
       count,
       free-ok n,
       centre-ok e,
-      le-ltb _ _ m.if5.false,
-      short-palette (a t).coordinates (d t) count ∙ lt-ltb _ _ c.if6.true,
+      le-ltb _ _ m.if-members-used.false,
+      short-palette (a t).coordinates (d t) count ∙ lt-ltb _ _ c.if-palette-coordinates.true,
     ))
 
-bad-member-requires : tie.Need-bad-member-requires
+bad-member-requires : tie.Need-bad_member-requires
 bad-member-requires c κs =
     let t = tested c.before.before in
     members-asked (f t) (rec' t) (ks t) (ws t) (a t) (d t) (rooms-ok c)
 
-returns-7 : tie.Need-returns-7
+returns-7 : tie.Need-returns-then-bad_member
 returns-7 c =
     let b = c.before in
     let e = b.before in
@@ -177,30 +177,30 @@ returns-7 c =
       g.centre,
       g.members_room,
       g.palette_room,
-      sym b.bad-member.ensures ∙ c.if7.true,
+      sym b.bad_member.ensures ∙ c.if-bad_member.true,
     ))
 
-fill-by-groups-requires : tie.Need-fill-by-groups-requires
+fill-by-groups-requires : tie.Need-fill_by_groups-requires
 fill-by-groups-requires c κs =
     let e = c.before in
     let g = e.before.before in
     let t = tested g.before.before in
     fill-asked (f t) (rec' t) (ks t) (ws t) (a t) (d t) (rooms-ok g) (members-ok e)
 
-same_length : tie.Need-same-length
+same_length : tie.Need-shape_of-palette
 same_length c = search rules
 
-returns-8 : tie.Need-returns-8
+returns-8 : tie.Need-returns
 returns-8 c =
     let l = c.before.before in
     let e = l.before.before in
     let g = e.before.before in
     let t = tested g.before.before in
     groups-meets-made (f t) (rec' t) (ks t) (ws t) (a t) (d t) (rooms-ok g) (members-ok e) _
-    l.fill-by-groups.ensures
+    l.fill_by_groups.ensures
 
-pub palette-from-groups-spec : {M : Type 1} → statement M
-palette-from-groups-spec =
+pub palette_from_groups_spec : {M : Type 1} → statement M
+palette_from_groups_spec =
     tie.close
     (tie.spec
     bad-table-requires

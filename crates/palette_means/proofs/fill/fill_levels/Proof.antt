@@ -9,57 +9,57 @@ use Rattle.palette_means.specs.Reading.{level_by_sums}
 use Rattle.palette_means.proofs.fill.fill_levels.Statement.{statement}
 use Rattle.palette_means.proofs.fill.fill_levels.Tie as tie
 
-abbrev invariant-loop : tie.invariant-loop
+abbrev invariant-loop : tie.invariant-loop-i
 invariant-loop sums coordinates fixed palette₀ n i₀ palette i =
     (i ≤ n) × (palette ≡ fill i (level_by_sums fixed sums coordinates) palette₀)
 
-abbrev decreases-loop : tie.decreases-loop
+abbrev decreases-loop : tie.decreases-loop-i
 decreases-loop sums coordinates fixed palette₀ n i₀ palette i = n - i
 
 -- where the function begins
-abbrev st : tie.At-loop invariant-loop decreases-loop → tie.Start invariant-loop decreases-loop
+abbrev st : tie.At-loop-i invariant-loop decreases-loop → tie.Start invariant-loop decreases-loop
 st c = c.before.before.before
 
-loop-holds : tie.Need-loop-init invariant-loop decreases-loop
+loop-holds : tie.Need-loop-i-init invariant-loop decreases-loop
 unfolding fill
 loop-holds c = (omega arith, refl)
 
-group-level-requires : tie.Need-group-level-requires invariant-loop decreases-loop
+group-level-requires : tie.Need-group_level-requires invariant-loop decreases-loop
 group-level-requires c κs =
     let p = (st c.before).pre in
     (p.0, p.1, omega (arith, p.2), omega arith)
 
-slice-write-palette : tie.Need-slice-write-palette invariant-loop decreases-loop
+slice-write-palette : tie.Need-bounds-palette-i invariant-loop decreases-loop
 slice-write-palette c =
     let l = c.before.before in
-    rw (l.loop.invariant.1, fill-length) (omega (arith, (st l).requires.3))
+    rw (l.loop-i.invariant.1, fill-length) (omega (arith, (st l).requires.3))
 
-add-i : tie.Need-overflow-add-i invariant-loop decreases-loop
+add-i : tie.Need-overflow_add-i invariant-loop decreases-loop
 add-i c = omega arith
 
-loop-less : tie.Need-loop-smaller invariant-loop decreases-loop
+loop-less : tie.Need-loop-i-smaller invariant-loop decreases-loop
 loop-less c = omega arith
 
-loop-again : tie.Need-loop-preserved invariant-loop decreases-loop
+loop-again : tie.Need-loop-i-preserved invariant-loop decreases-loop
 loop-again c =
     let l = c.before.before in
     let a = (st l).args in (
       omega arith,
-      rw (l.loop.invariant.1, c.group-level.ensures)
-          (fill_more l.loop.i (level_by_sums a.fixed a.sums.now a.coordinates.now) a.palette.now
+      rw (l.loop-i.invariant.1, c.group_level.ensures)
+          (fill_more l.loop-i.i (level_by_sums a.fixed a.sums.now a.coordinates.now) a.palette.now
           (omega (arith, (st l).requires.3))),
     )
 
-same_length : tie.Need-same-length invariant-loop decreases-loop
-same_length c = ap length c.before.loop.invariant.1 ∙ fill-length _ _ _
+same_length : tie.Need-shape_of-palette invariant-loop decreases-loop
+same_length c = ap length c.before.loop-i.invariant.1 ∙ fill-length _ _ _
 
 returns : tie.Need-returns invariant-loop decreases-loop
 returns c =
-    let e : c.before.loop.i ≡ length (st c.before).args.coordinates.now = omega arith in
-    rw e at c.before.loop.invariant.1
+    let e : c.before.loop-i.i ≡ length (st c.before).args.coordinates.now = omega arith in
+    rw e at c.before.loop-i.invariant.1
 
-pub fill-levels-spec : {M : Type 1} → statement M
-fill-levels-spec =
+pub fill_levels_spec : {M : Type 1} → statement M
+fill_levels_spec =
     tie.close
     (tie.spec
     invariant-loop

@@ -7,53 +7,53 @@ use Rattle.palette_twins.proofs.Finds.{Unlike, unlike-start, unlike-step, equal-
 use Rattle.palette_twins.proofs.find.equal_before.Statement.{statement}
 use Rattle.palette_twins.proofs.find.equal_before.Tie as tie
 
-abbrev invariant-loop : tie.invariant-loop
+abbrev invariant-loop : tie.invariant-loop-i
 invariant-loop p q key i₀ i = Unlike p q i
 
-abbrev decreases-loop : tie.decreases-loop
+abbrev decreases-loop : tie.decreases-loop-i
 decreases-loop p q key i₀ i = q - i
 
 -- where the entry's key is told, from a turn
-abbrev told : tie.At-loop invariant-loop decreases-loop → tie.After-entry-key invariant-loop decreases-loop
+abbrev told : tie.At-loop-i invariant-loop decreases-loop → tie.After-entry_key-key invariant-loop decreases-loop
 told c = c.before
 
-entry-key-requires : tie.Need-entry-key-requires invariant-loop decreases-loop
+entry-key-requires : tie.Need-entry_key-key-requires invariant-loop decreases-loop
 entry-key-requires c κs = search rules
 
-loop-holds : tie.Need-loop-init invariant-loop decreases-loop
+loop-holds : tie.Need-loop-i-init invariant-loop decreases-loop
 loop-holds c = unlike-start _ _
 
-entry-key-requires-2 : tie.Need-entry-key-requires-2 invariant-loop decreases-loop
+entry-key-requires-2 : tie.Need-entry_key-requires invariant-loop decreases-loop
 entry-key-requires-2 c κs = omega arith
 
-returns : tie.Need-returns invariant-loop decreases-loop
+returns : tie.Need-returns-then-entry_key-key invariant-loop decreases-loop
 returns c =
     let l = c.before.before.before in
-    equal-found (λ i. omega (arith, (told l).before.shared-slice-known.given i)) l.loop.invariant
-    c.before.before.loop-test.true
-    (sym c.before.entry-key2.ensures ∙ c.if1.true ∙ (told l).entry_key.ensures)
+    equal-found (λ i. omega (arith, (told l).before.shared_slice_known-1.given i)) l.loop-i.invariant
+    c.before.before.loop-i-test.true
+    (sym c.before.entry_key.ensures ∙ c.if-entry_key-key.true ∙ (told l).entry_key-key.ensures)
 
-add-i : tie.Need-overflow-add-i invariant-loop decreases-loop
+add-i : tie.Need-overflow_add-i invariant-loop decreases-loop
 add-i c = omega arith
 
-loop-less : tie.Need-loop-smaller invariant-loop decreases-loop
+loop-less : tie.Need-loop-i-smaller invariant-loop decreases-loop
 loop-less c = omega arith
 
-loop-again : tie.Need-loop-preserved invariant-loop decreases-loop
+loop-again : tie.Need-loop-i-preserved invariant-loop decreases-loop
 loop-again c =
     let l = c.before.before.before in
-    unlike-step l.loop.invariant c.before.before.loop-test.true
-    (λ e. c.if1.false (c.before.entry-key2.ensures ∙ e ∙ sym (told l).entry_key.ensures))
+    unlike-step l.loop-i.invariant c.before.before.loop-i-test.true
+    (λ e. c.if-entry_key-key.false (c.before.entry_key.ensures ∙ e ∙ sym (told l).entry_key-key.ensures))
 
-returns-2 : tie.Need-returns-2 invariant-loop decreases-loop
+returns-2 : tie.Need-returns invariant-loop decreases-loop
 returns-2 c =
     let l = c.before in
-    let w = l.loop.invariant in
+    let w = l.loop-i.invariant in
     let s = (told l).before.before in
-    none_found s.args.palette.now s.args.q (λ j h. w.before j (omega (arith, c.loop-test.false)))
+    none_found s.args.palette.now s.args.q (λ j h. w.before j (omega (arith, c.loop-i-test.false)))
 
-pub equal-before-spec : {M : Type 1} → statement M
-equal-before-spec =
+pub equal_before_spec : {M : Type 1} → statement M
+equal_before_spec =
     tie.close
     (tie.spec
     invariant-loop

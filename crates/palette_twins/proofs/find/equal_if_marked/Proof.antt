@@ -4,16 +4,16 @@ use Rattle.palette_twins.proofs.Finds.{own-number}
 use Rattle.palette_twins.proofs.find.equal_if_marked.Statement.{statement}
 use Rattle.palette_twins.proofs.find.equal_if_marked.Tie as tie
 
-returns : tie.Need-returns
+returns : tie.Need-returns-then-mark-eq0
 returns c =
     let s = c.before.before in
-    own-number s.args.palette.now s.args.q (s.requires.1 c.if1.true)
+    own-number s.args.palette.now s.args.q (s.requires.1 c.if-mark-eq0.true)
 
-equal-before-requires : tie.Need-equal-before-requires
+equal-before-requires : tie.Need-equal_before-requires
 equal-before-requires c κs = search rules
 
-returns-2 : tie.Need-returns-2
-returns-2 c = c.equal-before.ensures
+returns-2 : tie.Need-returns
+returns-2 c = c.equal_before.ensures
 
-pub equal-if-marked-spec : {M : Type 1} → statement M
-equal-if-marked-spec = tie.close (tie.spec returns equal-before-requires returns-2)
+pub equal_if_marked_spec : {M : Type 1} → statement M
+equal_if_marked_spec = tie.close (tie.spec returns equal-before-requires returns-2)

@@ -15,67 +15,67 @@ use Rattle.palette_twins.proofs.Finds.{
 use Rattle.palette_twins.proofs.find.twin_of.Statement.{statement}
 use Rattle.palette_twins.proofs.find.twin_of.Tie as tie
 
-abbrev invariant-loop : tie.invariant-loop
+abbrev invariant-loop : tie.invariant-loop-q
 invariant-loop p n marks₀ q₀ marks q = Passed p marks q
 
-abbrev decreases-loop : tie.decreases-loop
+abbrev decreases-loop : tie.decreases-loop-q
 decreases-loop p n marks₀ q₀ marks q = length p / 3 - q
 
 -- within the loop there is an entry
-inside : (c : tie.In-loop invariant-loop decreases-loop)
-    → c.before.loop.q < length c.before.before.before.args.palette.now / 3
+inside : (c : tie.In-loop-q invariant-loop decreases-loop)
+    → c.before.loop-q.q < length c.before.before.before.args.palette.now / 3
 inside c = omega arith
 
-loop-holds : tie.Need-loop-init invariant-loop decreases-loop
+loop-holds : tie.Need-loop-q-init invariant-loop decreases-loop
 loop-holds c = passed_start _
 
-entry-key-requires : tie.Need-entry-key-requires invariant-loop decreases-loop
+entry-key-requires : tie.Need-entry_key-requires invariant-loop decreases-loop
 entry-key-requires c κs = omega arith
 
-cast-site : tie.Need-overflow-cast-site invariant-loop decreases-loop
+cast-site : tie.Need-overflow_cast-site invariant-loop decreases-loop
 cast-site c = omega arith
 
-array-read-equal-if-marked : tie.Need-array-read-equal-if-marked invariant-loop decreases-loop
+array-read-equal-if-marked : tie.Need-bounds-marks-site invariant-loop decreases-loop
 array-read-equal-if-marked c = omega arith
 
-equal-if-marked-requires : tie.Need-equal-if-marked-requires invariant-loop decreases-loop
+equal-if-marked-requires : tie.Need-equal_if_marked-lower-requires invariant-loop decreases-loop
 equal-if-marked-requires c κs =
     let l = c.before.before in (
       inside c.before,
-      λ z. unmarked l.loop.invariant (ap (λ k. get_or l.loop.marks (k % sites) 0) (sym c.entry_key.ensures) ∙ z),
+      λ z. unmarked l.loop-q.invariant (ap (λ k. get_or l.loop-q.marks (k % sites) 0) (sym c.entry_key.ensures) ∙ z),
     )
 
-returns : tie.Need-returns invariant-loop decreases-loop
+returns : tie.Need-returns-then-lower-q invariant-loop decreases-loop
 returns c =
     let turn = c.before.before.before in
-    passed-found turn.before.loop.invariant (inside turn) c.before.equal-if-marked.ensures
-    c.if1.true
+    passed-found turn.before.loop-q.invariant (inside turn) c.before.equal_if_marked-lower.ensures
+    c.if-lower-q.true
 
-array-write-marks : tie.Need-array-write-marks invariant-loop decreases-loop
+array-write-marks : tie.Need-bounds-marks-site-in-loop-q invariant-loop decreases-loop
 array-write-marks c = omega arith
 
-add-q : tie.Need-overflow-add-q invariant-loop decreases-loop
+add-q : tie.Need-overflow_add-q invariant-loop decreases-loop
 add-q c = omega arith
 
-loop-less : tie.Need-loop-smaller invariant-loop decreases-loop
+loop-less : tie.Need-loop-q-smaller invariant-loop decreases-loop
 loop-less c = omega arith
 
-loop-again : tie.Need-loop-preserved invariant-loop decreases-loop
+loop-again : tie.Need-loop-q-preserved invariant-loop decreases-loop
 loop-again c =
     let turn = c.before.before.before in
     rw c.before.before.entry_key.ensures
-    (passed-step turn.before.loop.invariant (inside turn) c.before.equal-if-marked.ensures
-    c.if1.false)
+    (passed-step turn.before.loop-q.invariant (inside turn) c.before.equal_if_marked-lower.ensures
+    c.if-lower-q.false)
 
-returns-2 : tie.Need-returns-2 invariant-loop decreases-loop
+returns-2 : tie.Need-returns invariant-loop decreases-loop
 returns-2 c =
     let l = c.before in
     let p = l.before.before.args.palette.now in
-    let all : l.loop.q ≡ length p / 3 = omega (arith, l.loop.invariant.within, c.loop-test.false) in
-    passed-all (rw all at l.loop.invariant)
+    let all : l.loop-q.q ≡ length p / 3 = omega (arith, l.loop-q.invariant.within, c.loop-q-test.false) in
+    passed-all (rw all at l.loop-q.invariant)
 
-pub twin-of-spec : {M : Type 1} → statement M
-twin-of-spec =
+pub twin_of_spec : {M : Type 1} → statement M
+twin_of_spec =
     tie.close
     (tie.spec
     invariant-loop

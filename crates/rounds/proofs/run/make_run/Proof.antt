@@ -11,29 +11,29 @@ use Rattle.rounds.proofs.run.make_run.Statement.{statement}
 use Rattle.rounds.proofs.run.make_run.Tie as tie
 
 -- where the call began, from the mean
-abbrev st : tie.After-mean-of → tie.Start
+abbrev st : tie.After-mean_of-m → tie.Start
 st c = c.before.before.before.before.before.before
 
-mean-of-requires : tie.Need-mean-of-requires
+mean-of-requires : tie.Need-mean_of-m-requires
 mean-of-requires c κs =
     let p = c.before.before.before.before.before.requires in mean-asked p.1 p.0.pixels
 
-slice-aggregate-run-from : tie.Need-slice-aggregate-run-from
+slice-aggregate-run-from : tie.Need-slice_bounds-run_from-end
 slice-aggregate-run-from c = search rules
 
-run-from-requires : tie.Need-run-from-requires
+run-from-requires : tie.Need-run_from-requires
 run-from-requires c κs =
     let w = c.before.before.before.before in
     let p = (st w).requires in
-    (p.0, flat-low w.mean-of.result w.mean-of.ensures.1, omega arith, omega arith, p.2)
+    (p.0, flat-low w.mean_of-m.result w.mean_of-m.ensures.1, omega arith, omega arith, p.2)
 
-same_length : tie.Need-same-length
+same_length : tie.Need-shape_of-shades
 same_length c = search rules
 
-same-length-2 : tie.Need-same-length-2
+same-length-2 : tie.Need-shape_of-members
 same-length-2 c = search rules
 
-same-length-3 : tie.Need-same-length-3
+same-length-3 : tie.Need-shape_of-totals
 same-length-3 c = search rules
 
 returns : tie.Need-returns
@@ -41,12 +41,12 @@ returns c =
     let r = c.before.before.before.before.before.before in
     let w = r.before.before.before.before.before in (
       series-of-none-held (kind_of (st w).args.leaps)
-          (rw (w.mean-of.ensures.0 ∙ mean-of-record (st w).requires.1) at r.run-from.ensures.0),
-      r.run-from.ensures.1,
+          (rw (w.mean_of-m.ensures.0 ∙ mean-of-record (st w).requires.1) at r.run_from.ensures.0),
+      r.run_from.ensures.1,
     )
 
-pub make-run-spec : {M : Type 1} → statement M
-make-run-spec =
+pub make_run_spec : {M : Type 1} → statement M
+make_run_spec =
     tie.close
     (tie.spec
     mean-of-requires

@@ -14,41 +14,41 @@ use Rattle.rounds.proofs.run.run_from.Statement.{statement}
 use Rattle.rounds.proofs.run.run_from.Tie as tie
 
 -- where the run is called
-abbrev st : tie.After-fill-starts → tie.Start
+abbrev st : tie.After-fill_starts → tie.Start
 st c = c.before.before.before.before.before.before.before.before.before
 
 -- after the starting shades it has begun
-has-begun : (c : tie.After-fill-starts)
-    → state_of c.fill-starts.new.1.1.1.0 c.fill-starts.new.1.1.1.1.1.0
+has-begun : (c : tie.After-fill_starts)
+    → state_of c.fill_starts.new.shades c.fill_starts.new.members
     ≡ begin_from (listed (st c).args.base.now)
     (colours_of (st c).args.used (st c).args.keys.now (st c).args.weights.now) (st c).args.count
-    (st c).args.members.now
+    (st c).args.members-1.now
 has-begun c =
     begun (listed (st c).args.base.now) (st c).args.used (st c).args.keys.now (st c).args.weights.now
-    (st c).args.count (st c).args.members.now _ _ _ (st c).requires.4 c.fill-starts.ensures.0
-    c.fill-starts.ensures.1
+    (st c).args.count (st c).args.members-1.now _ _ _ (st c).requires.4 c.fill_starts.ensures.0
+    c.fill_starts.ensures.1
 
 -- the given shades are on the grid
 given-low : (s : tie.Start) (q : ℕ) → Within most_coordinate ((listed s.args.base.now).at q)
 given-low s = listed-within s.args.base.now s.requires.1
 
 -- the rounds begin where the starting shades are stored
-abbrev starting : tie.After-make-rounds → tie.After-fill-starts
+abbrev starting : tie.After-make_rounds-a → tie.After-fill_starts
 starting c = c.before.before.before.before.before.before.before.before
 
 -- and are those of a run that begins there
-series : (c : tie.After-make-rounds)
+series : (c : tie.After-make_rounds-a)
     → (let a = (st (starting c)).args in
     SeriesMeets (holding a.held (kind_of a.leaps)) (colours_of a.used a.keys.now a.weights.now)
     a.count a.limit
     (begin_from (listed a.base.now) (colours_of a.used a.keys.now a.weights.now) a.count
-    a.members.now)
-    (state_of c.make-rounds.new.1.1.1.0 c.make-rounds.new.1.1.1.1.1.1.1.1.0)
-    a.totals.now c.make-rounds.new.1.1.1.1.1.1.1.1.1.0
-    c.make-rounds.result.rounds c.make-rounds.result.settled c.make-rounds.result.distances)
-series c = rw (has-begun (starting c)) at c.make-rounds.ensures
+    a.members-1.now)
+    (state_of c.make_rounds-a.new.shades c.make_rounds-a.new.members)
+    a.totals-1.now c.make_rounds-a.new.totals
+    c.make_rounds-a.result.rounds c.make_rounds-a.result.settled c.make_rounds-a.result.distances)
+series c = rw (has-begun (starting c)) at c.make_rounds-a.ensures
 
-fill-starts-requires : tie.Need-fill-starts-requires
+fill-starts-requires : tie.Need-fill_starts-requires
 fill-starts-requires c κs =
     let p = c.before.before.before.before.before.before.before.before.requires in (
       record { some = p.0.colours; room = p.0.table.keys_room },
@@ -59,7 +59,7 @@ fill-starts-requires c κs =
       p.0.members_room,
     )
 
-make-rounds-requires : tie.Need-make-rounds-requires
+make-rounds-requires : tie.Need-make_rounds-a-requires
 make-rounds-requires c κs =
     let f = c.before.before.before.before.before.before.before in
     let p = (st f).requires.0 in (
@@ -70,29 +70,29 @@ make-rounds-requires c κs =
       p.totals_room,
     )
 
-final-total-requires : tie.Need-final-total-requires
+final-total-requires : tie.Need-final_total-total-requires
 final-total-requires c κs =
     let r = c.before.before.before.before.before.before.before.before in
     let s = st (starting r) in
     series-walkable s.pre.0 _ (given-low s) (holding s.args.held (kind_of s.args.leaps))
     (holding-good s.args.held (kind-good s.args.leaps)) (series r)
 
-same_length : tie.Need-same-length
+same_length : tie.Need-shape_of-shades
 same_length c = search rules
 
-same-length-2 : tie.Need-same-length-2
+same-length-2 : tie.Need-shape_of-members
 same-length-2 c = search rules
 
-same-length-3 : tie.Need-same-length-3
+same-length-3 : tie.Need-shape_of-totals
 same-length-3 c = search rules
 
 returns : tie.Need-returns
 returns c =
     let r = c.before.before.before.before.before.before.before.before.before in
-    (series r, c.final-total.ensures)
+    (series r, c.final_total-total.ensures)
 
-pub run-from-spec : {M : Type 1} → statement M
-run-from-spec =
+pub run_from_spec : {M : Type 1} → statement M
+run_from_spec =
     tie.close
     (tie.spec
     fill-starts-requires

@@ -11,32 +11,32 @@ use Rattle.method.proofs.Sizes.{fair-of-table, spent-at-most}
 use Rattle.rounds.proofs.total.final_total.Statement.{statement}
 use Rattle.rounds.proofs.total.final_total.Tie as tie
 
-abbrev invariant-loop : tie.invariant-loop
+abbrev invariant-loop : tie.invariant-loop-i
 invariant-loop keys weights used shades count members total₀ i₀ total i =
     (i ≤ used) × (total ≡ sum i (λ j. get_or weights j 0 * to_shade shades (colour_at keys j) (get_or members j 0)))
 
-abbrev decreases-loop : tie.decreases-loop
+abbrev decreases-loop : tie.decreases-loop-i
 decreases-loop keys weights used shades count members total₀ i₀ total i = used - i
 
 -- where the call began, from an entry's cost
-abbrev st : tie.After-entry-cost invariant-loop decreases-loop → tie.Start invariant-loop decreases-loop
+abbrev st : tie.After-entry_cost-total invariant-loop decreases-loop → tie.Start invariant-loop decreases-loop
 st c = c.before.before.before.before.before.before.before
 
-loop-holds : tie.Need-loop-init invariant-loop decreases-loop
+loop-holds : tie.Need-loop-i-init invariant-loop decreases-loop
 unfolding sum
 loop-holds c = (omega arith, refl)
 
-entry-cost-requires : tie.Need-entry-cost-requires invariant-loop decreases-loop
-entry-cost-requires c κs = (c.before.before.before.before.before.before.requires, c.loop-test.true)
+entry-cost-requires : tie.Need-entry_cost-total-requires invariant-loop decreases-loop
+entry-cost-requires c κs = (c.before.before.before.before.before.before.requires, c.loop-i-test.true)
 
-add_total : tie.Need-overflow-add-total invariant-loop decreases-loop
+add_total : tie.Need-overflow_add-total invariant-loop decreases-loop
 add_total c =
     let a = (st c).args in
-    let l = c.before.before.loop in
+    let l = c.before.before.loop-i in
     let C = colours_of a.used a.keys.now a.weights.now in
     rw (
       l.invariant.1,
-      c.entry-cost.ensures,
+      c.entry_cost-total.ensures,
       ← sum_more l.i (λ j. C.w j * to_shade a.shades.now (C.c j) (get_or a.members.now j 0)),
     )
     (omega (
@@ -46,22 +46,22 @@ add_total c =
           (λ j. get_or a.members.now j 0) (l.i + 1) (omega arith),
     ))
 
-add-i : tie.Need-overflow-add-i invariant-loop decreases-loop
+add-i : tie.Need-overflow_add-i invariant-loop decreases-loop
 add-i c = omega arith
 
-loop-less : tie.Need-loop-smaller invariant-loop decreases-loop
+loop-less : tie.Need-loop-i-smaller invariant-loop decreases-loop
 loop-less c = omega arith
 
-loop-again : tie.Need-loop-preserved invariant-loop decreases-loop
-loop-again c = (omega arith, rw (c.before.before.loop.invariant.1, c.entry-cost.ensures, sum_more))
+loop-again : tie.Need-loop-i-preserved invariant-loop decreases-loop
+loop-again c = (omega arith, rw (c.before.before.loop-i.invariant.1, c.entry_cost-total.ensures, sum_more))
 
 returns : tie.Need-returns invariant-loop decreases-loop
 returns c =
-    let e : c.before.loop.i ≡ c.before.before.before.before.before.before.args.used = omega arith in
-    rw e at c.before.loop.invariant.1
+    let e : c.before.loop-i.i ≡ c.before.before.before.before.before.before.args.used = omega arith in
+    rw e at c.before.loop-i.invariant.1
 
-pub final-total-spec : {M : Type 1} → statement M
-final-total-spec =
+pub final_total_spec : {M : Type 1} → statement M
+final_total_spec =
     tie.close
     (tie.spec
     invariant-loop

@@ -24,7 +24,7 @@ use Rattle.rounds_many.proofs.Turns.{
 use Rattle.rounds_many.proofs.many.make_rounds.Statement.{statement}
 use Rattle.rounds_many.proofs.many.make_rounds.Tie as tie
 
-abbrev invariant-loop : tie.invariant-loop
+abbrev invariant-loop : tie.invariant-loop-r
 invariant-loop keys weights used shades₀ held count leaps limit members₀ totals₀ rows₀ sums₀ anew₀ r₀ go₀ moved₀ distances₀
     shades members totals rows sums anew r go moved distances =
     Going (holding held (kind_of leaps)) (colours_of used keys weights) count limit (state_of shades₀ members₀) totals₀
@@ -32,27 +32,27 @@ invariant-loop keys weights used shades₀ held count leaps limit members₀ tot
     × (length shades ≡ length shades₀) × (length members ≡ length members₀)
     × (length rows ≡ 4096) × Summed (member_at members) keys weights (covered anew used 0) sums
 
-abbrev decreases-loop : tie.decreases-loop
+abbrev decreases-loop : tie.decreases-loop-r
 decreases-loop keys weights used shades₀ held count leaps limit members₀ totals₀ rows₀ sums₀ anew₀ r₀ go₀ moved₀ distances₀ shades
     members totals rows sums anew r go moved distances =
     limit - r
 
 -- where the rounds begin
-abbrev st : tie.At-loop invariant-loop decreases-loop → tie.Start invariant-loop decreases-loop
+abbrev st : tie.At-loop-r invariant-loop decreases-loop → tie.Start invariant-loop decreases-loop
 st c = c.before.before.before.before.before.before
 
 -- the turn that a round is made in, and the state of the loop before it
-abbrev turn : tie.After-next-step invariant-loop decreases-loop → tie.In-loop invariant-loop decreases-loop
+abbrev turn : tie.After-next_step-a invariant-loop decreases-loop → tie.In-loop-r invariant-loop decreases-loop
 turn c = c.before.before.before.before.before
 
-abbrev at : tie.In-loop invariant-loop decreases-loop → tie.At-loop invariant-loop decreases-loop
+abbrev at : tie.In-loop-r invariant-loop decreases-loop → tie.At-loop-r invariant-loop decreases-loop
 at c = c.before
 
 -- the round is below the limit
-below : (c : tie.In-loop invariant-loop decreases-loop) → (at c).loop.r < (st (at c)).args.limit
-below c = going-below _ _ _ _ _ (at c).loop.invariant.0 c.loop-test.true
+below : (c : tie.In-loop-r invariant-loop decreases-loop) → (at c).loop-r.r < (st (at c)).args.limit
+below c = going-below _ _ _ _ _ (at c).loop-r.invariant.0 c.loop-r-test.true
 
-loop-holds : tie.Need-loop-init invariant-loop decreases-loop
+loop-holds : tie.Need-loop-r-init invariant-loop decreases-loop
 loop-holds c = (
   going_start _ _ _ _ _ _ c.before.before.before.before.before.requires.2,
   refl,
@@ -61,58 +61,58 @@ loop-holds c = (
   summed-none _ _ _,
 )
 
-slice-aggregate-next-step : tie.Need-slice-aggregate-next-step invariant-loop decreases-loop
+slice-aggregate-next-step : tie.Need-slice_bounds-next_step-end invariant-loop decreases-loop
 slice-aggregate-next-step c = search rules
 
-next-step-requires : tie.Need-next-step-requires invariant-loop decreases-loop
+next-step-requires : tie.Need-next_step-a-requires invariant-loop decreases-loop
 next-step-requires c κs =
     let l = c.before.before.before.before.before in
     let a = (st l).args in
     let good = holding-good a.held (kind-good a.leaps) in (
-      rw l.loop.invariant.0.state (after-walkable (holding a.held (kind_of a.leaps)) good (st l).requires.0 _),
+      rw l.loop-r.invariant.0.state (after-walkable (holding a.held (kind_of a.leaps)) good (st l).requires.0 _),
       (st l).requires.1,
-      omega (arith, l.loop.invariant.3, (st l).requires.0.steppable.fit.shades.few),
-      l.loop.invariant.4,
+      omega (arith, l.loop-r.invariant.3, (st l).requires.0.steppable.fit.shades-1.few),
+      l.loop-r.invariant.4,
     )
 
-mul-totals : tie.Need-overflow-mul-totals invariant-loop decreases-loop
+mul-totals : tie.Need-offset_bounds-totals-r invariant-loop decreases-loop
 mul-totals c =
     let i = turn c.before.before.before.before.before in
     omega (arith, (st (at i)).good, (st (at i)).pre.3, below i)
 
-slice-write-totals : tie.Need-slice-write-totals invariant-loop decreases-loop
+slice-write-totals : tie.Need-bounds-totals-r invariant-loop decreases-loop
 slice-write-totals c =
     let i = turn c.before.before.before.before.before in
-    rw (going-length _ _ _ _ _ (at i).loop.inv.0) (omega (arith, (st (at i)).pre.4, below i))
+    rw (going-length _ _ _ _ _ (at i).loop-r.inv.0) (omega (arith, (st (at i)).pre.4, below i))
 
-add-distances : tie.Need-overflow-add-distances invariant-loop decreases-loop
+add-distances : tie.Need-overflow_add-distances invariant-loop decreases-loop
 add-distances c =
     let n = c.before.before.before.before.before.before in
     let i = turn n in
     let p = (st (at i)).pre.0.steppable in
     omega (
       arith,
-      going-counted _ _ _ _ _ (at i).loop.inv.0 i.loop-test.taken (fair-of-table p.table)
-          p.fit.shades.few (st (at i)).pre.3 _ n.next-step.ensures.0.distances_is,
+      going-counted _ _ _ _ _ (at i).loop-r.inv.0 i.loop-r-test.taken (fair-of-table p.table)
+          p.fit.shades-1.few (st (at i)).pre.3 _ n.next_step-a.ensures.0.distances_is,
     )
 
-add_r : tie.Need-overflow-add-r invariant-loop decreases-loop
+add_r : tie.Need-overflow_add-r invariant-loop decreases-loop
 add_r c = omega (arith, below (turn c.before.before.before.before.before.before))
 
-bound-requires : tie.Need-bound-requires invariant-loop decreases-loop
+bound-requires : tie.Need-bound-go-requires invariant-loop decreases-loop
 bound-requires c κs = search rules
 
-loop-less : tie.Need-loop-smaller invariant-loop decreases-loop
+loop-less : tie.Need-loop-r-smaller invariant-loop decreases-loop
 loop-less c = omega (arith, below (turn c.before.before.before.before.before.before.before))
 
-loop-again : tie.Need-loop-preserved invariant-loop decreases-loop
+loop-again : tie.Need-loop-r-preserved invariant-loop decreases-loop
 loop-again c =
     let n = c.before.before.before.before.before.before.before in
     let i = turn n in
-    let e = n.next-step.ensures in
+    let e = n.next_step-a.ensures in
     let b = below i in (
-      going_next _ _ _ _ _ (at i).loop.inv.0 i.loop-test.taken (omega (arith, (st (at i)).pre.4)) e.0
-          c.bound.ensures,
+      going_next _ _ _ _ _ (at i).loop-r.inv.0 i.loop-r-test.taken (omega (arith, (st (at i)).pre.4)) e.0
+          c.bound-go.ensures,
       omega arith,
       omega arith,
       omega arith,
@@ -122,23 +122,23 @@ loop-again c =
 none-requires : tie.Need-none-requires invariant-loop decreases-loop
 none-requires c κs = search rules
 
-same_length : tie.Need-same-length invariant-loop decreases-loop
-same_length c = c.before.before.loop.invariant.1
+same_length : tie.Need-shape_of-shades invariant-loop decreases-loop
+same_length c = c.before.before.loop-r.invariant.1
 
-same-length-2 : tie.Need-same-length-2 invariant-loop decreases-loop
-same-length-2 c = c.before.before.loop.invariant.2
+same-length-2 : tie.Need-shape_of-members invariant-loop decreases-loop
+same-length-2 c = c.before.before.loop-r.invariant.2
 
-same-length-3 : tie.Need-same-length-3 invariant-loop decreases-loop
-same-length-3 c = going-length _ _ _ _ _ c.before.before.loop.invariant.0
+same-length-3 : tie.Need-shape_of-totals invariant-loop decreases-loop
+same-length-3 c = going-length _ _ _ _ _ c.before.before.loop-r.invariant.0
 
 returns : tie.Need-returns invariant-loop decreases-loop
 returns c =
     let l = c.before.before in
-    going_done _ _ _ _ _ l.loop.invariant.0 (omega (arith, c.before.loop-test.false)) (st l).requires.2 _
+    going_done _ _ _ _ _ l.loop-r.invariant.0 (omega (arith, c.before.loop-r-test.false)) (st l).requires.2 _
     c.none.ensures
 
-pub make-rounds-spec : {M : Type 1} → statement M
-make-rounds-spec =
+pub make_rounds_spec : {M : Type 1} → statement M
+make_rounds_spec =
     tie.close
     (tie.spec
     invariant-loop

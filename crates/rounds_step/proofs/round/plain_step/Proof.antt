@@ -8,37 +8,37 @@ use Rattle.rounds_step.proofs.round.plain_step.Statement.{statement}
 use Rattle.rounds_step.proofs.round.plain_step.Tie as tie
 
 -- where the call began, from the grouping
-abbrev st : tie.After-group-plain → tie.Start
+abbrev st : tie.After-group_plain-a → tie.Start
 st c = c.before.before.before.before.before.before.before.before
 
 -- the grouping, from the move
-abbrev grouped : tie.After-move-shades → tie.After-group-plain
+abbrev grouped : tie.After-move_shades-moved → tie.After-group_plain-a
 grouped c = c.before.before.before.before.before
 
-group-plain-requires : tie.Need-group-plain-requires
+group-plain-requires : tie.Need-group_plain-a-requires
 group-plain-requires c κs = search rules
 
-move-shades-requires : tie.Need-move-shades-requires
+move-shades-requires : tie.Need-move_shades-moved-requires
 move-shades-requires c κs =
     let g = c.before.before.before.before in
-    move-asked (st g).requires g.group-plain.ensures.0 0 (omega arith)
+    move-asked (st g).requires g.group_plain-a.ensures.0 0 (omega arith)
 
-same_length : tie.Need-same-length
+same_length : tie.Need-shape_of-shades
 same_length c = search rules
 
-same-length-2 : tie.Need-same-length-2
+same-length-2 : tie.Need-shape_of-members
 same-length-2 c = search rules
 
 returns : tie.Need-returns
 returns c =
     let m = c.before.before in
     let g = grouped m in
-    let e = g.group-plain.ensures in
-    let moved = m.move-shades.ensures in
+    let e = g.group_plain-a.ensures in
+    let moved = m.move_shades-moved.ensures in
     step-of-none-held to_mean (step-meets (st g).pre e.0 0 false _ _ _ _ moved.0 moved.1 e.1)
 
-pub plain-step-spec : {M : Type 1} → statement M
-plain-step-spec =
+pub plain_step_spec : {M : Type 1} → statement M
+plain_step_spec =
     tie.close
     (tie.spec
     group-plain-requires

@@ -10,102 +10,102 @@ use Rattle.search_all.proofs.Layouts.{Fronts, fronts-start, fronts-room, fronts-
 use Rattle.search_all.proofs.all.lay_out.Statement.{statement}
 use Rattle.search_all.proofs.all.lay_out.Tie as tie
 
-abbrev invariant-loop : tie.invariant-loop
+abbrev invariant-loop : tie.invariant-loop-i
 invariant-loop keys reds₀ greens₀ blues₀ n i₀ reds greens blues i =
     Fronts (colour_at keys) (length keys) reds₀ greens₀ blues₀ reds greens blues i
 
-abbrev decreases-loop : tie.decreases-loop
+abbrev decreases-loop : tie.decreases-loop-i
 decreases-loop keys reds₀ greens₀ blues₀ n i₀ reds greens blues i = length keys - i
 
-loop-holds : tie.Need-loop-init invariant-loop decreases-loop
+loop-holds : tie.Need-loop-i-init invariant-loop decreases-loop
 loop-holds c =
     let a = c.before.before.before.before.args in
     let ks = a.keys.now in
     fronts-start (colour_at ks) (length ks) a.reds.now a.greens.now a.blues.now
 
 -- where the function begins
-abbrev st : tie.At-loop invariant-loop decreases-loop → tie.Start invariant-loop decreases-loop
+abbrev st : tie.At-loop-i invariant-loop decreases-loop → tie.Start invariant-loop decreases-loop
 st c = c.before.before.before.before.before
 
 -- the turn, from its colour
-abbrev turn : tie.After-colour-of invariant-loop decreases-loop → tie.At-loop invariant-loop decreases-loop
+abbrev turn : tie.After-colour_of-c invariant-loop decreases-loop → tie.At-loop-i invariant-loop decreases-loop
 turn c = c.before.before.before
 
 -- the turn has room in the three lists
-room : (c : tie.After-colour-of invariant-loop decreases-loop)
+room : (c : tie.After-colour_of-c invariant-loop decreases-loop)
     → let l = turn c in
-    RoomFor (length (st l).args.keys.now) l.loop.reds l.loop.greens l.loop.blues
-room c = fronts-room (turn c).loop.invariant (st (turn c)).pre
+    RoomFor (length (st l).args.keys.now) l.loop-i.reds l.loop-i.greens l.loop-i.blues
+room c = fronts-room (turn c).loop-i.invariant (st (turn c)).pre
 
-mul-colour-of : tie.Need-overflow-mul-colour-of invariant-loop decreases-loop
+mul-colour-of : tie.Need-offset_bounds-keys-i invariant-loop decreases-loop
 mul-colour-of c = omega arith
 
-shared-slice-read-colour-of : tie.Need-shared-slice-read-colour-of invariant-loop decreases-loop
+shared-slice-read-colour-of : tie.Need-bounds-keys-i invariant-loop decreases-loop
 shared-slice-read-colour-of c = omega arith
 
-colour-of-requires : tie.Need-colour-of-requires invariant-loop decreases-loop
+colour-of-requires : tie.Need-colour_of-c-requires invariant-loop decreases-loop
 colour-of-requires c κs = search rules
 
-short-of-requires : tie.Need-short-of-requires invariant-loop decreases-loop
+short-of-requires : tie.Need-short_of-requires invariant-loop decreases-loop
 short-of-requires c κs = search rules
 
-mul-reds : tie.Need-overflow-mul-reds invariant-loop decreases-loop
+mul-reds : tie.Need-offset_bounds-reds-i invariant-loop decreases-loop
 mul-reds c = omega arith
 
-slice-write-reds : tie.Need-slice-write-reds invariant-loop decreases-loop
+slice-write-reds : tie.Need-bounds-reds-i invariant-loop decreases-loop
 slice-write-reds c = omega (arith, (room c.before).red)
 
-short-of-requires-2 : tie.Need-short-of-requires-2 invariant-loop decreases-loop
+short-of-requires-2 : tie.Need-short_of-requires-in-loop-i invariant-loop decreases-loop
 short-of-requires-2 c κs = search rules
 
-mul-greens : tie.Need-overflow-mul-greens invariant-loop decreases-loop
+mul-greens : tie.Need-offset_bounds-greens-i invariant-loop decreases-loop
 mul-greens c = omega arith
 
-slice-write-greens : tie.Need-slice-write-greens invariant-loop decreases-loop
+slice-write-greens : tie.Need-bounds-greens-i invariant-loop decreases-loop
 slice-write-greens c = omega (arith, (room c.before.before).green)
 
-short-of-requires-3 : tie.Need-short-of-requires-3 invariant-loop decreases-loop
+short-of-requires-3 : tie.Need-short_of-requires-in-loop-i-2 invariant-loop decreases-loop
 short-of-requires-3 c κs = search rules
 
-mul-blues : tie.Need-overflow-mul-blues invariant-loop decreases-loop
+mul-blues : tie.Need-offset_bounds-blues-i invariant-loop decreases-loop
 mul-blues c = omega arith
 
-slice-write-blues : tie.Need-slice-write-blues invariant-loop decreases-loop
+slice-write-blues : tie.Need-bounds-blues-i invariant-loop decreases-loop
 slice-write-blues c = omega (arith, (room c.before.before.before).blue)
 
-add-i : tie.Need-overflow-add-i invariant-loop decreases-loop
+add-i : tie.Need-overflow_add-i invariant-loop decreases-loop
 add-i c = omega arith
 
-loop-less : tie.Need-loop-smaller invariant-loop decreases-loop
+loop-less : tie.Need-loop-i-smaller invariant-loop decreases-loop
 loop-less c = omega arith
 
-loop-again : tie.Need-loop-preserved invariant-loop decreases-loop
+loop-again : tie.Need-loop-i-preserved invariant-loop decreases-loop
 loop-again c =
     let at = c.before.before.before in
-    let red = c.before.before.short-of in
-    let green = c.before.short-of2 in
-    let blue = c.short-of3 in
-    fronts-step (turn at).loop.invariant (omega arith) (st (turn at)).pre
+    let red = c.before.before.short_of in
+    let green = c.before.short_of-in-loop-i in
+    let blue = c.short_of-in-loop-i-2 in
+    fronts-step (turn at).loop-i.invariant (omega arith) (st (turn at)).pre
     (record { r = red.result; g = green.result; b = blue.result })
-    (rw (red.ensures.0, green.ensures.0, blue.ensures.0) at.colour-of.ensures.0)
+    (rw (red.ensures.0, green.ensures.0, blue.ensures.0) at.colour_of-c.ensures.0)
 
-same_length : tie.Need-same-length invariant-loop decreases-loop
-same_length c = (fronts-long c.before.loop.invariant).0
+same_length : tie.Need-shape_of-reds invariant-loop decreases-loop
+same_length c = (fronts-long c.before.loop-i.invariant).0
 
-same-length-2 : tie.Need-same-length-2 invariant-loop decreases-loop
-same-length-2 c = (fronts-long c.before.loop.invariant).1
+same-length-2 : tie.Need-shape_of-greens invariant-loop decreases-loop
+same-length-2 c = (fronts-long c.before.loop-i.invariant).1
 
-same-length-3 : tie.Need-same-length-3 invariant-loop decreases-loop
-same-length-3 c = (fronts-long c.before.loop.invariant).2
+same-length-3 : tie.Need-shape_of-blues invariant-loop decreases-loop
+same-length-3 c = (fronts-long c.before.loop-i.invariant).2
 
 returns : tie.Need-returns invariant-loop decreases-loop
 returns c =
-    let l = c.before.loop in
+    let l = c.before.loop-i in
     let e : l.i ≡ length (st c.before).args.keys.now = omega (arith, l.invariant.within) in
     (rw e at l.invariant.red, (rw e at l.invariant.green, rw e at l.invariant.blue))
 
-pub lay-out-spec : {M : Type 1} → statement M
-lay-out-spec =
+pub lay_out_spec : {M : Type 1} → statement M
+lay_out_spec =
     tie.close
     (tie.spec
     invariant-loop

@@ -7,100 +7,100 @@ use Rattle.search_all.proofs.all.Blocks.{Searched, searched-start, searched-step
 use Rattle.search_all.proofs.all.search_all.Statement.{statement}
 use Rattle.search_all.proofs.all.search_all.Tie as tie
 
-abbrev invariant-loop : tie.invariant-loop
+abbrev invariant-loop : tie.invariant-loop-i
 invariant-loop keys used s k members₀ reds₀ greens₀ blues₀ i₀ members reds greens blues i =
     Searched s k keys used members₀ members i × BlockLists reds greens blues
 
-abbrev decreases-loop : tie.decreases-loop
+abbrev decreases-loop : tie.decreases-loop-i
 decreases-loop keys used s k members₀ reds₀ greens₀ blues₀ i₀ members reds greens blues i = used - i
 
 -- where the function begins
-abbrev st : tie.At-loop invariant-loop decreases-loop → tie.Start invariant-loop decreases-loop
+abbrev st : tie.At-loop-i invariant-loop decreases-loop → tie.Start invariant-loop decreases-loop
 st c = c.before.before.before.before
 
 -- the turn, from where the three lists are lent
-abbrev turn : tie.After-blues invariant-loop decreases-loop → tie.At-loop invariant-loop decreases-loop
+abbrev turn : tie.After-blues-1 invariant-loop decreases-loop → tie.At-loop-i invariant-loop decreases-loop
 turn c = c.before.before.before.before.before
 
 -- the turn's block searched, from the turn's end
-abbrev searched : tie.After-slice-known2 invariant-loop decreases-loop → tie.After-search-block invariant-loop decreases-loop
+abbrev searched : tie.After-slice_known-in-loop-i-1 invariant-loop decreases-loop → tie.After-search_block invariant-loop decreases-loop
 searched c = c.before.before.before.before.before
 
 -- the loop's end, from where the three lists are lent for the last block
-abbrev end : tie.After-blues3 invariant-loop decreases-loop → tie.At-loop invariant-loop decreases-loop
+abbrev end : tie.After-blues-2-1 invariant-loop decreases-loop → tie.At-loop-i invariant-loop decreases-loop
 end c = c.before.before.before.before.before
 
 -- the last block searched, from the function's end
-abbrev last : tie.After-slice-known3 invariant-loop decreases-loop → tie.After-search-block2 invariant-loop decreases-loop
+abbrev last : tie.After-slice_known-2-1 invariant-loop decreases-loop → tie.After-search_block-2 invariant-loop decreases-loop
 last c = c.before.before.before.before.before
 
-loop-holds : tie.Need-loop-init invariant-loop decreases-loop
+loop-holds : tie.Need-loop-i-init invariant-loop decreases-loop
 loop-holds c =
     let a = c.before.before.before.args in (
-      searched-start a.shades.now a.count a.keys.now a.used a.members.now,
+      searched-start a.shades.now a.count a.keys.now a.used a.members-1.now,
       record { red = refl; green = refl; blue = refl },
     )
 
-sub-loop : tie.Need-overflow-sub-loop invariant-loop decreases-loop
+sub-loop : tie.Need-overflow_sub-used invariant-loop decreases-loop
 sub-loop c = omega arith
 
-add-e : tie.Need-overflow-add-e invariant-loop decreases-loop
+add-e : tie.Need-overflow_add-e invariant-loop decreases-loop
 add-e c = omega arith
 
-mul-search-block : tie.Need-overflow-mul-search-block invariant-loop decreases-loop
+mul-search-block : tie.Need-offset_bounds-keys-i invariant-loop decreases-loop
 mul-search-block c = omega arith
 
-sub-search-block : tie.Need-overflow-sub-search-block invariant-loop decreases-loop
+sub-search-block : tie.Need-slice_bounds-search_block-count invariant-loop decreases-loop
 sub-search-block c = omega arith
 
-part-search-block-start : tie.Need-slice-bounds-search-block-start invariant-loop decreases-loop
+part-search-block-start : tie.Need-slice_bounds-search_block-start invariant-loop decreases-loop
 part-search-block-start c = omega arith
 
-part-search-block-end : tie.Need-slice-bounds-search-block-end invariant-loop decreases-loop
+part-search-block-end : tie.Need-slice_bounds-search_block-end invariant-loop decreases-loop
 part-search-block-end c = omega arith
 
-slice-aggregate-search-block : tie.Need-slice-aggregate-search-block invariant-loop decreases-loop
-slice-aggregate-search-block c = omega (arith, c.before.before.before.loop.invariant.1.red)
+slice-aggregate-search-block : tie.Need-slice_bounds-search_block-end-in-loop-i invariant-loop decreases-loop
+slice-aggregate-search-block c = omega (arith, c.before.before.before.loop-i.invariant.1.red)
 
-slice-aggregate-search-block-2 : tie.Need-slice-aggregate-search-block-2 invariant-loop decreases-loop
-slice-aggregate-search-block-2 c = omega (arith, c.before.before.before.before.loop.invariant.1.green)
+slice-aggregate-search-block-2 : tie.Need-slice_bounds-search_block-end-in-loop-i-2 invariant-loop decreases-loop
+slice-aggregate-search-block-2 c = omega (arith, c.before.before.before.before.loop-i.invariant.1.green)
 
-slice-aggregate-search-block-3 : tie.Need-slice-aggregate-search-block-3 invariant-loop decreases-loop
-slice-aggregate-search-block-3 c = omega (arith, (turn c).loop.invariant.1.blue)
+slice-aggregate-search-block-3 : tie.Need-slice_bounds-search_block-end-in-loop-i-3 invariant-loop decreases-loop
+slice-aggregate-search-block-3 c = omega (arith, (turn c).loop-i.invariant.1.blue)
 
-mul-search-block-2 : tie.Need-overflow-mul-search-block-2 invariant-loop decreases-loop
+mul-search-block-2 : tie.Need-offset_bounds-members-i invariant-loop decreases-loop
 mul-search-block-2 c = omega arith
 
-sub-search-block-2 : tie.Need-overflow-sub-search-block-2 invariant-loop decreases-loop
+sub-search-block-2 : tie.Need-slice_bounds-search_block-count-in-loop-i invariant-loop decreases-loop
 sub-search-block-2 c = omega arith
 
-part-search-block-start-2 : tie.Need-slice-bounds-search-block-start-2 invariant-loop decreases-loop
+part-search-block-start-2 : tie.Need-slice_bounds-search_block-start-in-loop-i invariant-loop decreases-loop
 part-search-block-start-2 c = omega arith
 
-part-search-block-end-2 : tie.Need-slice-bounds-search-block-end-2 invariant-loop decreases-loop
-part-search-block-end-2 c = omega (arith, (turn c).loop.invariant.0.long)
+part-search-block-end-2 : tie.Need-slice_bounds-search_block-end-in-loop-i-4 invariant-loop decreases-loop
+part-search-block-end-2 c = omega (arith, (turn c).loop-i.invariant.0.long)
 
-search-block-requires : tie.Need-search-block-requires invariant-loop decreases-loop
+search-block-requires : tie.Need-search_block-requires invariant-loop decreases-loop
 search-block-requires c κs =
     let l = turn c.before in
     let p = (st l).pre in
-    let i = l.loop.i in (
-      block-keys l.loop.inv.0 (i + 256) (omega arith) p.1 p.0,
+    let i = l.loop-i.i in (
+      block-keys l.loop-i.inv.0 (i + 256) (omega arith) p.1 p.0,
       p.2,
       p.3,
-      block_room l.loop.inv.1 (st l).args.keys.now i (i + 256) (omega arith) (omega arith),
+      block_room l.loop-i.inv.1 (st l).args.keys.now i (i + 256) (omega arith) (omega arith),
     )
 
-loop-less : tie.Need-loop-smaller invariant-loop decreases-loop
+loop-less : tie.Need-loop-i-smaller invariant-loop decreases-loop
 loop-less c = omega arith
 
-loop-again : tie.Need-loop-preserved invariant-loop decreases-loop
+loop-again : tie.Need-loop-i-preserved invariant-loop decreases-loop
 loop-again c =
     let at = searched c in
     let l = turn at.before.before in
-    let b = at.search-block in
-    let w = l.loop.inv.1 in (
-      searched-step l.loop.inv.0 (l.loop.i + 256) (omega arith) (omega arith) (st l).pre.1 b.ensures,
+    let b = at.search_block in
+    let w = l.loop-i.inv.1 in (
+      searched-step l.loop-i.inv.0 (l.loop-i.i + 256) (omega arith) (omega arith) (st l).pre.1 b.ensures,
       record {
         red = b.kept.1.1.1.0 ∙ w.red;
         green = b.kept.1.1.1.1.0 ∙ w.green;
@@ -108,61 +108,61 @@ loop-again c =
       },
     )
 
-mul-search-block-3 : tie.Need-overflow-mul-search-block-3 invariant-loop decreases-loop
+mul-search-block-3 : tie.Need-offset_bounds-keys-i-2 invariant-loop decreases-loop
 mul-search-block-3 c = omega arith
 
-sub-search-block-3 : tie.Need-overflow-sub-search-block-3 invariant-loop decreases-loop
+sub-search-block-3 : tie.Need-slice_bounds-search_block-count-2 invariant-loop decreases-loop
 sub-search-block-3 c = omega arith
 
-part-search-block-start-3 : tie.Need-slice-bounds-search-block-start-3 invariant-loop decreases-loop
+part-search-block-start-3 : tie.Need-slice_bounds-search_block-start-2 invariant-loop decreases-loop
 part-search-block-start-3 c = omega arith
 
-part-search-block-end-3 : tie.Need-slice-bounds-search-block-end-3 invariant-loop decreases-loop
+part-search-block-end-3 : tie.Need-slice_bounds-search_block-end-2 invariant-loop decreases-loop
 part-search-block-end-3 c = omega arith
 
-slice-aggregate-search-block-4 : tie.Need-slice-aggregate-search-block-4 invariant-loop decreases-loop
-slice-aggregate-search-block-4 c = omega (arith, c.before.before.before.loop.invariant.1.red)
+slice-aggregate-search-block-4 : tie.Need-slice_bounds-search_block-end-3 invariant-loop decreases-loop
+slice-aggregate-search-block-4 c = omega (arith, c.before.before.before.loop-i.invariant.1.red)
 
-slice-aggregate-search-block-5 : tie.Need-slice-aggregate-search-block-5 invariant-loop decreases-loop
-slice-aggregate-search-block-5 c = omega (arith, c.before.before.before.before.loop.invariant.1.green)
+slice-aggregate-search-block-5 : tie.Need-slice_bounds-search_block-end-4 invariant-loop decreases-loop
+slice-aggregate-search-block-5 c = omega (arith, c.before.before.before.before.loop-i.invariant.1.green)
 
-slice-aggregate-search-block-6 : tie.Need-slice-aggregate-search-block-6 invariant-loop decreases-loop
-slice-aggregate-search-block-6 c = omega (arith, (end c).loop.invariant.1.blue)
+slice-aggregate-search-block-6 : tie.Need-slice_bounds-search_block-end-5 invariant-loop decreases-loop
+slice-aggregate-search-block-6 c = omega (arith, (end c).loop-i.invariant.1.blue)
 
-mul-search-block-4 : tie.Need-overflow-mul-search-block-4 invariant-loop decreases-loop
+mul-search-block-4 : tie.Need-offset_bounds-members-i-2 invariant-loop decreases-loop
 mul-search-block-4 c = omega arith
 
-sub-search-block-4 : tie.Need-overflow-sub-search-block-4 invariant-loop decreases-loop
+sub-search-block-4 : tie.Need-slice_bounds-search_block-count-3 invariant-loop decreases-loop
 sub-search-block-4 c = omega arith
 
-part-search-block-start-4 : tie.Need-slice-bounds-search-block-start-4 invariant-loop decreases-loop
+part-search-block-start-4 : tie.Need-slice_bounds-search_block-start-3 invariant-loop decreases-loop
 part-search-block-start-4 c = omega arith
 
-part-search-block-end-4 : tie.Need-slice-bounds-search-block-end-4 invariant-loop decreases-loop
-part-search-block-end-4 c = omega (arith, (end c).loop.invariant.0.long)
+part-search-block-end-4 : tie.Need-slice_bounds-search_block-end-6 invariant-loop decreases-loop
+part-search-block-end-4 c = omega (arith, (end c).loop-i.invariant.0.long)
 
-search-block-requires-2 : tie.Need-search-block-requires-2 invariant-loop decreases-loop
+search-block-requires-2 : tie.Need-search_block-requires-2 invariant-loop decreases-loop
 search-block-requires-2 c κs =
     let l = end c.before in
     let p = (st l).pre in
     let used = (st l).args.used in (
-      block-keys l.loop.inv.0 used (omega arith) p.1 p.0,
+      block-keys l.loop-i.inv.0 used (omega arith) p.1 p.0,
       p.2,
       p.3,
-      block_room l.loop.inv.1 (st l).args.keys.now l.loop.i used (omega arith) (omega arith),
+      block_room l.loop-i.inv.1 (st l).args.keys.now l.loop-i.i used (omega arith) (omega arith),
     )
 
-same_length : tie.Need-same-length invariant-loop decreases-loop
-same_length c = omega (arith, (end (last c).before.before).loop.inv.0.long)
+same_length : tie.Need-shape_of-members invariant-loop decreases-loop
+same_length c = omega (arith, (end (last c).before.before).loop-i.inv.0.long)
 
 returns : tie.Need-returns invariant-loop decreases-loop
 returns c =
     let l = end (last c).before.before in
-    (searched-step l.loop.inv.0 (st l).args.used (omega arith) (omega arith) (st l).pre.1
-    (last c).search-block2.ensures).is
+    (searched-step l.loop-i.inv.0 (st l).args.used (omega arith) (omega arith) (st l).pre.1
+    (last c).search_block-2.ensures).is
 
-pub search-all-spec : {M : Type 1} → statement M
-search-all-spec =
+pub search_all_spec : {M : Type 1} → statement M
+search_all_spec =
     tie.close
     (tie.spec
     invariant-loop

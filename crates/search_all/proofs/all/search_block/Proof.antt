@@ -9,62 +9,62 @@ use Rattle.search_all.proofs.all.search_block.Statement.{statement}
 use Rattle.search_all.proofs.all.search_block.Tie as tie
 
 -- where the three lists are known
-abbrev known : tie.After-lay-out → tie.After-slice-known3
+abbrev known : tie.After-lay_out → tie.After-slice_known-3-1
 known c = c.before.before.before.before.before
 
 -- where the function begins
-abbrev st : tie.After-lay-out → tie.Start
+abbrev st : tie.After-lay_out → tie.Start
 st c = (known c).before.before.before.before.before
 
 -- where the three lists have come back
-abbrev back : tie.After-search-points-arg4 → tie.After-blues
+abbrev back : tie.After-search-points-arg4 → tie.After-blues-1
 back c = c.before.before.before.before.before
 
 -- where the colours are laid out
-abbrev laid : tie.After-search-points-arg4 → tie.After-lay-out
+abbrev laid : tie.After-search-points-arg4 → tie.After-lay_out
 laid c = (back c).before.before.before.before.before
 
 -- the colours are laid out
-done : (c : tie.After-lay-out)
+done : (c : tie.After-lay_out)
     → LaidOut (colour_at (st c).args.keys.now) (length (st c).args.keys.now)
-    c.lay-out.new.1.0 c.lay-out.new.1.1.0 c.lay-out.new.1.1.1.0
+    c.lay_out.new.reds c.lay_out.new.greens c.lay_out.new.blues
 done c =
-    let e = c.lay-out.ensures in
+    let e = c.lay_out.ensures in
     fronts-done record { within = le_refl _; red = e.0; green = e.1.0; blue = e.1.1 } (st c).requires.3
 
-lay-out-requires : tie.Need-lay-out-requires
+lay-out-requires : tie.Need-lay_out-requires
 lay-out-requires c κs = search rules
 
-search-points-requires : tie.Need-search-points-requires
+search-points-requires : tie.Need-search_points-requires
 search-points-requires c κs =
     let start = st (laid c) in
     let p = start.pre in
     let ready =
-    laid-out-ready (done (laid c)) (λ i l. colour-within _) (length start.args.best.now) p.0 in
+    laid-out-ready (done (laid c)) (λ i l. colour-within _) (length start.args.best-1.now) p.0 in
     (ready.0, ready.1, p.1, p.2)
 
-same_length : tie.Need-same-length
+same_length : tie.Need-shape_of-reds
 same_length c = search rules
 
-same-length-2 : tie.Need-same-length-2
+same-length-2 : tie.Need-shape_of-greens
 same-length-2 c = search rules
 
-same-length-3 : tie.Need-same-length-3
+same-length-3 : tie.Need-shape_of-blues
 same-length-3 c = search rules
 
-same-length-4 : tie.Need-same-length-4
+same-length-4 : tie.Need-shape_of-best
 same-length-4 c = search rules
 
 returns : tie.Need-returns
 returns c =
     let before = laid c.before.before.before in
     let a = (st before).args in
-    let best = a.best.now in
+    let best = a.best-1.now in
     laid-out-filled (done before) (packed_nearest a.shades.now a.count) (length best) (st before).pre.0 best
-    c.before.before.search-points.ensures
+    c.before.before.search_points.ensures
 
-pub search-block-spec : {M : Type 1} → statement M
-search-block-spec =
+pub search_block_spec : {M : Type 1} → statement M
+search_block_spec =
     tie.close
     (tie.spec
     lay-out-requires

@@ -10,39 +10,39 @@ use Rattle.search_all.proofs.all.Leasts.{Looked, looked-long, looked-start, look
 use Rattle.search_all.proofs.all.search_points.Statement.{statement}
 use Rattle.search_all.proofs.all.search_points.Tie as tie
 
-abbrev invariant-loop : tie.invariant-loop
+abbrev invariant-loop : tie.invariant-loop-q
 invariant-loop reds greens blues s k best₀ n q₀ best q = Looked s (point_at reds greens blues) k best₀ best q
 
-abbrev decreases-loop : tie.decreases-loop
+abbrev decreases-loop : tie.decreases-loop-q
 decreases-loop reds greens blues s k best₀ n q₀ best q = k - q
 
 -- where the slices are known, from the loop's beginning
-abbrev known : tie.After-slice-known2 invariant-loop decreases-loop → tie.After-shared-slice-known4 invariant-loop decreases-loop
+abbrev known : tie.After-slice_known-2-1 invariant-loop decreases-loop → tie.After-shared_slice_known-4-1 invariant-loop decreases-loop
 known c = c.before.before.before.before.before
 
 -- where the function begins, from the same
-abbrev begin : tie.After-slice-known2 invariant-loop decreases-loop → tie.Start invariant-loop decreases-loop
+abbrev begin : tie.After-slice_known-2-1 invariant-loop decreases-loop → tie.Start invariant-loop decreases-loop
 begin c = (known c).before.before.before.before
 
 -- and from a turn
-abbrev st : tie.At-loop invariant-loop decreases-loop → tie.Start invariant-loop decreases-loop
+abbrev st : tie.At-loop-q invariant-loop decreases-loop → tie.Start invariant-loop decreases-loop
 st c = begin c.before
 
 -- where every place holds the greatest number
-abbrev filled : tie.At-loop invariant-loop decreases-loop → tie.After-set-all invariant-loop decreases-loop
+abbrev filled : tie.At-loop-q invariant-loop decreases-loop → tie.After-set_all invariant-loop decreases-loop
 filled c = c.before.before.before
 
 -- as many places as at the start
-long : (c : tie.At-loop invariant-loop decreases-loop) → length c.loop.best ≡ length (st c).args.best.now
-long c = looked-long c.loop.invariant ∙ (filled c).set_all.auto.0
+long : (c : tie.At-loop-q invariant-loop decreases-loop) → length c.loop-q.best-1 ≡ length (st c).args.best-1.now
+long c = looked-long c.loop-q.invariant ∙ (filled c).set_all.auto.0
 
-set-all-requires : tie.Need-set-all-requires invariant-loop decreases-loop
+set-all-requires : tie.Need-set_all-requires invariant-loop decreases-loop
 set-all-requires c κs = search rules
 
-loop-holds : tie.Need-loop-init invariant-loop decreases-loop
-loop-holds c = looked-start (begin c).args.best.now c.before.before.set_all.ensures
+loop-holds : tie.Need-loop-q-init invariant-loop decreases-loop
+loop-holds c = looked-start (begin c).args.best-1.now c.before.before.set_all.ensures
 
-shade-at-requires : tie.Need-shade-at-requires invariant-loop decreases-loop
+shade-at-requires : tie.Need-shade_at-requires invariant-loop decreases-loop
 shade-at-requires c κs = omega (arith, (st c.before).pre.2.room)
 
 look-requires : tie.Need-look-requires invariant-loop decreases-loop
@@ -51,36 +51,36 @@ look-requires c κs =
     let p = (st l).requires in (
       rw (long l) p.0,
       rw (long l) p.1,
-      rw c.before.shade-at.ensures (shade-within (st l).args.shades.now l.loop.q p.2.low),
+      rw c.before.shade_at.ensures (shade-within (st l).args.shades.now l.loop-q.q p.2.low),
       omega (arith, p.2.few),
     )
 
-add-q : tie.Need-overflow-add-q invariant-loop decreases-loop
+add-q : tie.Need-overflow_add-q invariant-loop decreases-loop
 add-q c =
     let turn = c.before.before.before.before.before in
-    omega (arith, turn.loop-test.true, (st turn.before).pre.2.few)
+    omega (arith, turn.loop-q-test.true, (st turn.before).pre.2.few)
 
-loop-less : tie.Need-loop-smaller invariant-loop decreases-loop
+loop-less : tie.Need-loop-q-smaller invariant-loop decreases-loop
 loop-less c = omega arith
 
-loop-again : tie.Need-loop-preserved invariant-loop decreases-loop
+loop-again : tie.Need-loop-q-preserved invariant-loop decreases-loop
 loop-again c =
     let turn = c.before.before.before.before.before in
-    looked-step turn.before.loop.invariant turn.loop-test.true
-    (rw c.before.before.before.before.shade-at.ensures at c.before.before.look.ensures)
+    looked-step turn.before.loop-q.invariant turn.loop-q-test.true
+    (rw c.before.before.before.before.shade_at.ensures at c.before.before.look.ensures)
 
-same_length : tie.Need-same-length invariant-loop decreases-loop
+same_length : tie.Need-shape_of-best invariant-loop decreases-loop
 same_length c = long c.before
 
 returns : tie.Need-returns invariant-loop decreases-loop
 returns c =
     let l = c.before in
     let p = (st l).requires in
-    looked-done l.loop.invariant c.loop-test.false p.2 p.3 (st l).args.best.now (filled l).set_all.ensures
+    looked-done l.loop-q.invariant c.loop-q-test.false p.2 p.3 (st l).args.best-1.now (filled l).set_all.ensures
     p.1
 
-pub search-points-spec : {M : Type 1} → statement M
-search-points-spec =
+pub search_points_spec : {M : Type 1} → statement M
+search_points_spec =
     tie.close
     (tie.spec
     invariant-loop

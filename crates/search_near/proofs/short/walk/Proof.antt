@@ -15,115 +15,115 @@ use Rattle.search_near.proofs.Walks.{
 use Rattle.search_near.proofs.short.walk.Statement.{statement}
 use Rattle.search_near.proofs.short.walk.Tie as tie
 
-abbrev invariant-loop : tie.invariant-loop
+abbrev invariant-loop : tie.invariant-loop-j
 invariant-loop s k g c p d base limit best₀ j₀ best j = Walked s g k c p best j
 
-abbrev decreases-loop : tie.decreases-loop
+abbrev decreases-loop : tie.decreases-loop-j
 decreases-loop s k g c p d base limit best₀ j₀ best j = k - j
 
 -- where the function begins, from the distance to the former shade
-abbrev st : tie.After-distance-to invariant-loop decreases-loop → tie.Start invariant-loop decreases-loop
+abbrev st : tie.After-distance_to-d invariant-loop decreases-loop → tie.Start invariant-loop decreases-loop
 st c = c.before.before.before
 
 -- that distance, from a turn
-abbrev met : tie.At-loop invariant-loop decreases-loop → tie.After-distance-to invariant-loop decreases-loop
+abbrev met : tie.At-loop-j invariant-loop decreases-loop → tie.After-distance_to-d invariant-loop decreases-loop
 met c = c.before.before.before.before
 
-distance-to-requires : tie.Need-distance-to-requires invariant-loop decreases-loop
+distance-to-requires : tie.Need-distance_to-d-requires invariant-loop decreases-loop
 distance-to-requires c κs =
     let y = c.before.before.requires in
     (omega (arith, y.former, y.shades.room), y.shades.low, y.inside)
 
-mul-base : tie.Need-overflow-mul-base invariant-loop decreases-loop
+mul-base : tie.Need-overflow_mul-base invariant-loop decreases-loop
 mul-base c = let y = (st c).requires in omega (arith, y.former, y.shades.few)
 
-mul-limit : tie.Need-overflow-mul-limit invariant-loop decreases-loop
+mul-limit : tie.Need-overflow_mul-limit invariant-loop decreases-loop
 mul-limit c = omega arith
 
-add-if1 : tie.Need-overflow-add-if1 invariant-loop decreases-loop
+add-if1 : tie.Need-overflow_add-base invariant-loop decreases-loop
 add-if1 c = let y = (st c).requires in omega (arith, y.former, y.shades.few)
 
-mul-if1 : tie.Need-overflow-mul-if1 invariant-loop decreases-loop
+mul-if1 : tie.Need-offset_bounds-rows-base invariant-loop decreases-loop
 mul-if1 c = let y = (st c).requires in omega (arith, y.former, y.shades.few)
 
-shared-slice-read-if1 : tie.Need-shared-slice-read-if1 invariant-loop decreases-loop
+shared-slice-read-if1 : tie.Need-bounds-rows-base invariant-loop decreases-loop
 shared-slice-read-if1 c = let y = (st c.before).pre in omega (arith, y.former, y.rows.room)
 
-cast-t18 : tie.Need-overflow-cast-t18 invariant-loop decreases-loop
+cast-t18 : tie.Need-overflow_cast-result invariant-loop decreases-loop
 cast-t18 c = let y = (st c.before.before).pre in omega (arith, y.former, y.shades.few)
 
-returns : tie.Need-returns invariant-loop decreases-loop
+returns : tie.Need-returns-then-limit-rows invariant-loop decreases-loop
 returns c =
     let at = c.before.before in
-    let d = at.distance-to.ensures.0 in
-    let w = walked-nowhere (st at).requires (rw d at c.if1.true) in
+    let d = at.distance_to-d.ensures.0 in
+    let w = walked-nowhere (st at).requires (rw d at c.if-limit-rows.true) in
     (w.0, (d ∙ w.1.0, w.1.1))
 
-mul-best : tie.Need-overflow-mul-best invariant-loop decreases-loop
+mul-best : tie.Need-overflow_mul-best invariant-loop decreases-loop
 mul-best c = omega arith
 
-mul-best-2 : tie.Need-overflow-mul-best-2 invariant-loop decreases-loop
+mul-best-2 : tie.Need-offset_bounds-rows-base-2 invariant-loop decreases-loop
 mul-best-2 c = let y = (st c.before.before).pre in omega (arith, y.former, y.shades.few)
 
-shared-slice-read-best : tie.Need-shared-slice-read-best invariant-loop decreases-loop
+shared-slice-read-best : tie.Need-bounds-rows-base-2 invariant-loop decreases-loop
 shared-slice-read-best c = let y = (st c.before.before.before).pre in omega (arith, y.former, y.rows.room)
 
-add-best : tie.Need-overflow-add-best invariant-loop decreases-loop
+add-best : tie.Need-overflow_add-best invariant-loop decreases-loop
 add-best c = omega arith
 
-loop-holds : tie.Need-loop-init invariant-loop decreases-loop
+loop-holds : tie.Need-loop-j-init invariant-loop decreases-loop
 loop-holds c =
     let at = c.before.before.before in
-    rw at.distance-to.ensures.0 (walked_start (st at).requires)
+    rw at.distance_to-d.ensures.0 (walked_start (st at).requires)
 
-add-v : tie.Need-overflow-add-v invariant-loop decreases-loop
+add-v : tie.Need-overflow_add-v invariant-loop decreases-loop
 add-v c = let y = (st (met c.before)).pre in omega (arith, y.former, y.shades.few)
 
-mul-v : tie.Need-overflow-mul-v invariant-loop decreases-loop
+mul-v : tie.Need-offset_bounds-rows-base-in-loop-j invariant-loop decreases-loop
 mul-v c = let y = (st (met c.before)).pre in omega (arith, y.former, y.shades.few)
 
-shared-slice-read-v : tie.Need-shared-slice-read-v invariant-loop decreases-loop
+shared-slice-read-v : tie.Need-bounds-rows-base-in-loop-j invariant-loop decreases-loop
 shared-slice-read-v c =
     let y = (st (met c.before.before)).pre in
     omega (arith, y.former, y.shades.few, y.rows.room)
 
-returns-2 : tie.Need-returns-2 invariant-loop decreases-loop
+returns-2 : tie.Need-returns-then-limit-v invariant-loop decreases-loop
 returns-2 c =
     let l = c.before.before.before in
-    walked-stopped (st (met l)).pre l.loop.invariant c.before.before.loop-test.true
-    (rw (met l).distance-to.ensures.0 at c.if2.true)
+    walked-stopped (st (met l)).pre l.loop-j.invariant c.before.before.loop-j-test.true
+    (rw (met l).distance_to-d.ensures.0 at c.if-limit-v.true)
 
-cast-packed : tie.Need-overflow-cast-packed invariant-loop decreases-loop
+cast-packed : tie.Need-overflow_cast-v invariant-loop decreases-loop
 cast-packed c = search rules
 
 packed-requires : tie.Need-packed-requires invariant-loop decreases-loop
 packed-requires c κs =
     let l = c.before.before.before in
     let y = (st (met l)).pre in
-    let h = row_number y l.loop.j c.before.before.loop-test.true in
+    let h = row_number y l.loop-j.j c.before.before.loop-j-test.true in
     (omega (arith, y.shades.room), y.shades.low, y.inside, omega arith)
 
-lesser-requires : tie.Need-lesser-requires invariant-loop decreases-loop
+lesser-requires : tie.Need-lesser-best-requires invariant-loop decreases-loop
 lesser-requires c κs = search rules
 
-add-j : tie.Need-overflow-add-j invariant-loop decreases-loop
+add-j : tie.Need-overflow_add-j invariant-loop decreases-loop
 add-j c = omega arith
 
-loop-less : tie.Need-loop-smaller invariant-loop decreases-loop
+loop-less : tie.Need-loop-j-smaller invariant-loop decreases-loop
 loop-less c = omega arith
 
-loop-again : tie.Need-loop-preserved invariant-loop decreases-loop
+loop-again : tie.Need-loop-j-preserved invariant-loop decreases-loop
 loop-again c =
     let l = c.before.before.before.before.before in
-    rw (c.lesser.ensures, c.before.packed.ensures.0)
-    (walked_step (st (met l)).pre l.loop.invariant c.before.before.before.before.loop-test.true
-    (omega (arith, c.before.before.if2.false, (met l).distance-to.ensures.0)))
+    rw (c.lesser-best.ensures, c.before.packed.ensures.0)
+    (walked_step (st (met l)).pre l.loop-j.invariant c.before.before.before.before.loop-j-test.true
+    (omega (arith, c.before.before.if-limit-v.false, (met l).distance_to-d.ensures.0)))
 
-returns-3 : tie.Need-returns-3 invariant-loop decreases-loop
-returns-3 c = walked_all (st (met c.before)).pre c.before.loop.invariant c.loop-test.false
+returns-3 : tie.Need-returns invariant-loop decreases-loop
+returns-3 c = walked_all (st (met c.before)).pre c.before.loop-j.invariant c.loop-j-test.false
 
-pub walk-spec : {M : Type 1} → statement M
-walk-spec =
+pub walk_spec : {M : Type 1} → statement M
+walk_spec =
     tie.close
     (tie.spec
     invariant-loop

@@ -5,16 +5,16 @@ use Rattle.shades.proofs.Laying.{shade-within}
 use Rattle.shades.proofs.reach.distance_to.Statement.{statement}
 use Rattle.shades.proofs.reach.distance_to.Tie as tie
 
-shade-at-requires : tie.Need-shade-at-requires
+shade-at-requires : tie.Need-shade_at-requires
 shade-at-requires c κs = search rules
 
 distance-requires : tie.Need-distance-requires
 distance-requires c κs =
     let s = c.before.before in
-    (s.requires.2, rw c.shade-at.ensures (shade-within s.args.shades.now s.args.q s.requires.1))
+    (s.requires.2, rw c.shade_at.ensures (shade-within s.args.shades.now s.args.q s.requires.1))
 
 returns : tie.Need-returns
 returns c = (cc, omega arith)
 
-pub distance-to-spec : {M : Type 1} → statement M
-distance-to-spec = tie.close (tie.spec shade-at-requires distance-requires returns)
+pub distance_to_spec : {M : Type 1} → statement M
+distance_to_spec = tie.close (tie.spec shade-at-requires distance-requires returns)

@@ -9,42 +9,42 @@ use Rattle.shades.specs.Tests.{off_grid}
 use Rattle.shades.proofs.test.bad_centre.Statement.{statement}
 use Rattle.shades.proofs.test.bad_centre.Tie as tie
 
-abbrev invariant-loop : tie.invariant-loop
+abbrev invariant-loop : tie.invariant-loop-i
 invariant-loop s n count₀ i₀ count i = Counting n (off_grid s) count i
 
-abbrev decreases-loop : tie.decreases-loop
+abbrev decreases-loop : tie.decreases-loop-i
 decreases-loop s n count₀ i₀ count i = n - i
 
-loop-holds : tie.Need-loop-init invariant-loop decreases-loop
+loop-holds : tie.Need-loop-i-init invariant-loop decreases-loop
 loop-holds c = counting-start _ (off_grid c.before.args.shades.now)
 
-mul-bit : tie.Need-overflow-mul-bit invariant-loop decreases-loop
+mul-bit : tie.Need-offset_bounds-shades-i invariant-loop decreases-loop
 mul-bit c = omega arith
 
-shared-slice-read-bit : tie.Need-shared-slice-read-bit invariant-loop decreases-loop
+shared-slice-read-bit : tie.Need-bounds-shades-i invariant-loop decreases-loop
 shared-slice-read-bit c = omega arith
 
-bit-requires : tie.Need-bit-requires invariant-loop decreases-loop
+bit-requires : tie.Need-bit-count-requires invariant-loop decreases-loop
 bit-requires c κs = search rules
 
-add-count : tie.Need-overflow-add-count invariant-loop decreases-loop
+add-count : tie.Need-overflow_add-count invariant-loop decreases-loop
 add-count c = omega arith
 
-add-i : tie.Need-overflow-add-i invariant-loop decreases-loop
+add-i : tie.Need-overflow_add-i invariant-loop decreases-loop
 add-i c = omega arith
 
-loop-less : tie.Need-loop-smaller invariant-loop decreases-loop
+loop-less : tie.Need-loop-i-smaller invariant-loop decreases-loop
 loop-less c = omega arith
 
-loop-again : tie.Need-loop-preserved invariant-loop decreases-loop
+loop-again : tie.Need-loop-i-preserved invariant-loop decreases-loop
 loop-again c =
-    counting-step c.before.before.before.loop.invariant (omega arith) c.bit.result c.bit.ensures.0
+    counting-step c.before.before.before.loop-i.invariant (omega arith) c.bit-count.result c.bit-count.ensures.0
 
 returns : tie.Need-returns invariant-loop decreases-loop
-returns c = ap (ltb 0) (counting-done c.before.loop.invariant c.loop-test.false)
+returns c = ap (ltb 0) (counting-done c.before.loop-i.invariant c.loop-i-test.false)
 
-pub bad-centre-spec : {M : Type 1} → statement M
-bad-centre-spec =
+pub bad_centre_spec : {M : Type 1} → statement M
+bad_centre_spec =
     tie.close
     (tie.spec
     invariant-loop

@@ -3,11 +3,11 @@ use borrow.Author.Rules.{rules}
 use Rattle.shades.proofs.test.bad_coordinates.Statement.{statement}
 use Rattle.shades.proofs.test.bad_coordinates.Tie as tie
 
-bad-triples-requires : tie.Need-bad-triples-requires
+bad-triples-requires : tie.Need-bad_triples-requires
 bad-triples-requires c κs = search rules
 
 returns : tie.Need-returns
-returns c = c.bad-triples.ensures
+returns c = c.bad_triples.ensures
 
-pub bad-coordinates-spec : {M : Type 1} → statement M
-bad-coordinates-spec = tie.close (tie.spec bad-triples-requires returns)
+pub bad_coordinates_spec : {M : Type 1} → statement M
+bad_coordinates_spec = tie.close (tie.spec bad-triples-requires returns)

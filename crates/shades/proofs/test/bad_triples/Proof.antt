@@ -3,14 +3,14 @@ use borrow.Author.Tests.{lt-ltb, le-ltb}
 use Rattle.shades.proofs.test.bad_triples.Statement.{statement}
 use Rattle.shades.proofs.test.bad_triples.Tie as tie
 
-returns : tie.Need-returns
-returns c = simp (lt-ltb _ _ c.if1.true)
+returns : tie.Need-returns-then-numbers-lt3
+returns c = simp (lt-ltb _ _ c.if-numbers-lt3.true)
 
-returns-2 : tie.Need-returns-2
-returns-2 c = simp (le-ltb _ _ c.before.if1.false, lt-ltb _ _ c.if2.true)
+returns-2 : tie.Need-returns-then-most-numbers
+returns-2 c = simp (le-ltb _ _ c.before.if-numbers-lt3.false, lt-ltb _ _ c.if-most-numbers.true)
 
-returns-3 : tie.Need-returns-3
-returns-3 c = simp (le-ltb _ _ c.before.if1.false, le-ltb _ _ c.if2.false)
+returns-3 : tie.Need-returns
+returns-3 c = simp (le-ltb _ _ c.before.if-numbers-lt3.false, le-ltb _ _ c.if-most-numbers.false)
 
-pub bad-triples-spec : {M : Type 1} → statement M
-bad-triples-spec = tie.close (tie.spec returns returns-2 returns-3)
+pub bad_triples_spec : {M : Type 1} → statement M
+bad_triples_spec = tie.close (tie.spec returns returns-2 returns-3)

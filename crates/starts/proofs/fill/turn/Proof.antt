@@ -23,7 +23,7 @@ use Rattle.starts.proofs.fill.turn.Tie as tie
 
 -- what the call is given
 given : (s : tie.Start)
-    → let a = s.args in Choosing a.keys.now a.used (listed a.base.now) a.q a.p a.d.now
+    → let a = s.args in Choosing a.keys.now a.used (listed a.base.now) a.q a.p a.d-1.now
 given s = record {
   low = listed-within s.args.base.now s.requires.1;
   room = s.requires.3;
@@ -32,89 +32,89 @@ given s = record {
 }
 
 -- where the call begins
-abbrev called : tie.After-lower-kept-arg → tie.Start
+abbrev called : tie.After-lower_kept-arg-1 → tie.Start
 called c = c.before.before.before.before.before
 
-abbrev st : tie.After-lower-kept → tie.Start
+abbrev st : tie.After-lower_kept-far → tie.Start
 st c = called c.before
 
 -- where the distances are lowered, from where the farthest entry is looked for
-abbrev lowered : tie.After-first-of-arg → tie.After-lower-kept
+abbrev lowered : tie.After-first-of-arg → tie.After-lower_kept-far
 lowered c = c.before.before.before.before
 
 -- the place found is that of an entry
-found_below : (c : tie.After-first-of) → c.first_of.result < (st (lowered c.before)).args.used
+found_below : (c : tie.After-first_of-at) → c.first_of-at.result < (st (lowered c.before)).args.used
 found_below c =
     let s = st (lowered c.before) in
-    rw c.first_of.ensures (first_below (λ a b. ltb b a) s.args.used _ s.pre.0.some)
+    rw c.first_of-at.ensures (first_below (λ a b. ltb b a) s.args.used _ s.pre.0.some)
 
-shade-at-requires : tie.Need-shade-at-requires
+shade-at-requires : tie.Need-shade_at-requires
 shade-at-requires c κs =
     let s = c.before.before.before.before in
-    omega (arith, s.requires.2, c.if1.true)
+    omega (arith, s.requires.2, c.if-q-eq0.true)
 
-returns : tie.Need-returns
+returns : tie.Need-returns-then-q-eq0
 returns c =
     let s = c.before.before.before.before.before in
-    let first = c.before.if1.true in (
-      c.shade-at.ensures ∙ choosing-given (given s) (omega (arith, first, s.requires.2)),
+    let first = c.before.if-q-eq0.true in (
+      c.shade_at.ensures ∙ choosing-given (given s) (omega (arith, first, s.requires.2)),
       choosing-first (given s) first,
     )
 
-lower-kept-requires : tie.Need-lower-kept-requires
+lower-kept-requires : tie.Need-lower_kept-far-requires
 lower-kept-requires c κs =
     let s = called c in
     (s.pre.0, choosing-within (given s), s.pre.3)
 
-shade-at-requires-2 : tie.Need-shade-at-requires-2
-shade-at-requires-2 c κs = omega (arith, c.if2.true)
+shade-at-requires-2 : tie.Need-shade_at-requires-then-q-base
+shade-at-requires-2 c κs = omega (arith, c.if-q-base.true)
 
-same_length : tie.Need-same-length
+same_length : tie.Need-shape_of-d-then-q-base
 same_length c = search rules
 
-returns-2 : tie.Need-returns-2
+returns-2 : tie.Need-returns-then-q-base
 returns-2 c =
     let l = c.before.before.before.before in
     let s = st l in (
-      c.shade-at2.ensures ∙ choosing-given (given s) c.before.if2.true,
-      choosing-distances (given s) _ l.lower-kept.ensures.0 l.before.before.if1.false,
+      c.shade_at-then-q-base.ensures ∙ choosing-given (given s) c.before.if-q-base.true,
+      choosing-distances (given s) _ l.lower_kept-far.ensures.0 l.before.before.if-q-eq0.false,
     )
 
-first-of-requires : tie.Need-first-of-requires
+first-of-requires : tie.Need-first_of-at-requires
 first-of-requires c κs =
     let l = lowered c in
     let s = st l in
-    let e = l.lower-kept.ensures.0 in (
+    let e = l.lower_kept-far.ensures.0 in (
       s.pre.0.some,
       choosing-room (given s) _ e,
-      l.lower-kept.ensures.1 ∙ choosing-greatest (given s) _ e,
+      l.lower_kept-far.ensures.1 ∙ choosing-greatest (given s) _ e,
     )
 
-mul-colour-of : tie.Need-overflow-mul-colour-of
+mul-colour-of : tie.Need-offset_bounds-keys-at
 mul-colour-of c =
     let s = st (lowered c.before) in
     omega (arith, s.good, s.pre.0.room, found_below c)
 
-shared-slice-read-colour-of : tie.Need-shared-slice-read-colour-of
+shared-slice-read-colour-of : tie.Need-bounds-keys-at
 shared-slice-read-colour-of c =
     let s = st (lowered c.before.before) in
     omega (arith, s.pre.0.room, found_below c.before)
 
-colour-of-requires : tie.Need-colour-of-requires
+colour-of-requires : tie.Need-colour_of-requires
 colour-of-requires c κs = search rules
 
-same-length-2 : tie.Need-same-length-2
+same-length-2 : tie.Need-shape_of-d
 same-length-2 c = search rules
 
-returns-3 : tie.Need-returns-3
+returns-3 : tie.Need-returns
 returns-3 c =
     let f = c.before.before in
     let l = lowered f.before in
-    let some = l.before.before.if1.left in
+    let some = l.before.before.if-q-eq0.left in
     let s = st l in
-    let e = l.lower-kept.ensures.0 in (
-      c.colour-of.ensures.0 ∙ ap (colour_at s.args.keys.now) f.first_of.ensures
-          ∙ choosing-shade (given s) _ e some f.before.before.if2.false,
+    let e = l.lower_kept-far.ensures.0 in (
+      c.colour_of.ensures.0 ∙ ap (colour_at s.args.keys.now) f.first_of-at.ensures
+          ∙ choosing-shade (given s) _ e some f.before.before.if-q-base.false,
       choosing-distances (given s) _ e some,
     )
 

@@ -6,40 +6,40 @@ use Rattle.starts_far.proofs.Loops.{Bounding, bounding-start, bounding-step, bou
 use Rattle.starts_far.proofs.far.block_peak.Statement.{statement}
 use Rattle.starts_far.proofs.far.block_peak.Tie as tie
 
-abbrev invariant-loop : tie.invariant-loop
+abbrev invariant-loop : tie.invariant-loop-i
 invariant-loop d from end far₀ i₀ far i = Bounding d from end far i
 
-abbrev decreases-loop : tie.decreases-loop
+abbrev decreases-loop : tie.decreases-loop-i
 decreases-loop d from end far₀ i₀ far i = end - i
 
-loop-holds : tie.Need-loop-init invariant-loop decreases-loop
+loop-holds : tie.Need-loop-i-init invariant-loop decreases-loop
 loop-holds c = let s = c.before in bounding-start s.args.d.now s.args.from s.args.end s.requires.0
 
-mul-greater : tie.Need-overflow-mul-greater invariant-loop decreases-loop
+mul-greater : tie.Need-offset_bounds-d-i invariant-loop decreases-loop
 mul-greater c = omega arith
 
-shared-slice-read-greater : tie.Need-shared-slice-read-greater invariant-loop decreases-loop
+shared-slice-read-greater : tie.Need-bounds-d-i invariant-loop decreases-loop
 shared-slice-read-greater c = omega arith
 
-greater-requires : tie.Need-greater-requires invariant-loop decreases-loop
+greater-requires : tie.Need-greater-far-requires invariant-loop decreases-loop
 greater-requires c κs = search rules
 
-add-i : tie.Need-overflow-add-i invariant-loop decreases-loop
+add-i : tie.Need-overflow_add-i invariant-loop decreases-loop
 add-i c = omega arith
 
-loop-less : tie.Need-loop-smaller invariant-loop decreases-loop
+loop-less : tie.Need-loop-i-smaller invariant-loop decreases-loop
 loop-less c = omega arith
 
-loop-again : tie.Need-loop-preserved invariant-loop decreases-loop
+loop-again : tie.Need-loop-i-preserved invariant-loop decreases-loop
 loop-again c =
-    bounding-step c.before.before.before.loop.invariant c.before.before.loop-test.true c.greater.result
-    c.greater.ensures
+    bounding-step c.before.before.before.loop-i.invariant c.before.before.loop-i-test.true c.greater-far.result
+    c.greater-far.ensures
 
 returns : tie.Need-returns invariant-loop decreases-loop
-returns c = bounding-done c.before.loop.invariant c.loop-test.false
+returns c = bounding-done c.before.loop-i.invariant c.loop-i-test.false
 
-pub block-peak-spec : {M : Type 1} → statement M
-block-peak-spec =
+pub block_peak_spec : {M : Type 1} → statement M
+block_peak_spec =
     tie.close
     (tie.spec
     invariant-loop

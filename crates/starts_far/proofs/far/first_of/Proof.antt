@@ -12,62 +12,62 @@ use Rattle.number.proofs.Searches.{below-or-last, first_below}
 use Rattle.starts_far.proofs.far.first_of.Statement.{statement}
 use Rattle.starts_far.proofs.far.first_of.Tie as tie
 
-abbrev invariant-loop : tie.invariant-loop
+abbrev invariant-loop : tie.invariant-loop-i
 invariant-loop d used far i₀ i = (i ≤ used) × ((j : ℕ) → j < i → get_or d j 0 < far)
 
-abbrev decreases-loop : tie.decreases-loop
+abbrev decreases-loop : tie.decreases-loop-i
 decreases-loop d used far i₀ i = used - i
 
-skip-blocks-requires : tie.Need-skip-blocks-requires invariant-loop decreases-loop
+skip-blocks-requires : tie.Need-skip_blocks-i-requires invariant-loop decreases-loop
 skip-blocks-requires c κs = search rules
 
-loop-holds : tie.Need-loop-init invariant-loop decreases-loop
-loop-holds c = c.skip-blocks.ensures
+loop-holds : tie.Need-loop-i-init invariant-loop decreases-loop
+loop-holds c = c.skip_blocks-i.ensures
 
-mul-if1 : tie.Need-overflow-mul-if1 invariant-loop decreases-loop
+mul-if1 : tie.Need-offset_bounds-d-i invariant-loop decreases-loop
 mul-if1 c = omega arith
 
-shared-slice-read-if1 : tie.Need-shared-slice-read-if1 invariant-loop decreases-loop
+shared-slice-read-if1 : tie.Need-bounds-d-i invariant-loop decreases-loop
 shared-slice-read-if1 c = omega arith
 
-returns : tie.Need-returns invariant-loop decreases-loop
+returns : tie.Need-returns-then-d-i invariant-loop decreases-loop
 returns c =
     let l = c.before.before.before in
     let s = l.before.before.before in
     let f : ℕ → ℕ = λ i. get_or s.args.d.now i 0 in
     let e = s.requires.2 in
-    first-peak-is-most _ _ f c.before.before.loop-test.true (c.if1.true ∙ e)
-    (λ j h. rw e at (l.loop.invariant.1 j h))
+    first-peak-is-most _ _ f c.before.before.loop-i-test.true (c.if-d-i.true ∙ e)
+    (λ j h. rw e at (l.loop-i.invariant.1 j h))
 
-add-i : tie.Need-overflow-add-i invariant-loop decreases-loop
+add-i : tie.Need-overflow_add-i invariant-loop decreases-loop
 add-i c = omega arith
 
-loop-less : tie.Need-loop-smaller invariant-loop decreases-loop
+loop-less : tie.Need-loop-i-smaller invariant-loop decreases-loop
 loop-less c = omega arith
 
-loop-again : tie.Need-loop-preserved invariant-loop decreases-loop
+loop-again : tie.Need-loop-i-preserved invariant-loop decreases-loop
 loop-again c =
     let l = c.before.before.before in
     let s = l.before.before.before in
     let f : ℕ → ℕ = λ i. get_or s.args.d.now i 0 in
-    let i = l.loop.i in
-    let low = peak-at-least s.args.used i f c.before.before.loop-test.true in
+    let i = l.loop-i.i in
+    let low = peak-at-least s.args.used i f c.before.before.loop-i-test.true in
     let h : f i ≤ s.args.far = rw s.requires.2 low in (
       omega arith,
-      λ j k. ⊎_elim (λ o. l.loop.invariant.1 j o) (λ z. rw z (omega (arith, c.if1.false))) (below-or-last i j k),
+      λ j k. ⊎_elim (λ o. l.loop-i.invariant.1 j o) (λ z. rw z (omega (arith, c.if-d-i.false))) (below-or-last i j k),
     )
 
-returns-2 : tie.Need-returns-2 invariant-loop decreases-loop
+returns-2 : tie.Need-returns invariant-loop decreases-loop
 returns-2 c =
     let s = c.before.before.before.before in
     let f : ℕ → ℕ = λ i. get_or s.args.d.now i 0 in
     let n = s.args.used in
     let low = first_below (λ a b. ltb b a) n f s.requires.0 in
-    let less = c.before.loop.invariant.1 (most n f) (omega arith) in
+    let less = c.before.loop-i.invariant.1 (most n f) (omega arith) in
     absurd (omega (arith, most-is-peak n f s.requires.0, s.requires.2))
 
-pub first-of-spec : {M : Type 1} → statement M
-first-of-spec =
+pub first_of_spec : {M : Type 1} → statement M
+first_of_spec =
     tie.close
     (tie.spec
     invariant-loop

@@ -8,82 +8,82 @@ use Rattle.starts_far.proofs.Loops.{Lowering, lowering-start, lowering-room, low
 use Rattle.starts_far.proofs.far.lower_kept.Statement.{statement}
 use Rattle.starts_far.proofs.far.lower_kept.Tie as tie
 
-abbrev invariant-loop : tie.invariant-loop
+abbrev invariant-loop : tie.invariant-loop-i
 invariant-loop keys used p d₀ far₀ i₀ d far i = Lowering keys used p d₀ d far i
 
-abbrev decreases-loop : tie.decreases-loop
+abbrev decreases-loop : tie.decreases-loop-i
 decreases-loop keys used p d₀ far₀ i₀ d far i = used - i
 
 -- where the function begins, from where the loop is
-abbrev st : tie.At-loop invariant-loop decreases-loop → tie.Start invariant-loop decreases-loop
+abbrev st : tie.At-loop-i invariant-loop decreases-loop → tie.Start invariant-loop decreases-loop
 st c = c.before.before.before
 
 -- the loop, from where the entry's distance is worked out
-abbrev turn : tie.After-distance invariant-loop decreases-loop → tie.At-loop invariant-loop decreases-loop
+abbrev turn : tie.After-distance-x invariant-loop decreases-loop → tie.At-loop-i invariant-loop decreases-loop
 turn c = c.before.before.before.before
 
 -- where it is, from where the lesser of both is taken
-abbrev measured : tie.After-lesser invariant-loop decreases-loop → tie.After-distance invariant-loop decreases-loop
+abbrev measured : tie.After-lesser-y invariant-loop decreases-loop → tie.After-distance-x invariant-loop decreases-loop
 measured c = c.before.before
 
-loop-holds : tie.Need-loop-init invariant-loop decreases-loop
+loop-holds : tie.Need-loop-i-init invariant-loop decreases-loop
 loop-holds c = let a = c.before.before.args in lowering-start a.keys.now a.used a.p a.d.now
 
-mul-colour-of : tie.Need-overflow-mul-colour-of invariant-loop decreases-loop
+mul-colour-of : tie.Need-offset_bounds-keys-i invariant-loop decreases-loop
 mul-colour-of c = omega arith
 
-shared-slice-read-colour-of : tie.Need-shared-slice-read-colour-of invariant-loop decreases-loop
+shared-slice-read-colour-of : tie.Need-bounds-keys-i invariant-loop decreases-loop
 shared-slice-read-colour-of c = omega arith
 
-colour-of-requires : tie.Need-colour-of-requires invariant-loop decreases-loop
+colour-of-requires : tie.Need-colour_of-requires invariant-loop decreases-loop
 colour-of-requires c κs = search rules
 
-distance-requires : tie.Need-distance-requires invariant-loop decreases-loop
-distance-requires c κs = (c.colour-of.ensures.1, (st c.before.before.before).pre.1)
+distance-requires : tie.Need-distance-x-requires invariant-loop decreases-loop
+distance-requires c κs = (c.colour_of.ensures.1, (st c.before.before.before).pre.1)
 
-mul-lesser : tie.Need-overflow-mul-lesser invariant-loop decreases-loop
+mul-lesser : tie.Need-offset_bounds-d-i invariant-loop decreases-loop
 mul-lesser c = omega arith
 
-slice-read-lesser : tie.Need-slice-read-lesser invariant-loop decreases-loop
-slice-read-lesser c = rw (lowering-room (turn c.before).loop.inv) (omega arith)
+slice-read-lesser : tie.Need-bounds-d-i invariant-loop decreases-loop
+slice-read-lesser c = rw (lowering-room (turn c.before).loop-i.inv) (omega arith)
 
-lesser-requires : tie.Need-lesser-requires invariant-loop decreases-loop
+lesser-requires : tie.Need-lesser-y-requires invariant-loop decreases-loop
 lesser-requires c κs = search rules
 
-mul-d : tie.Need-overflow-mul-d invariant-loop decreases-loop
+mul-d : tie.Need-offset_bounds-d-i-in-loop-i invariant-loop decreases-loop
 mul-d c = omega arith
 
-slice-write-d : tie.Need-slice-write-d invariant-loop decreases-loop
-slice-write-d c = rw (lowering-room (turn (measured c)).loop.inv) (omega arith)
+slice-write-d : tie.Need-bounds-d-i-in-loop-i invariant-loop decreases-loop
+slice-write-d c = rw (lowering-room (turn (measured c)).loop-i.inv) (omega arith)
 
-greater-requires : tie.Need-greater-requires invariant-loop decreases-loop
+greater-requires : tie.Need-greater-far-requires invariant-loop decreases-loop
 greater-requires c κs = search rules
 
-add-i : tie.Need-overflow-add-i invariant-loop decreases-loop
+add-i : tie.Need-overflow_add-i invariant-loop decreases-loop
 add-i c = omega arith
 
-loop-less : tie.Need-loop-smaller invariant-loop decreases-loop
+loop-less : tie.Need-loop-i-smaller invariant-loop decreases-loop
 loop-less c = omega arith
 
-loop-again : tie.Need-loop-preserved invariant-loop decreases-loop
+loop-again : tie.Need-loop-i-preserved invariant-loop decreases-loop
 loop-again c =
     let y = c.before in
     let x = measured y in
     let l = turn x in
-    lowering-step l.loop.inv (omega arith) (omega arith) x.distance.result y.lesser.result
-    c.greater.result
-    (x.distance.ensures.0
-    ∙ ap (λ q. distance q (st l).args.p) x.before.colour-of.ensures.0)
-    y.lesser.ensures c.greater.ensures
+    lowering-step l.loop-i.inv (omega arith) (omega arith) x.distance-x.result y.lesser-y.result
+    c.greater-far.result
+    (x.distance-x.ensures.0
+    ∙ ap (λ q. distance q (st l).args.p) x.before.colour_of.ensures.0)
+    y.lesser-y.ensures c.greater-far.ensures
 
-same_length : tie.Need-same-length invariant-loop decreases-loop
-same_length c = lowering-room c.before.loop.invariant
+same_length : tie.Need-shape_of-d invariant-loop decreases-loop
+same_length c = lowering-room c.before.loop-i.invariant
 
 returns : tie.Need-returns invariant-loop decreases-loop
-returns c = lowering-done c.before.loop.invariant c.loop-test.false
+returns c = lowering-done c.before.loop-i.invariant c.loop-i-test.false
 
-pub lower-kept-spec : {M : Type 1} → statement M
-lower-kept-spec =
+pub lower_kept_spec : {M : Type 1} → statement M
+lower_kept_spec =
     tie.close
     (tie.spec
     invariant-loop

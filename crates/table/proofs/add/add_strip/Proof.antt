@@ -24,61 +24,61 @@ use Rattle.table.proofs.add.add_strip.Statement.{statement}
 use Rattle.table.proofs.add.add_strip.Tie as tie
 
 -- past the test of the strip, once the table is tested
-abbrev past : tie.After-bad-table → tie.Else1
+abbrev past : tie.After-bad_table → tie.Else-strip-ne0
 past c = c.before.before.before
 
 -- after the test of the table: the entry, the record, the slices, and what the strip's test said
-abbrev st : tie.After-bad-table → tie.Start
+abbrev st : tie.After-bad_table → tie.Start
 st c = (past c).before.before.before.before
 
-abbrev rec' : tie.After-bad-table → Record
+abbrev rec' : tie.After-bad_table → Record
 rec' c = (st c).args.rec
 
-abbrev ks : tie.After-bad-table → List ℕ
-ks c = (st c).args.keys.now
+abbrev ks : tie.After-bad_table → List ℕ
+ks c = (st c).args.keys-1.now
 
-abbrev ws : tie.After-bad-table → List ℕ
-ws c = (st c).args.weights.now
+abbrev ws : tie.After-bad_table → List ℕ
+ws c = (st c).args.weights-1.now
 
-abbrev s : tie.After-bad-table → List ℕ
+abbrev s : tie.After-bad_table → List ℕ
 s c = (st c).args.strip.now
 
-whole : (c : tie.After-bad-table) → length (s c) % 3 ≡ 0
-whole c = (past c).if1.false
+whole : (c : tie.After-bad_table) → length (s c) % 3 ≡ 0
+whole c = (past c).if-strip-ne0.false
 
 -- the table is good
-is-good : (c : tie.Else2) → bad_table (rec' c.before) (ks c.before) (ws c.before) ≡ false
-is-good c = sym c.before.bad-table.ensures ∙ c.if2.false
+is-good : (c : tie.Else-bad_table) → bad_table (rec' c.before) (ks c.before) (ws c.before) ≡ false
+is-good c = sym c.before.bad_table.ensures ∙ c.if-bad_table.false
 
-table : (c : tie.Else2) → Good (rec' c.before) (ks c.before) (ws c.before)
+table : (c : tie.Else-bad_table) → Good (rec' c.before) (ks c.before) (ws c.before)
 table c = good-of-test _ _ _ (is-good c)
 
-room-is : (c : tie.After-room-of) → c.room_of.result ≡ room_of (ks c.before.before) (ws c.before.before)
-room-is c = c.room_of.ensures
+room-is : (c : tie.After-room_of-room) → c.room_of-room.result ≡ room_of (ks c.before.before) (ws c.before.before)
+room-is c = c.room_of-room.ensures
 
 -- after the strip
-abbrev roomed : tie.After-take-strip → tie.After-room-of
+abbrev roomed : tie.After-take_strip-took → tie.After-room_of-room
 roomed c = c.before.before.before
 
-abbrev tested : tie.After-take-strip → tie.After-bad-table
+abbrev tested : tie.After-take_strip-took → tie.After-bad_table
 tested c = (roomed c).before.before
 
 -- what `take_strip` left, once its slices are known
-abbrev taken : tie.After-slice-known4 → tie.After-take-strip
+abbrev taken : tie.After-slice_known-4-1 → tie.After-take_strip-took
 taken c = c.before.before.before.before
 
 -- the same from where the record's parts are known
-abbrev known : tie.After-struct-known6 → tie.After-slice-known4
+abbrev known : tie.After-struct_known-6-1 → tie.After-slice_known-4-1
 known c = c.before.before.before.before.before.before
 
-took : (c : tie.After-take-strip)
+took : (c : tie.After-take_strip-took)
     → TookMeets (room_of (ks (tested c)) (ws (tested c)))
     (entries (rec' (tested c)).used (ks (tested c)) (ws (tested c)))
-    (strip_keys (s (tested c))) (ks (tested c)) (ws (tested c)) c.take-strip.result.used
-    c.take-strip.result.taken c.take-strip.result.sums c.take-strip.new.0 c.take-strip.new.1.0
-took c = rw (room-is (roomed c)) at c.take-strip.ensures
+    (strip_keys (s (tested c))) (ks (tested c)) (ws (tested c)) c.take_strip-took.result.used
+    c.take_strip-took.result.taken c.take_strip-took.result.sums c.take_strip-took.new.keys c.take_strip-took.new.weights
+took c = rw (room-is (roomed c)) at c.take_strip-took.ensures
 
-small : (c : tie.After-take-strip) → c.take-strip.result.taken ≤ length (s (tested c)) / 3
+small : (c : tie.After-take_strip-took) → c.take_strip-took.result.taken ≤ length (s (tested c)) / 3
 small c =
     taken-small (rec' (tested c)) (ks (tested c)) (ws (tested c)) (s (tested c)) (whole (tested c))
     (is-good (roomed c).before) (took c)
@@ -86,36 +86,36 @@ small c =
 refused-requires : tie.Need-refused-requires
 refused-requires c κs = search rules
 
-returns : tie.Need-returns
+returns : tie.Need-returns-then-strip-ne0
 returns c =
     let i = c.before in
     let t = i.before.before.before.before in
-    meets-bad-strip t.args.rec t.args.keys.now t.args.weights.now t.args.strip.now i.if1.true
+    meets-bad-strip t.args.rec t.args.keys-1.now t.args.weights-1.now t.args.strip.now i.if-strip-ne0.true
     c.refused.ensures
 
-bad-table-requires : tie.Need-bad-table-requires
+bad-table-requires : tie.Need-bad_table-requires
 bad-table-requires c κs = search rules
 
-refused-requires-2 : tie.Need-refused-requires-2
+refused-requires-2 : tie.Need-refused-requires-then-bad_table
 refused-requires-2 c κs = search rules
 
-same_length : tie.Need-same-length
+same_length : tie.Need-shape_of-keys-then-bad_table
 same_length c = search rules
 
-same-length-2 : tie.Need-same-length-2
+same-length-2 : tie.Need-shape_of-weights-then-bad_table
 same-length-2 c = search rules
 
-returns-2 : tie.Need-returns-2
+returns-2 : tie.Need-returns-then-bad_table
 returns-2 c =
     let i = c.before in
     let g = i.before in
-    meets-bad-table (rec' g) (ks g) (ws g) (s g) (whole g) (sym g.bad-table.ensures ∙ i.if2.true)
-    c.refused2.ensures
+    meets-bad-table (rec' g) (ks g) (ws g) (s g) (whole g) (sym g.bad_table.ensures ∙ i.if-bad_table.true)
+    c.refused-then-bad_table.ensures
 
-room-of-requires : tie.Need-room-of-requires
+room-of-requires : tie.Need-room_of-room-requires
 room-of-requires c κs = search rules
 
-take-strip-requires : tie.Need-take-strip-requires
+take-strip-requires : tie.Need-take_strip-took-requires
 take-strip-requires c κs =
     let r = c.before.before in
     let g = r.before.before in
@@ -129,65 +129,65 @@ take-strip-requires c κs =
       ((ap (λ (x : Record). x.pixels) t.is, t.most), omega (arith, whole g)),
     )
 
-add-t25 : tie.Need-overflow-add-t25
+add-t25 : tie.Need-overflow_add-after
 add-t25 c =
     let a = taken c in
     omega (arith, small a, (table (roomed a).before).most, st (tested a))
 
 -- the sums of the pixels taken and those of the table before are such as a table may have
-sums-low : (c : tie.After-take-strip) → SumsLow c.take-strip.result.sums
+sums-low : (c : tie.After-take_strip-took) → SumsLow c.take_strip-took.result.sums
 sums-low c =
     taken-sums-low (rec' (tested c)) (ks (tested c)) (ws (tested c)) (s (tested c)) (whole (tested c))
     (is-good (roomed c).before) (took c)
 
-before-low : (c : tie.After-take-strip) → (let r = rec' (tested c) in
+before-low : (c : tie.After-take_strip-took) → (let r = rec' (tested c) in
     (r.red ≤ most_sum) × (r.green ≤ most_sum) × (r.blue ≤ most_sum))
 before-low c =
     let g = table (roomed c).before in
     let l = sums-at-most (table-of-good _ _ _ g) in
     (omega (arith, l.0, g.most), omega (arith, l.1, g.most), omega (arith, l.2, g.most))
 
-add-t26 : tie.Need-overflow-add-t26
+add-t26 : tie.Need-overflow_add-after-2
 add-t26 c =
     let a = taken c.before.before in
     omega (arith, (sums-low a).red_low, (before-low a).0)
 
-add-t27 : tie.Need-overflow-add-t27
+add-t27 : tie.Need-overflow_add-after-3
 add-t27 c =
     let a = taken c.before.before.before.before in
     omega (arith, (sums-low a).green_low, (before-low a).1)
 
-add-t28 : tie.Need-overflow-add-t28
+add-t28 : tie.Need-overflow_add-after-4
 add-t28 c =
     let a = taken c.before.before.before.before.before.before in
     omega (arith, (sums-low a).blue_low, (before-low a).2)
 
-same-length-3 : tie.Need-same-length-3
+same-length-3 : tie.Need-shape_of-keys-then-taken-count
 same-length-3 c = search rules
 
-same-length-4 : tie.Need-same-length-4
+same-length-4 : tie.Need-shape_of-weights-then-taken-count
 same-length-4 c = search rules
 
-returns-3 : tie.Need-returns-3
+returns-3 : tie.Need-returns-then-taken-count
 returns-3 c =
     let a = taken (known c.before) in
     let g = tested a in
-    meets-full (rec' g) (ks g) (ws g) (s g) (whole g) (is-good (roomed a).before) (took a) c.if3.true
+    meets-full (rec' g) (ks g) (ws g) (s g) (whole g) (is-good (roomed a).before) (took a) c.if-taken-count.true
 
-same-length-5 : tie.Need-same-length-5
+same-length-5 : tie.Need-shape_of-keys
 same-length-5 c = search rules
 
-same-length-6 : tie.Need-same-length-6
+same-length-6 : tie.Need-shape_of-weights
 same-length-6 c = search rules
 
-returns-4 : tie.Need-returns-4
+returns-4 : tie.Need-returns
 returns-4 c =
     let a = taken (known c.before) in
     let g = tested a in
-    meets-done (rec' g) (ks g) (ws g) (s g) (whole g) (is-good (roomed a).before) (took a) c.if3.false
+    meets-done (rec' g) (ks g) (ws g) (s g) (whole g) (is-good (roomed a).before) (took a) c.if-taken-count.false
 
-pub add-strip-spec : {M : Type 1} → statement M
-add-strip-spec =
+pub add_strip_spec : {M : Type 1} → statement M
+add_strip_spec =
     tie.close
     (tie.spec
     refused-requires

@@ -11,47 +11,47 @@ use Rattle.table_add.proofs.chunk.add_one.Statement.{statement}
 use Rattle.table_add.proofs.chunk.add_one.Tie as tie
 
 -- with the key known: the entry, the piece
-abbrev st : tie.After-key-at → tie.Start
+abbrev st : tie.After-key_at-key → tie.Start
 st c = c.before.before.before.before
 
-one : (c : tie.After-key-at)
+one : (c : tie.After-key_at-key)
     → piece (st c).args.strip.now (st c).args.from 1 ≡ key_at (st c).args.strip.now (3 * (st c).args.from) ∷ []
 one c = strip-one (st c).args.from (st c).args.strip.now (st c).requires.bytes
 
-mul-key-at : tie.Need-overflow-mul-key-at
+mul-key-at : tie.Need-overflow_mul-from
 mul-key-at c = omega (arith, c.before.before.before.requires.bytes)
 
-key-at-requires : tie.Need-key-at-requires
+key-at-requires : tie.Need-key_at-key-requires
 key-at-requires c κs = omega (arith, c.before.before.before.requires.bytes)
 
-add-pixel-requires : tie.Need-add-pixel-requires
+add-pixel-requires : tie.Need-add_pixel-next-requires
 add-pixel-requires c κs =
     let s = st c.before.before in (s.pre.table, omega (arith, s.pre.total))
 
-pixel-sums-requires : tie.Need-pixel-sums-requires
+pixel-sums-requires : tie.Need-pixel_sums-requires
 pixel-sums-requires c κs = search rules
 
-same_length : tie.Need-same-length
+same_length : tie.Need-shape_of-keys
 same_length c = search rules
 
-same-length-2 : tie.Need-same-length-2
+same-length-2 : tie.Need-shape_of-weights
 same-length-2 c = search rules
 
 returns : tie.Need-returns
 returns c =
     let a = c.before.before.before.before.before in
     let t = a.before.before.before in
-    let k = t.key-at.ensures.0 in record {
+    let k = t.key_at-key.ensures.0 in record {
       some = omega arith;
       within = omega arith;
-      used_is = rw (one t) (rw k at a.add-pixel.ensures.0);
-      sums_are = rw (one t) (rw k at c.pixel-sums.ensures);
-      keys_are = rw (one t) (rw k at a.add-pixel.ensures.1.0);
-      weights_are = rw (one t) (rw k at a.add-pixel.ensures.1.1);
+      used_is = rw (one t) (rw k at a.add_pixel-next.ensures.0);
+      sums_are = rw (one t) (rw k at c.pixel_sums.ensures);
+      keys_are = rw (one t) (rw k at a.add_pixel-next.ensures.1.0);
+      weights_are = rw (one t) (rw k at a.add_pixel-next.ensures.1.1);
     }
 
-pub add-one-spec : {M : Type 1} → statement M
-add-one-spec =
+pub add_one_spec : {M : Type 1} → statement M
+add_one_spec =
     tie.close
     (tie.spec
     mul-key-at

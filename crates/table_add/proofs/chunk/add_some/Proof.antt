@@ -5,17 +5,17 @@ use Rattle.table_add.proofs.chunk.add_some.Statement.{statement}
 use Rattle.table_add.proofs.chunk.add_some.Tie as tie
 
 -- with what is known of the slices: the entry
-abbrev st : tie.After-shared-slice-known → tie.Start
+abbrev st : tie.After-shared_slice_known-1 → tie.Start
 st c = c.before.before.before
 
 -- past the test of few pixels, with two short lists, and with two long ones
-abbrev short : tie.After-other → tie.Else1
+abbrev short : tie.After-other-1 → tie.Else-most-lt32
 short c = c.before.before.before.before.before
 
-abbrev long : tie.After-other3 → tie.Else1
+abbrev long : tie.After-other-2-1 → tie.Else-most-lt32
 long c = c.before.before.before.before.before
 
-add-one-requires : tie.Need-add-one-requires
+add-one-requires : tie.Need-add_one-requires
 add-one-requires c κs =
     let p = (st c.before.before.before).requires in record {
       table = p.table;
@@ -24,16 +24,16 @@ add-one-requires c κs =
       bytes = omega (arith, p.bytes, p.some);
     }
 
-same_length : tie.Need-same-length
+same_length : tie.Need-shape_of-keys-then-most-lt32
 same_length c = search rules
 
-same-length-2 : tie.Need-same-length-2
+same-length-2 : tie.Need-shape_of-weights-then-most-lt32
 same-length-2 c = search rules
 
-returns : tie.Need-returns
+returns : tie.Need-returns-then-most-lt32
 returns c =
     let a = c.before.before.before.before in
-    let e = a.add-one.ensures in record {
+    let e = a.add_one.ensures in record {
       some = e.some;
       within = omega (arith, e.within, (st a.before.before.before.before).requires.some);
       used_is = e.used_is;
@@ -42,44 +42,44 @@ returns c =
       weights_are = e.weights_are;
     }
 
-slice-aggregate-add-chunk : tie.Need-slice-aggregate-add-chunk
+slice-aggregate-add-chunk : tie.Need-slice_bounds-add_chunk-end
 slice-aggregate-add-chunk c = search rules
 
-slice-aggregate-add-chunk-2 : tie.Need-slice-aggregate-add-chunk-2
+slice-aggregate-add-chunk-2 : tie.Need-slice_bounds-add_chunk-end-then-most-le4096
 slice-aggregate-add-chunk-2 c = search rules
 
-add-chunk-requires : tie.Need-add-chunk-requires
+add-chunk-requires : tie.Need-add_chunk-requires
 add-chunk-requires c κs = ((st (short c).before).requires, (omega arith, omega arith, omega arith))
 
-same-length-3 : tie.Need-same-length-3
+same-length-3 : tie.Need-shape_of-keys-then-most-le4096
 same-length-3 c = search rules
 
-same-length-4 : tie.Need-same-length-4
+same-length-4 : tie.Need-shape_of-weights-then-most-le4096
 same-length-4 c = search rules
 
-returns-2 : tie.Need-returns-2
+returns-2 : tie.Need-returns-then-most-le4096
 returns-2 c = search rules
 
-slice-aggregate-add-chunk-3 : tie.Need-slice-aggregate-add-chunk-3
+slice-aggregate-add-chunk-3 : tie.Need-slice_bounds-add_chunk-end-2
 slice-aggregate-add-chunk-3 c = search rules
 
-slice-aggregate-add-chunk-4 : tie.Need-slice-aggregate-add-chunk-4
+slice-aggregate-add-chunk-4 : tie.Need-slice_bounds-add_chunk-end-3
 slice-aggregate-add-chunk-4 c = search rules
 
-add-chunk-requires-2 : tie.Need-add-chunk-requires-2
+add-chunk-requires-2 : tie.Need-add_chunk-requires-2
 add-chunk-requires-2 c κs = ((st (long c).before).requires, (omega arith, omega arith, omega arith))
 
-same-length-5 : tie.Need-same-length-5
+same-length-5 : tie.Need-shape_of-keys
 same-length-5 c = search rules
 
-same-length-6 : tie.Need-same-length-6
+same-length-6 : tie.Need-shape_of-weights
 same-length-6 c = search rules
 
-returns-3 : tie.Need-returns-3
+returns-3 : tie.Need-returns
 returns-3 c = search rules
 
-pub add-some-spec : {M : Type 1} → statement M
-add-some-spec =
+pub add_some_spec : {M : Type 1} → statement M
+add_some_spec =
     tie.close
     (tie.spec
     add-one-requires

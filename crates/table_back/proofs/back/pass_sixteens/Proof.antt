@@ -7,36 +7,36 @@ use Rattle.table_back.proofs.back.Sixteens.{Passing, passing-start, passing_step
 use Rattle.table_back.proofs.back.pass_sixteens.Statement.{statement}
 use Rattle.table_back.proofs.back.pass_sixteens.Tie as tie
 
-abbrev invariant-loop : tie.invariant-loop
+abbrev invariant-loop : tie.invariant-loop-left
 invariant-loop keys i key left₀ left = Passing keys i key left
 
-abbrev decreases-loop : tie.decreases-loop
+abbrev decreases-loop : tie.decreases-loop-left
 decreases-loop keys i key left₀ left = left
 
-loop-holds : tie.Need-loop-init invariant-loop decreases-loop
+loop-holds : tie.Need-loop-left-init invariant-loop decreases-loop
 loop-holds c = passing-start c.before.args.keys.now c.before.args.i c.before.args.key
 
 far-requires : tie.Need-far-requires invariant-loop decreases-loop
-far-requires c κs = omega (arith, c.loop.invariant.left_is)
+far-requires c κs = omega (arith, c.loop-left.invariant.left_is)
 
 -- the sixteen are there
-there : (c : tie.Then1 invariant-loop decreases-loop) → 16 ≤ c.before.before.loop.left
+there : (c : tie.In-loop-left invariant-loop decreases-loop) → 16 ≤ c.before.before.loop-left.left
 there c = let s = c.before.before.before.before.args in
-    (sixteen-there s.keys.now c.before.before.loop.left s.key
-    (sym c.before.far.ensures ∙ c.if1.true)).0
+    (sixteen-there s.keys.now c.before.before.loop-left.left s.key
+    (sym c.before.far.ensures ∙ c.loop-left-test.true)).0
 
-sub-left : tie.Need-overflow-sub-left invariant-loop decreases-loop
+sub-left : tie.Need-overflow_sub-left invariant-loop decreases-loop
 sub-left c = there c
 
-loop-less : tie.Need-loop-smaller invariant-loop decreases-loop
+loop-less : tie.Need-loop-left-smaller invariant-loop decreases-loop
 loop-less c = omega (arith, there c)
 
-loop-again : tie.Need-loop-preserved invariant-loop decreases-loop
-loop-again c = passing_step c.before.before.loop.invariant (sym c.before.far.ensures ∙ c.if1.true)
+loop-again : tie.Need-loop-left-preserved invariant-loop decreases-loop
+loop-again c = passing_step c.before.before.loop-left.invariant (sym c.before.far.ensures ∙ c.loop-left-test.true)
 
 returns : tie.Need-returns invariant-loop decreases-loop
-returns c = passing-done c.before.before.loop.invariant (sym c.before.far.ensures ∙ c.if1.false)
+returns c = passing-done c.before.before.loop-left.invariant (sym c.before.far.ensures ∙ c.loop-left-test.false)
 
-pub pass-sixteens-spec : {M : Type 1} → statement M
-pass-sixteens-spec =
+pub pass_sixteens_spec : {M : Type 1} → statement M
+pass_sixteens_spec =
     tie.close (tie.spec invariant-loop decreases-loop loop-holds far-requires sub-left loop-less loop-again returns)

@@ -18,146 +18,146 @@ use Rattle.table_channels.proofs.channels.Adding.{
 use Rattle.table_channels.proofs.channels.streak_sums.Statement.{statement}
 use Rattle.table_channels.proofs.channels.streak_sums.Tie as tie
 
-abbrev invariant-loop : tie.invariant-loop
+abbrev invariant-loop : tie.invariant-loop-i
 invariant-loop list len red₀ green₀ blue₀ i₀ red green blue i = Adding list len red green blue i
 
-abbrev decreases-loop : tie.decreases-loop
+abbrev decreases-loop : tie.decreases-loop-i
 decreases-loop list len red₀ green₀ blue₀ i₀ red green blue i = len - i
 
 -- with the pixels of a streak known: its key, the turn, and where the function began
-abbrev keyed : tie.After-streak-pixels invariant-loop decreases-loop → tie.After-streak-key invariant-loop decreases-loop
+abbrev keyed : tie.After-streak_pixels-pixels invariant-loop decreases-loop → tie.After-streak_key-key invariant-loop decreases-loop
 keyed c = c.before.before
 
-abbrev turn : tie.After-streak-pixels invariant-loop decreases-loop → tie.In-loop invariant-loop decreases-loop
+abbrev turn : tie.After-streak_pixels-pixels invariant-loop decreases-loop → tie.In-loop-i invariant-loop decreases-loop
 turn c = c.before.before.before.before
 
-abbrev st : tie.At-loop invariant-loop decreases-loop → tie.Start invariant-loop decreases-loop
+abbrev st : tie.At-loop-i invariant-loop decreases-loop → tie.Start invariant-loop decreases-loop
 st c = c.before.before
 
-abbrev streak : tie.After-streak-pixels invariant-loop decreases-loop → ℕ
-streak c = get_or (st (turn c).before).args.list.now (turn c).before.loop.i 0
+abbrev streak : tie.After-streak_pixels-pixels invariant-loop decreases-loop → ℕ
+streak c = get_or (st (turn c).before).args.list.now (turn c).before.loop-i.i 0
 
 -- its pixels times a level of its key are what it adds to that channel
-adds : (c : tie.After-streak-pixels invariant-loop decreases-loop) (f : ℕ → ℕ) (level : ℕ)
-    → level ≡ f (keyed c).streak-key.result → c.streak-pixels.result * level ≡ streak_sum f (streak c)
+adds : (c : tie.After-streak_pixels-pixels invariant-loop decreases-loop) (f : ℕ → ℕ) (level : ℕ)
+    → level ≡ f (keyed c).streak_key-key.result → c.streak_pixels-pixels.result * level ≡ streak_sum f (streak c)
 adds c f level e =
-    ap₂ (λ (n k : ℕ). n * k) c.streak-pixels.ensures.0 (e ∙ ap f (keyed c).streak-key.ensures.0)
+    ap₂ (λ (n k : ℕ). n * k) c.streak_pixels-pixels.ensures.0 (e ∙ ap f (keyed c).streak_key-key.ensures.0)
 
 -- so 32 bits hold it, and it with a sum so far
-fits : (c : tie.After-streak-pixels invariant-loop decreases-loop) (f : ℕ → ℕ) → ((k : ℕ) → f k ≤ most_level) → (level sum : ℕ)
-    → level ≡ f (keyed c).streak-key.result → sum ≤ (turn c).before.loop.i * most_streak
-    → (c.streak-pixels.result * level ≤ 4294967295) × (sum + c.streak-pixels.result * level ≤ 4294967295)
+fits : (c : tie.After-streak_pixels-pixels invariant-loop decreases-loop) (f : ℕ → ℕ) → ((k : ℕ) → f k ≤ most_level) → (level sum : ℕ)
+    → level ≡ f (keyed c).streak_key-key.result → sum ≤ (turn c).before.loop-i.i * most_streak
+    → (c.streak_pixels-pixels.result * level ≤ 4294967295) × (sum + c.streak_pixels-pixels.result * level ≤ 4294967295)
 fits c f low level sum e l =
     let t = turn c in
-    rw (adds c f level e) (omega (arith, l, streak-low f low (streak c), t.loop-test.taken, (st t.before).pre.1))
+    rw (adds c f level e) (omega (arith, l, streak-low f low (streak c), t.loop-i-test.taken, (st t.before).pre.1))
 
-loop-holds : tie.Need-loop-init invariant-loop decreases-loop
+loop-holds : tie.Need-loop-i-init invariant-loop decreases-loop
 loop-holds c =
     let b = c.before in adding-start b.args.list.now b.args.len b.requires.0
 
-mul-streak-key : tie.Need-overflow-mul-streak-key invariant-loop decreases-loop
+mul-streak-key : tie.Need-offset_bounds-list-i invariant-loop decreases-loop
 mul-streak-key c = omega arith
 
-shared-slice-read-streak-key : tie.Need-shared-slice-read-streak-key invariant-loop decreases-loop
+shared-slice-read-streak-key : tie.Need-bounds-list-i invariant-loop decreases-loop
 shared-slice-read-streak-key c = omega arith
 
-streak-key-requires : tie.Need-streak-key-requires invariant-loop decreases-loop
+streak-key-requires : tie.Need-streak_key-key-requires invariant-loop decreases-loop
 streak-key-requires c κs = search rules
 
-mul-streak-pixels : tie.Need-overflow-mul-streak-pixels invariant-loop decreases-loop
+mul-streak-pixels : tie.Need-offset_bounds-list-i-in-loop-i invariant-loop decreases-loop
 mul-streak-pixels c = omega arith
 
-shared-slice-read-streak-pixels : tie.Need-shared-slice-read-streak-pixels invariant-loop decreases-loop
+shared-slice-read-streak-pixels : tie.Need-bounds-list-i-in-loop-i invariant-loop decreases-loop
 shared-slice-read-streak-pixels c = omega arith
 
-streak-pixels-requires : tie.Need-streak-pixels-requires invariant-loop decreases-loop
+streak-pixels-requires : tie.Need-streak_pixels-pixels-requires invariant-loop decreases-loop
 streak-pixels-requires c κs = search rules
 
-red-of-requires : tie.Need-red-of-requires invariant-loop decreases-loop
+red-of-requires : tie.Need-red_of-requires invariant-loop decreases-loop
 red-of-requires c κs = search rules
 
-mul-red : tie.Need-overflow-mul-red invariant-loop decreases-loop
+mul-red : tie.Need-overflow_mul-red invariant-loop decreases-loop
 mul-red c = omega (
   arith,
-  (fits c.before red_of (λ k. omega arith) _ _ c.red-of.ensures.0
-      (adding-low (turn c.before).before.loop.inv).0),
+  (fits c.before red_of (λ k. omega arith) _ _ c.red_of.ensures.0
+      (adding-low (turn c.before).before.loop-i.inv).0),
 )
 
-add-red : tie.Need-overflow-add-red invariant-loop decreases-loop
+add-red : tie.Need-overflow_add-red invariant-loop decreases-loop
 add-red c = omega (
   arith,
-  (fits c.before red_of (λ k. omega arith) _ _ c.red-of.ensures.0
-      (adding-low (turn c.before).before.loop.inv).0),
+  (fits c.before red_of (λ k. omega arith) _ _ c.red_of.ensures.0
+      (adding-low (turn c.before).before.loop-i.inv).0),
 )
 
-green-of-requires : tie.Need-green-of-requires invariant-loop decreases-loop
+green-of-requires : tie.Need-green_of-requires invariant-loop decreases-loop
 green-of-requires c κs = search rules
 
-mul-green : tie.Need-overflow-mul-green invariant-loop decreases-loop
+mul-green : tie.Need-overflow_mul-green invariant-loop decreases-loop
 mul-green c = omega (
   arith,
-  (fits c.before.before green_of (λ k. omega arith) _ _ c.green-of.ensures.0
-      (adding-low (turn c.before.before).before.loop.inv).1),
+  (fits c.before.before green_of (λ k. omega arith) _ _ c.green_of.ensures.0
+      (adding-low (turn c.before.before).before.loop-i.inv).1),
 )
 
-add-green : tie.Need-overflow-add-green invariant-loop decreases-loop
+add-green : tie.Need-overflow_add-green invariant-loop decreases-loop
 add-green c = omega (
   arith,
-  (fits c.before.before green_of (λ k. omega arith) _ _ c.green-of.ensures.0
-      (adding-low (turn c.before.before).before.loop.inv).1),
+  (fits c.before.before green_of (λ k. omega arith) _ _ c.green_of.ensures.0
+      (adding-low (turn c.before.before).before.loop-i.inv).1),
 )
 
-blue-of-requires : tie.Need-blue-of-requires invariant-loop decreases-loop
+blue-of-requires : tie.Need-blue_of-requires invariant-loop decreases-loop
 blue-of-requires c κs = search rules
 
-mul-blue : tie.Need-overflow-mul-blue invariant-loop decreases-loop
+mul-blue : tie.Need-overflow_mul-blue invariant-loop decreases-loop
 mul-blue c = omega (
   arith,
-  (fits c.before.before.before blue_of (λ k. omega arith) _ _ c.blue-of.ensures.0
-      (adding-low (turn c.before.before.before).before.loop.inv).2),
+  (fits c.before.before.before blue_of (λ k. omega arith) _ _ c.blue_of.ensures.0
+      (adding-low (turn c.before.before.before).before.loop-i.inv).2),
 )
 
-add-blue : tie.Need-overflow-add-blue invariant-loop decreases-loop
+add-blue : tie.Need-overflow_add-blue invariant-loop decreases-loop
 add-blue c = omega (
   arith,
-  (fits c.before.before.before blue_of (λ k. omega arith) _ _ c.blue-of.ensures.0
-      (adding-low (turn c.before.before.before).before.loop.inv).2),
+  (fits c.before.before.before blue_of (λ k. omega arith) _ _ c.blue_of.ensures.0
+      (adding-low (turn c.before.before.before).before.loop-i.inv).2),
 )
 
-add-i : tie.Need-overflow-add-i invariant-loop decreases-loop
+add-i : tie.Need-overflow_add-i invariant-loop decreases-loop
 add-i c = omega arith
 
-loop-less : tie.Need-loop-smaller invariant-loop decreases-loop
+loop-less : tie.Need-loop-i-smaller invariant-loop decreases-loop
 loop-less c = omega arith
 
-loop-again : tie.Need-loop-preserved invariant-loop decreases-loop
+loop-again : tie.Need-loop-i-preserved invariant-loop decreases-loop
 loop-again c =
     let x = c.before.before.before in
     let t = turn x in
-    adding-step t.before.loop.inv t.loop-test.taken _ _ _ _ refl
-    (adds x red_of _ c.before.before.red-of.ensures.0) (adds x green_of _ c.before.green-of.ensures.0)
-    (adds x blue_of _ c.blue-of.ensures.0)
+    adding-step t.before.loop-i.inv t.loop-i-test.taken _ _ _ _ refl
+    (adds x red_of _ c.before.before.red_of.ensures.0) (adds x green_of _ c.before.green_of.ensures.0)
+    (adds x blue_of _ c.blue_of.ensures.0)
 
-cast-t15 : tie.Need-overflow-cast-t15 invariant-loop decreases-loop
+cast-t15 : tie.Need-overflow_cast-result invariant-loop decreases-loop
 cast-t15 c =
     let l = c.before in
-    omega (arith, (adding-low l.loop.invariant).0, l.loop.invariant.within, (st l).requires.1)
+    omega (arith, (adding-low l.loop-i.invariant).0, l.loop-i.invariant.within, (st l).requires.1)
 
-cast-t16 : tie.Need-overflow-cast-t16 invariant-loop decreases-loop
+cast-t16 : tie.Need-overflow_cast-result-2 invariant-loop decreases-loop
 cast-t16 c =
     let l = c.before in
-    omega (arith, (adding-low l.loop.invariant).1, l.loop.invariant.within, (st l).requires.1)
+    omega (arith, (adding-low l.loop-i.invariant).1, l.loop-i.invariant.within, (st l).requires.1)
 
-cast-t17 : tie.Need-overflow-cast-t17 invariant-loop decreases-loop
+cast-t17 : tie.Need-overflow_cast-result-3 invariant-loop decreases-loop
 cast-t17 c =
     let l = c.before in
-    omega (arith, (adding-low l.loop.invariant).2, l.loop.invariant.within, (st l).requires.1)
+    omega (arith, (adding-low l.loop-i.invariant).2, l.loop-i.invariant.within, (st l).requires.1)
 
 returns : tie.Need-returns invariant-loop decreases-loop
-returns c = adding-done c.before.loop.invariant c.loop-test.false
+returns c = adding-done c.before.loop-i.invariant c.loop-i-test.false
 
-pub streak-sums-spec : {M : Type 1} → statement M
-streak-sums-spec =
+pub streak_sums_spec : {M : Type 1} → statement M
+streak_sums_spec =
     tie.close
     (tie.spec
     invariant-loop

@@ -16,92 +16,92 @@ use Rattle.table_fill.proofs.take.Steps.{
 use Rattle.table_fill.proofs.take.take_few.Statement.{statement}
 use Rattle.table_fill.proofs.take.take_few.Tie as tie
 
-abbrev invariant-loop : tie.invariant-loop
+abbrev invariant-loop : tie.invariant-loop-taken
 invariant-loop keys₀ weights₀ used room strip end now-used₀ taken₀ sums₀ keys weights now-used taken sums =
     (taken ≤ end) × Taking keys₀ weights₀ used room (take end (strip_keys strip)) keys weights now-used taken sums
 
-abbrev decreases-loop : tie.decreases-loop
+abbrev decreases-loop : tie.decreases-loop-taken
 decreases-loop keys₀ weights₀ used room strip end now-used₀ taken₀ sums₀ keys weights now-used taken sums = end - taken
 
 -- with a pixel tried: the loop's head, what is known once the slices are, the entry
 abbrev Tested : Type 0
-Tested = tie.After-add-one invariant-loop decreases-loop
+Tested = tie.After-add_one-got invariant-loop decreases-loop
 
-abbrev lp : Tested → tie.At-loop invariant-loop decreases-loop
+abbrev lp : Tested → tie.At-loop-taken invariant-loop decreases-loop
 lp c = c.before.before.before.before
 
-abbrev tried : tie.After-slice-known4 invariant-loop decreases-loop → Tested
+abbrev tried : tie.After-slice_known-in-loop-taken-2-1 invariant-loop decreases-loop → Tested
 tried c = c.before.before.before.before
 
 abbrev st : Tested → tie.Start invariant-loop decreases-loop
 st c = (lp c).before.before.before.before
 
-one : (c : Tested) → c.add-one.result.pixels ≡ 1
-one c = omega (arith, c.add-one.ensures.some, c.add-one.ensures.within)
+one : (c : Tested) → c.add_one-got.result.pixels ≡ 1
+one c = omega (arith, c.add_one-got.ensures.some, c.add_one-got.ensures.within)
 
-inside : (c : Tested) → (lp c).loop.taken + c.add-one.result.pixels ≤ (st c).args.end
-inside c = omega (arith, one c, c.before.before.before.loop-test.true)
+inside : (c : Tested) → (lp c).loop-taken.taken + c.add_one-got.result.pixels ≤ (st c).args.end
+inside c = omega (arith, one c, c.before.before.before.loop-taken-test.true)
 
-loop-holds : tie.Need-loop-init invariant-loop decreases-loop
+loop-holds : tie.Need-loop-taken-init invariant-loop decreases-loop
 loop-holds c =
     let s = c.before.before.before in (
       omega arith,
-      steps-start s.args.keys.now s.args.weights.now s.args.strip.now s.args.used s.args.room
+      steps-start s.args.keys-1.now s.args.weights-1.now s.args.strip.now s.args.used s.args.room
           s.args.end s.requires,
     )
 
-add-one-requires : tie.Need-add-one-requires invariant-loop decreases-loop
+add-one-requires : tie.Need-add_one-got-requires invariant-loop decreases-loop
 add-one-requires c κs =
     let l = c.before.before.before in
     let s = l.before.before.before.before in
-    steps-addable s.requires l.loop.invariant.1 1 (omega arith) (omega (arith, c.before.before.loop-test.true))
+    steps-addable s.requires l.loop-taken.invariant.1 1 (omega arith) (omega (arith, c.before.before.loop-taken-test.true))
 
-same_length : tie.Need-same-length invariant-loop decreases-loop
+same_length : tie.Need-shape_of-keys-then-room-next invariant-loop decreases-loop
 same_length c =
-    let a = tried c.before in a.add-one.kept.0 ∙ (lp a).loop.inv.1.keys_length
+    let a = tried c.before in a.add_one-got.kept.0 ∙ (lp a).loop-taken.inv.1.keys_length
 
-same-length-2 : tie.Need-same-length-2 invariant-loop decreases-loop
+same-length-2 : tie.Need-shape_of-weights-then-room-next invariant-loop decreases-loop
 same-length-2 c =
-    let a = tried c.before in a.add-one.kept.1.0 ∙ (lp a).loop.inv.1.weights_length
+    let a = tried c.before in a.add_one-got.kept.1.0 ∙ (lp a).loop-taken.inv.1.weights_length
 
-returns : tie.Need-returns invariant-loop decreases-loop
+returns : tie.Need-returns-then-room-next invariant-loop decreases-loop
 returns c =
     let a = tried c.before in
-    steps-full (st a).pre (lp a).loop.inv.1 a.add-one.ensures (inside a) (one a) c.if1.true
+    steps-full (st a).pre (lp a).loop-taken.inv.1 a.add_one-got.ensures (inside a) (one a) c.if-room-next.true
 
-add-taken : tie.Need-overflow-add-taken invariant-loop decreases-loop
+add-taken : tie.Need-overflow_add-taken invariant-loop decreases-loop
 add-taken c = let a = tried c.before in omega (arith, inside a, one a, st a)
 
-plus-requires : tie.Need-plus-requires invariant-loop decreases-loop
+plus-requires : tie.Need-plus-sums-requires invariant-loop decreases-loop
 plus-requires c κs =
     let a = tried c.before in
-    steps_low (st a).pre (lp a).loop.inv.1 a.add-one.ensures (inside a)
+    steps_low (st a).pre (lp a).loop-taken.inv.1 a.add_one-got.ensures (inside a)
 
-loop-less : tie.Need-loop-smaller invariant-loop decreases-loop
+loop-less : tie.Need-loop-taken-smaller invariant-loop decreases-loop
 loop-less c =
-    let a = tried c.before.before in omega (arith, a.before.before.before.loop-test.taken)
+    let a = tried c.before.before in omega (arith, a.before.before.before.loop-taken-test.taken)
 
-loop-again : tie.Need-loop-preserved invariant-loop decreases-loop
+loop-again : tie.Need-loop-taken-preserved invariant-loop decreases-loop
 loop-again c =
     let a = tried c.before.before in (
       omega (arith, inside a, one a),
-      rw c.plus.ensures
-          (steps-in-one (st a).pre (lp a).loop.inv.1 a.add-one.ensures (inside a) (one a)
-          (λ i. omega (arith, (lp a).before.shared-slice-known.given i)) c.before.if1.false),
+      rw c.plus-sums.ensures
+          (steps-in-one (st a).pre (lp a).loop-taken.inv.1 a.add_one-got.ensures (inside a) (one a)
+          (λ i. omega (arith, (lp a).before.shared_slice_known-1.given i)) c.before.if-room-next.false),
     )
 
-same-length-3 : tie.Need-same-length-3 invariant-loop decreases-loop
-same-length-3 c = c.before.loop.invariant.1.keys_length
+same-length-3 : tie.Need-shape_of-keys invariant-loop decreases-loop
+same-length-3 c = c.before.loop-taken.invariant.1.keys_length
 
-same-length-4 : tie.Need-same-length-4 invariant-loop decreases-loop
-same-length-4 c = c.before.loop.invariant.1.weights_length
+same-length-4 : tie.Need-shape_of-weights invariant-loop decreases-loop
+same-length-4 c = c.before.loop-taken.invariant.1.weights_length
 
-returns-2 : tie.Need-returns-2 invariant-loop decreases-loop
+returns-2 : tie.Need-returns invariant-loop decreases-loop
 returns-2 c =
-    let l = c.before in steps-done l.before.before.before.before.requires l.loop.invariant.1 c.loop-test.false
+    let l = c.before in steps-done l.before.before.before.before.requires l.loop-taken.invariant.1 c.loop-taken-test.false
 
-pub take-few-spec : {M : Type 1} → statement M
-take-few-spec =
+pub take_few_spec : {M : Type 1} → statement M
+take_few_spec =
     tie.close
     (tie.spec
     invariant-loop

@@ -13,11 +13,11 @@ use Rattle.table_fill.proofs.take.take_strip.Statement.{statement}
 use Rattle.table_fill.proofs.take.take_strip.Tie as tie
 
 -- with the end known: the entry
-abbrev st : tie.After-smaller → tie.Start
+abbrev st : tie.After-smaller-end → tie.Start
 st n = n.before.before.before.before
 
 -- the same past the test of few pixels
-abbrev many : tie.Else1 → tie.Start
+abbrev many : tie.Else-is_few → tie.Start
 many c = st c.before.before
 
 -- what the total allows, and how many pixels the strip has
@@ -29,80 +29,80 @@ pixels_are s = strip-length s.args.count s.args.strip.now s.requires.1.1
 
 -- any number of pixels that the strip has and the total allows can be taken
 able : (s : tie.Start) (end : ℕ) → end ≤ s.args.count → end ≤ space s
-    → Able s.args.used s.args.room s.args.keys.now s.args.weights.now s.args.strip.now end
+    → Able s.args.used s.args.room s.args.keys-1.now s.args.weights-1.now s.args.strip.now end
 able s end a b = record {
   table = s.requires.0;
   total = omega (arith, s.requires.1.0);
   bytes = omega (arith, s.requires.1.1);
 }
 
-sub-space : tie.Need-overflow-sub-space
+sub-space : tie.Need-overflow_sub-space
 sub-space c = omega (arith, c.before.before.before.requires.1.0)
 
-smaller-requires : tie.Need-smaller-requires
+smaller-requires : tie.Need-smaller-end-requires
 smaller-requires c κs = search rules
 
-is-few-requires : tie.Need-is-few-requires
+is-few-requires : tie.Need-is_few-requires
 is-few-requires c κs = search rules
 
-take-few-requires : tie.Need-take-few-requires
+take-few-requires : tie.Need-take_few-requires
 take-few-requires c κs =
     let n = c.before.before.before.before in
-    able (st n) n.smaller.result (omega (arith, n.smaller.ensures))
-    (omega (arith, n.smaller.ensures))
+    able (st n) n.smaller-end.result (omega (arith, n.smaller-end.ensures))
+    (omega (arith, n.smaller-end.ensures))
 
-same_length : tie.Need-same-length
+same_length : tie.Need-shape_of-keys-then-is_few
 same_length c = search rules
 
-same-length-2 : tie.Need-same-length-2
+same-length-2 : tie.Need-shape_of-weights-then-is_few
 same-length-2 c = search rules
 
-returns : tie.Need-returns
+returns : tie.Need-returns-then-is_few
 returns c =
     let a = c.before.before.before.before in
     let n = a.before.before.before.before.before in
     let s = st n in
-    steps-whole n.smaller.result (λ h. omega (arith, h, n.smaller.ensures, pixels_are s, s.pre.1.0))
-    a.take-few.ensures
+    steps-whole n.smaller-end.result (λ h. omega (arith, h, n.smaller-end.ensures, pixels_are s, s.pre.1.0))
+    a.take_few.ensures
 
-take-many-requires : tie.Need-take-many-requires
+take-many-requires : tie.Need-take_many-requires
 take-many-requires c κs =
     let t = c.before.before in
     let s = many t.before in
-    able s s.args.count (omega arith) (omega (arith, t.if2.true))
+    able s s.args.count (omega arith) (omega (arith, t.if-count-space.true))
 
-same-length-3 : tie.Need-same-length-3
+same-length-3 : tie.Need-shape_of-keys-then-count-space
 same-length-3 c = search rules
 
-same-length-4 : tie.Need-same-length-4
+same-length-4 : tie.Need-shape_of-weights-then-count-space
 same-length-4 c = search rules
 
-returns-2 : tie.Need-returns-2
+returns-2 : tie.Need-returns-then-count-space
 returns-2 c =
     let a = c.before.before.before.before in
     let s = many a.before.before.before.before in
-    steps-whole s.args.count (λ h. omega (arith, h, pixels_are s)) a.take-many.ensures
+    steps-whole s.args.count (λ h. omega (arith, h, pixels_are s)) a.take_many.ensures
 
-take-many-requires-2 : tie.Need-take-many-requires-2
+take-many-requires-2 : tie.Need-take_many-requires-2
 take-many-requires-2 c κs =
     let t = c.before.before in
     let s = many t.before in
-    able s (space s) (omega (arith, t.if2.false)) (omega arith)
+    able s (space s) (omega (arith, t.if-count-space.false)) (omega arith)
 
-same-length-5 : tie.Need-same-length-5
+same-length-5 : tie.Need-shape_of-keys
 same-length-5 c = search rules
 
-same-length-6 : tie.Need-same-length-6
+same-length-6 : tie.Need-shape_of-weights
 same-length-6 c = search rules
 
-returns-3 : tie.Need-returns-3
+returns-3 : tie.Need-returns
 returns-3 c =
     let a = c.before.before.before.before in
     let s = many a.before.before.before.before in
-    steps-whole (space s) (λ h. omega (arith, s.pre.1.0)) a.take-many2.ensures
+    steps-whole (space s) (λ h. omega (arith, s.pre.1.0)) a.take_many-2.ensures
 
-pub take-strip-spec : {M : Type 1} → statement M
-take-strip-spec =
+pub take_strip_spec : {M : Type 1} → statement M
+take_strip_spec =
     tie.close
     (tie.spec
     sub-space

@@ -6,15 +6,15 @@ use borrow.Author.Rules.{rules}
 use Rattle.table_streaks.proofs.gather.joins.Statement.{statement}
 use Rattle.table_streaks.proofs.gather.joins.Tie as tie
 
-streak-key-requires : tie.Need-streak-key-requires
+streak-key-requires : tie.Need-streak_key-requires
 streak-key-requires c κs = search rules
 
-returns : tie.Need-returns
-returns c = simp (eq-eqb _ _ (sym c.before.streak-key.ensures.0 ∙ c.if1.true))
+returns : tie.Need-returns-then-streak_key-key
+returns c = simp (eq-eqb _ _ (sym c.before.streak_key.ensures.0 ∙ c.if-streak_key-key.true))
 
-returns-2 : tie.Need-returns-2
+returns-2 : tie.Need-returns
 returns-2 c = simp (ne_eqb (streak_key c.before.before.args.streak) c.before.before.args.key
-    (λ q. c.if1.false (c.before.streak-key.ensures.0 ∙ q)))
+    (λ q. c.if-streak_key-key.false (c.before.streak_key.ensures.0 ∙ q)))
 
-pub joins-spec : {M : Type 1} → statement M
-joins-spec = tie.close (tie.spec streak-key-requires returns returns-2)
+pub joins_spec : {M : Type 1} → statement M
+joins_spec = tie.close (tie.spec streak-key-requires returns returns-2)

@@ -10,55 +10,55 @@ use Rattle.table_sums.proofs.sums.Ways.{
 use Rattle.table_sums.proofs.sums.other_sums.Statement.{statement}
 use Rattle.table_sums.proofs.sums.other_sums.Tie as tie
 
-returns : tie.Need-returns
+returns : tie.Need-returns-then-red-gt-MOST_SUM
 returns c R G B t =
     let a = c.before.args in
-    others-of-red a.red a.green a.blue R G B t c.if1.true
+    others-of-red a.red a.green a.blue R G B t c.if-red-gt-MOST_SUM.true
 
-returns-2 : tie.Need-returns-2
+returns-2 : tie.Need-returns-then-green-gt-MOST_SUM
 returns-2 c R G B t =
     let a = c.before.before.args in
-    others-of-green a.red a.green a.blue R G B t c.if2.true
+    others-of-green a.red a.green a.blue R G B t c.if-green-gt-MOST_SUM.true
 
-returns-3 : tie.Need-returns-3
+returns-3 : tie.Need-returns-then-blue-gt-MOST_SUM
 returns-3 c R G B t =
     let a = c.before.before.before.args in
-    others-of-blue a.red a.green a.blue R G B t c.if3.true
+    others-of-blue a.red a.green a.blue R G B t c.if-blue-gt-MOST_SUM.true
 
-mul-if4 : tie.Need-overflow-mul-if4
+mul-if4 : tie.Need-overflow_mul-red
 mul-if4 c = search rules
 
-mul-if4-2 : tie.Need-overflow-mul-if4-2
+mul-if4-2 : tie.Need-overflow_mul-green
 mul-if4-2 c = search rules
 
-add-if4 : tie.Need-overflow-add-if4
+add-if4 : tie.Need-overflow_add-red
 add-if4 c = search rules
 
-add-if4-2 : tie.Need-overflow-add-if4-2
+add-if4-2 : tie.Need-overflow_add-red-2
 add-if4-2 c = search rules
 
-returns-4 : tie.Need-returns-4
+returns-4 : tie.Need-returns-then-red-green
 returns-4 c R G B t =
     let a = c.before.before.before.before.args in
-    others-of-first a.red a.green a.blue R G B t c.if4.true
+    others-of-first a.red a.green a.blue R G B t c.if-red-green.true
 
-mul-result : tie.Need-overflow-mul-result
+mul-result : tie.Need-overflow_mul-result
 mul-result c = search rules
 
-add-result : tie.Need-overflow-add-result
+add-result : tie.Need-overflow_add-result
 add-result c = search rules
 
-returns-5 : tie.Need-returns-5
+returns-5 : tie.Need-returns
 returns-5 c R G B t =
     let blue = c.before in
     let green = blue.before in
     let red = green.before in
     let a = red.before.args in
-    others-by-second a.red a.green a.blue R G B t red.if1.false green.if2.false blue.if3.false
-    c.if4.false
+    others-by-second a.red a.green a.blue R G B t red.if-red-gt-MOST_SUM.false green.if-green-gt-MOST_SUM.false blue.if-blue-gt-MOST_SUM.false
+    c.if-red-green.false
 
-pub other-sums-spec : {M : Type 1} → statement M
-other-sums-spec =
+pub other_sums_spec : {M : Type 1} → statement M
+other_sums_spec =
     tie.close
     (tie.spec
     returns

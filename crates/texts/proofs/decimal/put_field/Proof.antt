@@ -7,29 +7,29 @@ use Rattle.texts.proofs.decimal.put_field.Statement.{statement}
 use Rattle.texts.proofs.decimal.put_field.Tie as tie
 
 -- where the number is put, at the blank
-abbrev put : tie.After-put-byte-arg → tie.After-put-decimal
+abbrev put : tie.After-put_byte-arg-1 → tie.After-put_decimal-next
 put c = c.before.before.before
 
 -- where the call begins
-abbrev st : tie.After-put-decimal → tie.Start
+abbrev st : tie.After-put_decimal-next → tie.Start
 st c = c.before.before.before
 
-put-decimal-requires : tie.Need-put-decimal-requires
+put-decimal-requires : tie.Need-put_decimal-next-requires
 put-decimal-requires c κs = search rules
 
-put-byte-requires : tie.Need-put-byte-requires
+put-byte-requires : tie.Need-put_byte-requires
 put-byte-requires c κs =
-    let p = (put c).put-decimal.ensures in
+    let p = (put c).put_decimal-next.ensures in
     let s = st (put c) in
     omega (arith, p.ends, put-length p, decimal-length s.args.value, s.pre)
 
-same_length : tie.Need-same-length
+same_length : tie.Need-shape_of-out
 same_length c = search rules
 
 returns : tie.Need-returns
 returns c =
     let b = c.before.before in
-    put_then (put b.before).put-decimal.ensures b.put_byte.ensures
+    put_then (put b.before).put_decimal-next.ensures b.put_byte.ensures
 
-pub put-field-spec : {M : Type 1} → statement M
-put-field-spec = tie.close (tie.spec put-decimal-requires put-byte-requires same_length returns)
+pub put_field_spec : {M : Type 1} → statement M
+put_field_spec = tie.close (tie.spec put-decimal-requires put-byte-requires same_length returns)
