@@ -5,21 +5,17 @@ use borrow.Author.Rules.{rules}
 use Rattle.fixed_main.proofs.show_lent.Statement.{statement}
 use Rattle.fixed_main.proofs.show_lent.Tie as tie
 
--- what was asked for, from the members lent
-abbrev st : tie.After-members-1 → tie.Start
-st c = c.before.before.before.before
-
 array-borrow-prefix-members : tie.Need-slice_bounds-members-end
 array-borrow-prefix-members c = search rules
 
 slice-aggregate-run-fixed : tie.Need-slice_bounds-run_fixed-end-3
-slice-aggregate-run-fixed c = sym (length-take-le _ _ (st c).requires.0)
+slice-aggregate-run-fixed c = sym (length-take-le _ _ c.requires.0)
 
 array-borrow-prefix-totals : tie.Need-slice_bounds-totals-end
 array-borrow-prefix-totals c = search rules
 
 slice-aggregate-run-fixed-2 : tie.Need-slice_bounds-run_fixed-end-4
-slice-aggregate-run-fixed-2 c = sym (length-take-le _ _ (st c.before).requires.1)
+slice-aggregate-run-fixed-2 c = sym (length-take-le _ _ c.requires.1)
 
 run-fixed-requires : tie.Need-run_fixed-a-requires
 run-fixed-requires c κs = search rules

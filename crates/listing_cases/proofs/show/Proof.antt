@@ -13,7 +13,7 @@ array-share-prefix-text : tie.Need-slice_bounds-text-end
 array-share-prefix-text c = search rules
 
 slice-aggregate-write-all : tie.Need-slice_bounds-write_all-end
-slice-aggregate-write-all c = sym (length-take-le _ _ c.before.before.list_shades-l.ensures.1)
+slice-aggregate-write-all c = sym (length-take-le _ _ c.list_shades-l.ensures.1)
 
 write-all-requires : tie.Need-write_all-requires
 write-all-requires c κs = search rules

@@ -19,7 +19,7 @@ quotient-requires-3 : tie.Need-quotient-requires-3
 quotient-requires-3 c κs = search rules
 
 returns-2 : tie.Need-returns
-returns-2 c = simp (ne_eqb _ _ c.before.before.before.if-pixels-eq0.false) (cc)
+returns-2 c = simp (ne_eqb _ _ c.if-pixels-eq0.false) (cc)
 
 pub channel_means_spec : {M : Type 1} → statement M
 channel_means_spec =

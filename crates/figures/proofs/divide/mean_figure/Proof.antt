@@ -13,7 +13,7 @@ quotient-requires : tie.Need-quotient-requires
 quotient-requires c κs = search rules
 
 returns-2 : tie.Need-returns
-returns-2 c = simp (ne_eqb _ _ c.before.if-pixels-eq0.false) (ap Value c.quotient.ensures)
+returns-2 c = simp (ne_eqb _ _ c.if-pixels-eq0.false) (ap Value c.quotient.ensures)
 
 pub mean_figure_spec : {M : Type 1} → statement M
 mean_figure_spec = tie.close (tie.spec returns quotient-requires returns-2)

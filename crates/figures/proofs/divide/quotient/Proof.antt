@@ -8,11 +8,11 @@ use Rattle.figures.proofs.divide.quotient.Tie as tie
 
 int-to-float-result : tie.Need-int_to_float-result
 unfolding in_float
-int-to-float-result c = le→leb _ _ c.before.requires.0
+int-to-float-result c = le→leb _ _ c.requires.0
 
 int-to-float-result-2 : tie.Need-int_to_float-result-2
 unfolding in_float
-int-to-float-result-2 c = le→leb _ _ c.before.before.requires.1
+int-to-float-result-2 c = le→leb _ _ c.requires.1
 
 returns : tie.Need-returns
 unfolding figure

@@ -6,7 +6,7 @@ use Rattle.grammar.proofs.byte.byte_at.Statement.{statement}
 use Rattle.grammar.proofs.byte.byte_at.Tie as tie
 
 returns : tie.Need-returns-then-input-at
-returns c = sym (byte_past c.before.args.input.now c.before.args.at c.if-input-at.true)
+returns c = sym (byte_past c.args.input.now c.args.at c.if-input-at.true)
 
 shared-slice-read-result : tie.Need-bounds-input-at
 shared-slice-read-result c = search rules

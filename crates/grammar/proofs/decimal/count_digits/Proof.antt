@@ -21,16 +21,16 @@ turn c = c.before.before.before.before
 
 returns : tie.Need-returns-then-size-at invariant-loop decreases-loop
 returns c =
-    counted-all (counted_start c.before.before.args.input.now c.before.before.args.at) (omega arith)
+    counted-all (counted_start c.args.input.now c.args.at) (omega arith)
 
 sub-left : tie.Need-overflow_sub-left invariant-loop decreases-loop
 sub-left c = omega arith
 
 loop-holds : tie.Need-loop-i-init invariant-loop decreases-loop
-loop-holds c = counted_start c.before.before.args.input.now c.before.before.args.at
+loop-holds c = counted_start c.args.input.now c.args.at
 
 returns-2 : tie.Need-returns-then-left-i invariant-loop decreases-loop
-returns-2 c = counted-all c.before.before.loop-i.invariant (omega arith)
+returns-2 c = counted-all c.loop-i.invariant (omega arith)
 
 add-is-digit : tie.Need-overflow_add-at invariant-loop decreases-loop
 add-is-digit c = search rules
@@ -43,8 +43,7 @@ is-digit-requires c κs = search rules
 
 returns-3 : tie.Need-returns-then-not-is_digit invariant-loop decreases-loop
 returns-3 c =
-    let d = c.before in
-    counted-done (turn d).loop-i.invariant (λ h. sym d.is_digit.ensures ∙ not-true _ c.if-not-is_digit.true)
+    counted-done c.loop-i.invariant (λ h. sym c.is_digit.ensures ∙ c.if-not-is_digit.true)
 
 add-i : tie.Need-overflow_add-i invariant-loop decreases-loop
 add-i c = search rules
@@ -54,11 +53,10 @@ loop-less c = omega arith
 
 loop-again : tie.Need-loop-i-preserved invariant-loop decreases-loop
 loop-again c =
-    let d = c.before in
-    counted_step (turn d).loop-i.invariant (omega arith) (sym d.is_digit.ensures ∙ not-false _ c.if-not-is_digit.false)
+    counted_step c.loop-i.invariant (omega arith) (sym c.is_digit.ensures ∙ c.if-not-is_digit.false)
 
 returns-4 : tie.Need-returns invariant-loop decreases-loop
-returns-4 c = counted-done c.before.loop-i.invariant (λ h. absurd (omega arith))
+returns-4 c = counted-done c.loop-i.invariant (λ h. absurd (omega arith))
 
 pub count_digits_spec : {M : Type 1} → statement M
 count_digits_spec =

@@ -14,22 +14,18 @@ invariant-loop input at count value₀ i₀ value i = Valued input at count valu
 abbrev decreases-loop : tie.decreases-loop-i
 decreases-loop input at count value₀ i₀ value i = count - i
 
--- where the function begins
-abbrev st : tie.In-loop-i invariant-loop decreases-loop → tie.Start invariant-loop decreases-loop
-st c = c.before.before
-
 -- the digit that is next: its byte
 abbrev byte : tie.In-loop-i invariant-loop decreases-loop → ℕ
-byte c = byte_at (st c).args.input.now ((st c).args.at + c.before.loop-i.i)
+byte c = byte_at c.args.input.now (c.args.at + c.loop-i.i)
 
 -- it stands inside, and is a byte from 48 to 57
 next : (c : tie.In-loop-i invariant-loop decreases-loop)
-    → ((st c).args.at + c.before.loop-i.i < length (st c).args.input.now) × (48 ≤ byte c) × (byte c ≤ 57)
-next c = valued-next c.before.loop-i.invariant (st c).requires.0 c.loop-i-test.true
+    → (c.args.at + c.loop-i.i < length c.args.input.now) × (48 ≤ byte c) × (byte c ≤ 57)
+next c = valued-next c.loop-i.invariant c.requires.0 c.loop-i-test.true
 
 -- the value so far is at most 99999
-few : (c : tie.In-loop-i invariant-loop decreases-loop) → c.before.loop-i.value ≤ 99999
-few c = valued-few c.before.loop-i.invariant (st c).requires.0 (st c).requires.1
+few : (c : tie.In-loop-i invariant-loop decreases-loop) → c.loop-i.value ≤ 99999
+few c = valued-few c.loop-i.invariant c.requires.0 c.requires.1
 
 loop-holds : tie.Need-loop-i-init invariant-loop decreases-loop
 loop-holds c = valued-start c.args.input.now c.args.at c.args.count
@@ -59,10 +55,10 @@ loop-less : tie.Need-loop-i-smaller invariant-loop decreases-loop
 loop-less c = omega arith
 
 loop-again : tie.Need-loop-i-preserved invariant-loop decreases-loop
-loop-again c = valued-step c.before.before.loop-i.invariant c.before.loop-i-test.true
+loop-again c = valued-step c.loop-i.invariant c.loop-i-test.true
 
 returns : tie.Need-returns invariant-loop decreases-loop
-returns c = valued-done c.before.loop-i.invariant c.loop-i-test.false
+returns c = valued-done c.loop-i.invariant c.loop-i-test.false
 
 pub decimal_of_spec : {M : Type 1} → statement M
 decimal_of_spec =

@@ -8,17 +8,13 @@ use Rattle.grammar.proofs.Readings.{digits-counted, digits-inside, number-fails,
 use Rattle.grammar.proofs.decimal.number.Statement.{statement}
 use Rattle.grammar.proofs.decimal.number.Tie as tie
 
--- where the function begins
-abbrev st : tie.After-count_digits-count → tie.Start
-st c = c.before.before
-
 -- the input
 abbrev s : tie.After-count_digits-count → List ℕ
-s c = (st c).args.input.now
+s c = c.args.input.now
 
 -- what is counted are digits
-digits : (c : tie.After-count_digits-count) → Digits (s c) (st c).args.at c.count_digits-count.result
-digits c = digits-counted (s c) (st c).args.at _ c.count_digits-count.ensures.0
+digits : (c : tie.After-count_digits-count) → Digits (s c) c.args.at c.count_digits-count.result
+digits c = digits-counted (s c) c.args.at _ c.count_digits-count.ensures.0
 
 count-digits-requires : tie.Need-count_digits-count-requires
 count-digits-requires c κs = search rules
@@ -26,20 +22,20 @@ count-digits-requires c κs = search rules
 returns : tie.Need-returns-then-count-eq0
 returns c =
     let t = c.before in
-    number-fails (s t) (st t).args.at _ t.count_digits-count.ensures.0 c.if-count-eq0.true
+    number-fails (s t) t.args.at _ t.count_digits-count.ensures.0 c.if-count-eq0.true
 
 decimal-of-requires : tie.Need-decimal_of-requires
-decimal-of-requires c κs = (digits c.before, c.before.count_digits-count.ensures.1)
+decimal-of-requires c κs = (digits c.before, c.count_digits-count.ensures.1)
 
 add-t6 : tie.Need-overflow_add-result
 add-t6 c =
     let t = c.before.before in
-    omega (arith, digits-inside (s t) (st t).args.at _ (digits t) (omega arith))
+    omega (arith, digits-inside (s t) t.args.at _ (digits t) (omega arith))
 
 returns-2 : tie.Need-returns
 returns-2 c =
     let t = c.before.before in
-    number-reads (s t) (st t).args.at _ _ t.count_digits-count.ensures.0 c.before.if-count-eq0.false
+    number-reads (s t) t.args.at _ _ t.count_digits-count.ensures.0 c.if-count-eq0.false
     c.decimal_of.ensures
 
 pub number_spec : {M : Type 1} → statement M

@@ -57,11 +57,11 @@ giving c = turn c.before
 abbrev found-at : (c : tie.After-slice_known-in-loop-i-1 invariant-loop decreases-loop)
     → let l = (turn c).before in
     let a = (st l).args in
-    get_or l.loop-i.members-1 l.loop-i.i 0 ≡ found_at a.keys.now a.shades.now a.count l.loop-i.i
+    get_or l.loop-i.members l.loop-i.i 0 ≡ found_at a.keys.now a.shades.now a.count l.loop-i.i
 found-at c =
     let l = (turn c).before in
-    plain-found l.loop-i.inv.0 (st l).args.members-1.now (searched l).search_all.ensures
-    (turn c).loop-i-test.true (st l).pre.3
+    plain-found l.loop-i.invariant.0 (st l).args.members.now l.search_all.ensures
+    c.loop-i-test.true (st l).requires.3
 
 -- what is found for the entry, once it is worked out
 abbrev finds-at : (c : tie.After-gift_of-a invariant-loop decreases-loop)
@@ -72,17 +72,16 @@ abbrev finds-at : (c : tie.After-gift_of-a invariant-loop decreases-loop)
 finds-at c =
     let e = c.gift_of-a.ensures in
     let t = giving c in
-    raised-finds t.before.loop-i.inv.0 t.loop-i-test.taken _ _ _ (found-at c.before) e.0 e.1.0
+    raised-finds t.loop-i.invariant.0 t.loop-i-test.taken _ _ _ (found-at c.before) e.0 e.1.0
 
 search-all-requires : tie.Need-search_all-requires invariant-loop decreases-loop
-search-all-requires c κs = let p = (start c).requires in (p.0.keys_room, p.3, p.1, p.2)
+search-all-requires c κs = let p = c.requires in (p.0.keys_room, p.3, p.1, p.2)
 
 loop-holds : tie.Need-loop-i-init invariant-loop decreases-loop
 loop-holds c =
-    let s = c.before.before in
-    let p = (start s.before).pre in
-    let members = (start s.before).args.members-1.now in (
-      turned-start (plain-fitted _ members p.0 p.1 p.2 p.3 s.search_all.ensures),
+    let p = c.requires in
+    let members = c.args.members.now in (
+      turned-start (plain-fitted _ members p.0 p.1 p.2 p.3 c.search_all.ensures),
       rw p.4 (summed-none _ _ _),
     )
 
@@ -90,38 +89,38 @@ mul-gift-of : tie.Need-offset_bounds-weights-i invariant-loop decreases-loop
 mul-gift-of c = omega arith
 
 shared-slice-read-gift-of : tie.Need-bounds-weights-i invariant-loop decreases-loop
-shared-slice-read-gift-of c = omega (arith, c.before.before.loop-i.invariant.0.fitted.table.weights_room)
+shared-slice-read-gift-of c = omega (arith, c.loop-i.invariant.0.fitted.table.weights_room)
 
 mul-gift-of-2 : tie.Need-offset_bounds-keys-i invariant-loop decreases-loop
 mul-gift-of-2 c = omega arith
 
 shared-slice-read-gift-of-2 : tie.Need-bounds-keys-i invariant-loop decreases-loop
-shared-slice-read-gift-of-2 c = omega (arith, c.before.before.before.loop-i.invariant.0.fitted.table.keys_room)
+shared-slice-read-gift-of-2 c = omega (arith, c.loop-i.invariant.0.fitted.table.keys_room)
 
 mul-gift-of-3 : tie.Need-offset_bounds-members-i invariant-loop decreases-loop
 mul-gift-of-3 c = omega arith
 
 slice-read-gift-of : tie.Need-bounds-members-i invariant-loop decreases-loop
-slice-read-gift-of c = let x = (turn c).before.loop-i.invariant.0 in omega (arith, turned-length x, x.fitted.room)
+slice-read-gift-of c = let x = c.loop-i.invariant.0 in omega (arith, turned-length x, x.fitted.room)
 
 gift-of-requires : tie.Need-gift_of-a-requires invariant-loop decreases-loop
-gift-of-requires c κs = raised-low (turn c).before.loop-i.invariant.0 (turn c).loop-i-test.true _ (found-at c)
+gift-of-requires c κs = raised-low c.loop-i.invariant.0 c.loop-i-test.true _ (found-at c)
 
 mul-members : tie.Need-offset_bounds-members-i-in-loop-i invariant-loop decreases-loop
 mul-members c = omega arith
 
 slice-write-members : tie.Need-bounds-members-i-in-loop-i invariant-loop decreases-loop
-slice-write-members c = let x = (giving c).before.loop-i.invariant.0 in omega (arith, turned-length x, x.fitted.room)
+slice-write-members c = let x = (giving c).loop-i.invariant.0 in omega (arith, turned-length x, x.fitted.room)
 
 add_total : tie.Need-overflow_add-total invariant-loop decreases-loop
 add_total c =
     let t = giving c.before in
-    omega (arith, total-fits t.before.loop-i.inv.0 t.loop-i-test.taken (finds-at c.before))
+    omega (arith, total-fits t.loop-i.invariant.0 t.loop-i-test.taken (finds-at c.before))
 
 add-distances : tie.Need-overflow_add-distances invariant-loop decreases-loop
 add-distances c =
     let t = giving c.before in
-    omega (arith, distances-fit t.before.loop-i.inv.0 t.loop-i-test.taken (st t.before).args.count refl)
+    omega (arith, distances-fit t.loop-i.invariant.0 t.loop-i-test.taken (st t.before).args.count refl)
 
 cast-raise : tie.Need-overflow_cast-q invariant-loop decreases-loop
 cast-raise c = search rules
@@ -130,7 +129,7 @@ raise-requires : tie.Need-raise-requires invariant-loop decreases-loop
 raise-requires c κs =
     let g = c.before.before in
     let t = giving g in
-    let l = t.before.loop-i.inv in
+    let l = t.loop-i.invariant in
     let e = g.gift_of-a.ensures.1.1 in
     raised-fit l.0 t.loop-i-test.taken l.1 (finds-at g) e.0 e.1
 
@@ -143,7 +142,7 @@ loop-less c = omega arith
 loop-again : tie.Need-loop-i-preserved invariant-loop decreases-loop
 loop-again c =
     let g = c.before.before.before in
-    let l = (giving g).before.loop-i.invariant in
+    let l = (giving g).loop-i.invariant in
     let h = (giving g).loop-i-test.true in
     let f = finds-at g in
     let e = g.gift_of-a.ensures.1.1 in
@@ -152,14 +151,14 @@ loop-again c =
 same_length : tie.Need-shape_of-members invariant-loop decreases-loop
 same_length c =
     let l = c.before in
-    plain-length l.loop-i.invariant.0 (st l).args.members-1.now (searched l).search_all.ensures
+    plain-length l.loop-i.invariant.0 (st l).args.members.now l.search_all.ensures
 
 returns : tie.Need-returns invariant-loop decreases-loop
 returns c =
-    let x = c.before.loop-i.invariant in
+    let x = c.loop-i.invariant in
     let h = c.loop-i-test.false in
-    let e : c.before.loop-i.i ≡ (st c.before).args.used = omega (arith, x.0.within) in (
-      grouped-again _ _ (searched c.before).search_all.ensures (turned-done x.0 h (rw e at x.1)),
+    let e : c.loop-i.i ≡ (st c.before).args.used = omega (arith, x.0.within) in (
+      grouped-again _ _ c.search_all.ensures (turned-done x.0 h (rw e at x.1)),
       turned-distances x.0 h,
     )
 

@@ -50,7 +50,7 @@ shared-slice-read-red-green-2 : tie.Need-bounds-keys-i
 shared-slice-read-red-green-2 c = search rules
 
 red-green-requires : tie.Need-red_green-red_green-requires
-red-green-requires c κs = let p = (start c).requires in weight-at-most _ _ _ p.0 _ p.3
+red-green-requires c κs = let p = c.requires in weight-at-most _ _ _ p.0 _ p.3
 
 mul-blue-pixels : tie.Need-offset_bounds-weights-i-2
 mul-blue-pixels c = search rules
@@ -66,17 +66,17 @@ shared-slice-read-blue-pixels-2 c = search rules
 
 blue-pixels-requires : tie.Need-blue_pixels-blue_pixels-requires
 blue-pixels-requires c κs =
-    let p = (start c.before.before.before).requires in
+    let p = c.requires in
     weight-at-most _ _ _ p.0 _ p.3
 
 raise-requires : tie.Need-raise-requires
 raise-requires c κs =
     let b = c.before in
     let s = st b in
-    let p = s.pre in
+    let p = s.requires in
     let e = there s in
     let f = raises-fit _ _ _ p.0 (groups s) s.args.i p.3 (rw e p.4) (before s) in
-    rw (b.blue_pixels-blue_pixels.ensures, (first b).red_green-red_green.ensures) (p.4, rw e at f.0, rw e at f.1)
+    rw (b.blue_pixels-blue_pixels.ensures, b.red_green-red_green.ensures) (p.4, rw e at f.0, rw e at f.1)
 
 mul-members : tie.Need-offset_bounds-members-i
 mul-members c = search rules
@@ -92,8 +92,8 @@ returns c =
     let b = c.before.before in
     let s = st b in
     let e = there s in
-    let f = summed-more (groups s) _ _ s.args.i _ (before s) (rw e s.pre.4) in
-    (refl, rw (c.raise.ensures, b.blue_pixels-blue_pixels.ensures, (first b).red_green-red_green.ensures) (rw e at f))
+    let f = summed-more (groups s) _ _ s.args.i _ (before s) (rw e s.requires.4) in
+    (refl, rw (c.raise.ensures, b.blue_pixels-blue_pixels.ensures, b.red_green-red_green.ensures) (rw e at f))
 
 pub enter_spec : {M : Type 1} → statement M
 enter_spec =

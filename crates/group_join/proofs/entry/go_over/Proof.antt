@@ -48,7 +48,7 @@ goes-there : (c : tie.After-blue_pixels-blue_pixels)
     → (let s = st c in Goes (member_at (members s)) (member_at (after s)) s.args.i)
 goes-there c =
     let s = st c in
-    joined-goes (members s) s.args.i s.args.q (inside s) (leaves (first c)).if-p-q.false
+    joined-goes (members s) s.args.i s.args.q (inside s) c.if-p-q.false
 
 mul-p : tie.Need-offset_bounds-members-i
 mul-p c = search rules
@@ -60,10 +60,10 @@ returns : tie.Need-returns-then-p-q
 returns c =
     let s = start c.before in
     let e = joined_same (members s) s.args.i s.args.q c.if-p-q.true in
-    (e, s.pre.2)
+    (e, s.requires.2)
 
 cast-from : tie.Need-overflow_cast-from
-cast-from c = let p = (start c.before).requires in omega (arith, p.1.below _ p.3)
+cast-from c = let p = c.requires in omega (arith, p.1.below _ p.3)
 
 mul-red-green : tie.Need-offset_bounds-weights-i
 mul-red-green c = search rules
@@ -79,7 +79,7 @@ shared-slice-read-red-green-2 c = search rules
 
 red-green-requires : tie.Need-red_green-red_green-requires
 red-green-requires c κs =
-    let p = (start c.before.before.before).requires in
+    let p = c.requires in
     weight-at-most _ _ _ p.0 _ p.3
 
 mul-blue-pixels : tie.Need-offset_bounds-weights-i-2
@@ -96,26 +96,25 @@ shared-slice-read-blue-pixels-2 c = search rules
 
 blue-pixels-requires : tie.Need-blue_pixels-blue_pixels-requires
 blue-pixels-requires c κs =
-    let p = (start (leaves c.before.before).before).requires in
+    let p = c.requires in
     weight-at-most _ _ _ p.0 _ p.3
 
 lower-requires : tie.Need-lower-requires
 lower-requires c κs =
     let b = c.before in
     let s = st b in
-    let p = s.pre in
+    let p = s.requires in
     let few = p.1.below _ p.3 in
     let f = leaves-fit s.args.keys.now s.args.weights.now p.2 (goes-there b) p.3 few in
-    rw (b.blue_pixels-blue_pixels.ensures, (first b).red_green-red_green.ensures) (few, f.0, f.1)
+    rw (b.blue_pixels-blue_pixels.ensures, b.red_green-red_green.ensures) (few, f.0, f.1)
 
 raise-requires : tie.Need-raise-requires
 raise-requires c κs =
-    let l = c.before in
-    let b = l.before.before in
+    let b = c.before.before.before in
     let p = (st b).requires in
     let e = there (st b) in
     let f = joins-fit p.0 p.2 (goes-there b) p.3 (rw e p.4) in
-    rw (l.lower.ensures, b.blue_pixels-blue_pixels.ensures, (first b).red_green-red_green.ensures) (p.4, rw e at f.0, rw e at f.1)
+    rw (c.lower.ensures, b.blue_pixels-blue_pixels.ensures, b.red_green-red_green.ensures) (p.4, rw e at f.0, rw e at f.1)
 
 mul-members : tie.Need-offset_bounds-members-i-2
 mul-members c = search rules
@@ -128,14 +127,13 @@ same_length c = search rules
 
 returns-2 : tie.Need-returns
 returns-2 c =
-    let l = c.before.before in
-    let b = l.before.before in
+    let b = c.before.before.before.before in
     let s = st b in
-    let p = s.pre in
+    let p = s.requires in
     let e = there s in
     let f = summed-moved s.args.keys.now s.args.weights.now p.2 (goes-there b) p.3
     (p.1.below _ p.3) (rw e p.4) in
-    (refl, rw (c.raise.ensures, l.lower.ensures, b.blue_pixels-blue_pixels.ensures, (first b).red_green-red_green.ensures) (rw e at f))
+    (refl, rw (c.raise.ensures, c.lower.ensures, b.blue_pixels-blue_pixels.ensures, b.red_green-red_green.ensures) (rw e at f))
 
 pub go_over_spec : {M : Type 1} → statement M
 go_over_spec =

@@ -18,7 +18,7 @@ high-requires : tie.Need-high-requires
 high-requires c κs = search rules
 
 returns : tie.Need-returns-then-axis-eq0
-returns c = rw c.before.before.if-axis-eq0.true c.high.ensures
+returns c = rw c.if-axis-eq0.true c.high.ensures
 
 mul_low : tie.Need-offset_bounds-sums-a-then-axis-eq1
 mul_low c = search rules
@@ -30,7 +30,7 @@ low-requires : tie.Need-low-requires
 low-requires c κs = search rules
 
 returns-2 : tie.Need-returns-then-axis-eq1
-returns-2 c = rw c.before.before.if-axis-eq1.true c.low.ensures
+returns-2 c = rw c.if-axis-eq1.true c.low.ensures
 
 add-high : tie.Need-overflow_add-a
 add-high c = search rules
@@ -46,7 +46,7 @@ high-requires-2 c κs = search rules
 
 returns-3 : tie.Need-returns
 returns-3 c =
-    let e : c.before.before.before.before.args.axis ≡ 2 = omega arith in
+    let e : c.args.axis ≡ 2 = omega arith in
     rw e c.high-2.ensures
 
 pub level_sum_spec : {M : Type 1} → statement M

@@ -7,7 +7,7 @@ use Rattle.groups.proofs.choose.regroup.Tie as tie
 
 mul-few : tie.Need-overflow_mul-few
 mul-few c =
-    let few = c.before.before.before.before.before.requires.0.shades.few in
+    let few = c.requires.0.shades.few in
     omega (arith, mul-le-mul few few)
 
 track-requires : tie.Need-track-requires

@@ -12,8 +12,7 @@ same_length c = search rules
 
 returns : tie.Need-returns-then-few
 returns c =
-    let f = c.before.before in
-    gaps-tracked _ _ _ _ f.before.before.if-few.true f.fill_gaps.ensures
+    gaps-tracked _ _ _ _ c.if-few.true c.fill_gaps.ensures
 
 fill-rows-requires : tie.Need-fill_rows-requires
 fill-rows-requires c κs = search rules
@@ -23,8 +22,7 @@ same-length-2 c = search rules
 
 returns-2 : tie.Need-returns
 returns-2 c =
-    let f = c.before.before in
-    rows-tracked _ _ _ _ f.before.before.if-few.false f.fill_rows.ensures
+    rows-tracked _ _ _ _ c.if-few.false c.fill_rows.ensures
 
 pub track_spec : {M : Type 1} → statement M
 track_spec =

@@ -44,7 +44,7 @@ st c = start c.before
 
 -- the turn in which the entry's shade is found
 abbrev turn : tie.After-rejoin-met invariant-loop decreases-loop → tie.In-loop-i invariant-loop decreases-loop
-turn c = c.before.before
+turn c = c.before
 
 -- where its shade is found, from where the cost is worked out
 abbrev found : tie.After-cost-total invariant-loop decreases-loop → tie.After-rejoin-met invariant-loop decreases-loop
@@ -58,59 +58,58 @@ cost c = c.before.before.before.before
 abbrev finds-at : (c : tie.After-cost-total invariant-loop decreases-loop)
     → let l = (turn (found c)).before in
     let a = (st l).args in
-    Finds a.keys.now a.weights.now a.shades.now a.count l.loop-i.i (found c).rejoin-met.result.number
+    Finds a.keys.now a.weights.now a.shades.now a.count l.loop-i.i c.rejoin-met.result.number
     c.cost-total.result
-finds-at c = finds-of (found c).rejoin-met.ensures.0 (found c).rejoin-met.ensures.1.0 c.cost-total.ensures
+finds-at c = finds-of c.rejoin-met.ensures.0 c.rejoin-met.ensures.1.0 c.cost-total.ensures
 
 -- the distances that its search worked out
 abbrev worked-at : (c : tie.After-rejoin-met invariant-loop decreases-loop)
     → let l = (turn c).before in
     let a = (st l).args in
     c.rejoin-met.result.distances
-    ≡ short_works a.keys.now a.shades.now a.count a.members-1.now l.loop-i.i
+    ≡ short_works a.keys.now a.shades.now a.count a.members.now l.loop-i.i
 worked-at c =
     let l = (turn c).before in
-    short-worked (st l).pre.0 l.loop-i.inv.0 _ c.rejoin-met.ensures.1.1
+    short-worked (st l).requires.0 l.loop-i.invariant.0 _ c.rejoin-met.ensures.1.1
 
 loop-holds : tie.Need-loop-i-init invariant-loop decreases-loop
-loop-holds c = let p = (start c).requires in (turned-start (short-fitted p.0), p.2)
+loop-holds c = let p = c.requires in (turned-start (short-fitted p.0), p.2)
 
 rejoin-requires : tie.Need-rejoin-met-requires invariant-loop decreases-loop
 rejoin-requires c κs =
-    let t = c.before in
-    let l = t.before in
-    (short-again (st l).requires.0 l.loop-i.invariant.0, (st l).requires.1, t.loop-i-test.true)
+    let l = c.before.before in
+    (short-again (st l).requires.0 l.loop-i.invariant.0, (st l).requires.1, c.loop-i-test.true)
 
 mul-cost : tie.Need-offset_bounds-weights-i invariant-loop decreases-loop
 mul-cost c = omega arith
 
 shared-slice-read-cost : tie.Need-bounds-weights-i invariant-loop decreases-loop
-shared-slice-read-cost c = omega (arith, (turn c.before).before.loop-i.inv.0.fitted.table.weights_room)
+shared-slice-read-cost c = omega (arith, c.loop-i.invariant.0.fitted.table.weights_room)
 
 cost-requires : tie.Need-cost-total-requires invariant-loop decreases-loop
 cost-requires c κs =
     let t = turn c.before in
-    turned-low t.before.loop-i.inv.0 t.loop-i-test.taken _ c.before.rejoin-met.ensures.1.0
+    turned-low t.loop-i.invariant.0 t.loop-i-test.taken _ c.rejoin-met.ensures.1.0
 
 add_total : tie.Need-overflow_add-total invariant-loop decreases-loop
 add_total c =
     let t = turn (found c) in
-    omega (arith, total-fits t.before.loop-i.inv.0 t.loop-i-test.taken (finds-at c))
+    omega (arith, total-fits t.loop-i.invariant.0 t.loop-i-test.taken (finds-at c))
 
 add-distances : tie.Need-overflow_add-distances invariant-loop decreases-loop
 add-distances c =
     let f = found c.before in
     let t = turn f in
-    omega (arith, distances-fit t.before.loop-i.inv.0 t.loop-i-test.taken _ (worked-at f))
+    omega (arith, distances-fit t.loop-i.invariant.0 t.loop-i-test.taken _ (worked-at f))
 
 join-requires : tie.Need-join-requires invariant-loop decreases-loop
 join-requires c κs =
     let f = found c.before.before.before in
     let t = turn f in
-    let l = t.before.loop-i.inv in
+    let l = t.loop-i.invariant in
     let h = t.loop-i-test.taken in (
       l.0.fitted.table,
-      short-assigned (st t.before).pre.0 l.0,
+      short-assigned (st t.before).requires.0 l.0,
       l.1,
       h,
       rw f.rejoin-met.ensures.0 (number-below l.0 h),
@@ -128,18 +127,18 @@ loop-again c =
     let f = found (cost j) in
     let t = turn f in (
       rw j.join.ensures.0
-          (turned-step t.before.loop-i.inv.0 t.loop-i-test.taken (finds-at (cost j)) _ (worked-at f)),
+          (turned-step t.loop-i.invariant.0 t.loop-i-test.taken (finds-at (cost j)) _ (worked-at f)),
       j.join.ensures.1,
     )
 
 same_length : tie.Need-shape_of-members invariant-loop decreases-loop
-same_length c = turned-length c.before.loop-i.invariant.0
+same_length c = turned-length c.loop-i.invariant.0
 
 returns : tie.Need-returns invariant-loop decreases-loop
 returns c =
-    let x = c.before.loop-i.invariant.0 in
+    let x = c.loop-i.invariant.0 in
     let h = c.loop-i-test.false in
-    (turned-done x h (joined-sums (st c.before).args.anew x h c.before.loop-i.invariant.1), turned-distances x h)
+    (turned-done x h (joined-sums (st c.before).args.anew x h c.loop-i.invariant.1), turned-distances x h)
 
 pub group_short_spec : {M : Type 1} → statement M
 group_short_spec =

@@ -19,7 +19,7 @@ shared-slice-read-p : tie.Need-bounds-members-i
 shared-slice-read-p c = search rules
 
 cast-p : tie.Need-overflow_cast-p
-cast-p c = omega (arith, c.shared_slice_known-6-1.given (start c.before).args.i)
+cast-p c = omega (arith, c.shared_slice_known-6-1.given c.args.i)
 
 mul-colour-of : tie.Need-offset_bounds-keys-i
 mul-colour-of c = search rules
@@ -37,12 +37,12 @@ walk-gaps-requires c κs =
       former = p.0.joined _ p.2;
       shades = p.0.shades;
       gaps = tracks-gaps _ _ _ _ c.if-few.true p.1;
-      inside = c.before.colour_of-c.ensures.1;
+      inside = c.colour_of-c.ensures.1;
     }
 
 returns : tie.Need-returns-then-few
 returns c =
-    let e = c.before.before.colour_of-c.ensures.0 in
+    let e = c.colour_of-c.ensures.0 in
     rw e at c.walk_gaps.ensures
 
 walk-requires : tie.Need-walk-requires
@@ -52,12 +52,12 @@ walk-requires c κs =
       former = p.0.joined _ p.2;
       shades = p.0.shades;
       rows = tracks-rows _ _ _ _ c.if-few.false p.1;
-      inside = c.before.colour_of-c.ensures.1;
+      inside = c.colour_of-c.ensures.1;
     }
 
 returns-2 : tie.Need-returns
 returns-2 c =
-    let e = c.before.before.colour_of-c.ensures.0 in
+    let e = c.colour_of-c.ensures.0 in
     rw e at c.walk.ensures
 
 pub rejoin_spec : {M : Type 1} → statement M

@@ -25,11 +25,10 @@ same-length-2 c = search rules
 
 returns : tie.Need-returns
 returns c =
-    let p = c.before.before.before.before.before.before.before in
     add-crosses
-    p.before.before.before.record_in.ensures
-    p.add_strip-a.ensures
-    c.before.before.record_left.ensures
+    c.record_in.ensures
+    c.add_strip-a.ensures
+    c.record_left.ensures
 
 pub kf_add_strip_spec : {M : Type 1} → statement M
 kf_add_strip_spec =

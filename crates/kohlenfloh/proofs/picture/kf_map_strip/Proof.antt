@@ -21,11 +21,10 @@ same_length c = search rules
 
 returns : tie.Need-returns
 returns c =
-    let p = c.before.before.before.before.before in
     map-crosses
-    p.map_strip-a.ensures
-    c.before.before.map_numbers.ensures
-    c.before.map_figures.ensures
+    c.map_strip-a.ensures
+    c.map_numbers.ensures
+    c.map_figures.ensures
 
 pub kf_map_strip_spec : {M : Type 1} → statement M
 kf_map_strip_spec =

@@ -18,8 +18,7 @@ same_length c = search rules
 
 returns : tie.Need-returns
 returns c =
-    let p = c.before.before in
-    rw p.before.before.record_in-table.ensures at p.palette_from_groups.ensures
+    rw c.record_in-table.ensures at c.palette_from_groups.ensures
 
 pub kf_palette_from_groups_spec : {M : Type 1} → statement M
 kf_palette_from_groups_spec =

@@ -14,7 +14,7 @@ cast-result : tie.Need-overflow_cast-result
 cast-result c = search rules
 
 returns : tie.Need-returns
-returns c = picture-crosses c.before.before.read_picture-a.ensures c.before.picture_numbers.ensures
+returns c = picture-crosses c.read_picture-a.ensures c.picture_numbers.ensures
 
 pub kf_read_picture_spec : {M : Type 1} → statement M
 kf_read_picture_spec = tie.close (tie.spec read-picture-requires picture-numbers-requires cast-result returns)

@@ -28,12 +28,10 @@ same-length-2 c = search rules
 
 returns : tie.Need-returns
 returns c =
-    let p = c.before.before.before.before.before.before in
-    let q = p.before.before.before in
-    let s = q.before.before.before.before.before.args in
-    let a = state_of s.coordinates-1.now s.members-1.now in
-    round-crosses (ap (λ rec. plain_round rec s.keys.now s.weights.now a) q.record_in.ensures)
-    p.plain_round-a.ensures c.before.round_numbers.ensures
+    let s = c.args in
+    let a = state_of s.coordinates.now s.members.now in
+    round-crosses (ap (λ rec. plain_round rec s.keys.now s.weights.now a) c.record_in.ensures)
+    c.plain_round-a.ensures c.round_numbers.ensures
 
 pub kf_plain_round_spec : {M : Type 1} → statement M
 kf_plain_round_spec =

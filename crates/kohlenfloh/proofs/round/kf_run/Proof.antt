@@ -26,13 +26,11 @@ same-length-2 c = search rules
 
 returns : tie.Need-returns
 returns c =
-    let p = c.before.before.before.before.before.before.before in
-    let q = p.before.before.before in
-    let s = q.before.before.before.before.before.args in
+    let s = c.args in
     run-crosses
-    (ap (λ rec. run_of rec s.keys.now s.weights.now s.count s.limit s.members-1.now s.totals-1.now)
-    q.record_in.ensures)
-    p.run-a.ensures c.before.run_numbers.ensures
+    (ap (λ rec. run_of rec s.keys.now s.weights.now s.count s.limit s.members.now s.totals.now)
+    c.record_in.ensures)
+    c.run-a.ensures c.run_numbers.ensures
 
 pub kf_run_spec : {M : Type 1} → statement M
 kf_run_spec =

@@ -27,13 +27,11 @@ same-length-2 c = search rules
 
 returns : tie.Need-returns
 returns c =
-    let p = c.before.before.before.before.before.before.before in
-    let q = p.before.before.before in
-    let s = q.before.before.before.before.before.before.args in
+    let s = c.args in
     run-crosses
-    (ap (λ rec. fixed_run rec s.keys.now s.weights.now s.fixed.now s.count s.limit s.members-1.now
-    s.totals-1.now) q.record_in.ensures)
-    p.run_fixed-a.ensures c.before.run_numbers.ensures
+    (ap (λ rec. fixed_run rec s.keys.now s.weights.now s.fixed.now s.count s.limit s.members.now
+    s.totals.now) c.record_in.ensures)
+    c.run_fixed-a.ensures c.run_numbers.ensures
 
 pub kf_run_fixed_spec : {M : Type 1} → statement M
 kf_run_fixed_spec =

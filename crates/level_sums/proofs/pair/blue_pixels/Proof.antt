@@ -10,15 +10,15 @@ blue-of-requires : tie.Need-blue_of-requires
 blue-of-requires c κs = search rules
 
 mul-pair : tie.Need-overflow_mul-weight
-mul-pair c = let st = c.before in omega (arith, times-fits st.args.weight _ st.requires c.blue_of.ensures.1)
+mul-pair c = omega (arith, times-fits c.args.weight _ c.requires c.blue_of.ensures.1)
 
 pair-requires : tie.Need-pair-requires
 pair-requires c κs = search rules
 
 returns : tie.Need-returns
 returns c =
-    let a = c.before.before.args in
-    rw (c.pair.ensures, c.before.blue_of.ensures.0)
+    let a = c.args in
+    rw (c.pair.ensures, c.blue_of.ensures.0)
     (omega (arith, times-pair a.weight (blue_of a.key) 1))
 
 pub blue_pixels_spec : {M : Type 1} → statement M

@@ -10,23 +10,22 @@ red-of-requires : tie.Need-red_of-requires
 red-of-requires c κs = search rules
 
 mul-pair : tie.Need-overflow_mul-weight
-mul-pair c = let st = c.before in omega (arith, times-fits st.args.weight _ st.requires c.red_of.ensures.1)
+mul-pair c = omega (arith, times-fits c.args.weight _ c.requires c.red_of.ensures.1)
 
 green-of-requires : tie.Need-green_of-requires
 green-of-requires c κs = search rules
 
 mul-pair-2 : tie.Need-overflow_mul-weight-2
 mul-pair-2 c =
-    let st = c.before.before in
-    omega (arith, times-fits st.args.weight _ st.requires c.green_of.ensures.1)
+    omega (arith, times-fits c.args.weight _ c.requires c.green_of.ensures.1)
 
 pair-requires : tie.Need-pair-requires
 pair-requires c κs = search rules
 
 returns : tie.Need-returns
 returns c =
-    let a = c.before.before.before.args in
-    rw (c.pair.ensures, c.before.before.red_of.ensures.0, c.before.green_of.ensures.0)
+    let a = c.args in
+    rw (c.pair.ensures, c.red_of.ensures.0, c.green_of.ensures.0)
     (times-pair a.weight (red_of a.key) (green_of a.key))
 
 pub red_green_spec : {M : Type 1} → statement M

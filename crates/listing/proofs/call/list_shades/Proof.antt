@@ -10,7 +10,7 @@ use Rattle.listing.proofs.call.list_shades.Tie as tie
 
 -- the input
 abbrev s : tie.After-work_input-work → List ℕ
-s c = c.before.before.args.input.now
+s c = c.args.input.now
 
 work-input-requires : tie.Need-work_input-work-requires
 work-input-requires c κs = search rules
@@ -19,14 +19,13 @@ slice-aggregate-write-work : tie.Need-slice_bounds-write_work-end
 slice-aggregate-write-work c = search rules
 
 write-work-requires : tie.Need-write_work-length-requires
-write-work-requires c κs = (rw c.before.work_input-work.ensures (input-fits (s c.before)), search rules)
+write-work-requires c κs = (rw c.work_input-work.ensures (input-fits (s c.before)), search rules)
 
 returns : tie.Need-returns
 unfolding listing_text text_room
 returns c =
-    let w = c.before in
-    let t = w.before.before in
-    let put = rw t.work_input-work.ensures at w.write_work-length.ensures in
+    let t = c.before.before.before in
+    let put = rw t.work_input-work.ensures at c.write_work-length.ensures in
     (listing-is (s t) put.ends put.text_is, text-within (s t) put.ends put.text_is)
 
 pub list_shades_spec : {M : Type 1} → statement M

@@ -23,7 +23,7 @@ use Rattle.listing.proofs.call.work_input.Tie as tie
 
 -- the input
 abbrev s : tie.After-number-reading → List ℕ
-s c = c.before.before.args.input.now
+s c = c.args.input.now
 
 -- where the count is asked for
 abbrev asked : tie.In-Number → tie.After-number-reading
@@ -31,11 +31,11 @@ asked c = c.before.before.before
 
 -- the count
 abbrev value : tie.In-Number → ℕ
-value c = c.before.reading-1.given.0.0
+value c = c.reading-1.given.0.0
 
 -- where its digits end
 abbrev next : tie.In-Number → ℕ
-next c = c.before.reading-1.given.0.1.0
+next c = c.reading-1.given.0.1.0
 
 -- where the count is read, at the byte behind it
 abbrev read : tie.After-byte_at → tie.In-Number
@@ -53,11 +53,11 @@ passed c = c.before.before
 
 -- the line names the count
 named : (c : tie.In-Number) → Named (s (asked c)) (value c) (next c)
-named c = record { number = sym (asked c).number-reading.ensures ∙ c.before.reading-1.given.1 }
+named c = record { number = sym c.number-reading.ensures ∙ c.reading-1.given.1 }
 
 -- past the second test LF ends it
 ended : (c : tie.Else-byte_at-ne10) → byte_at (s (asked (read c.before))) (next (read c.before)) ≡ line_feed
-ended c = sym c.before.byte_at.ensures ∙ c.if-byte_at-ne10.false
+ended c = sym c.byte_at.ensures ∙ c.if-byte_at-ne10.false
 
 -- past the third the line is read
 line : (c : tie.Else-input-gt-MOST_INPUT) → Line (s (asked (read (behind c)))) (value (read (behind c))) (next (read (behind c)))
@@ -84,19 +84,17 @@ refused-requires c κs = search rules
 
 returns : tie.Need-returns-in_default
 returns c =
-    let e = c.before in
-    let a = e.before.before in
+    let a = c.before.before.before in
     c.refused.ensures
-    ∙ input-bad-line (s a) (line-no-digit (s a) _ (sym a.number-reading.ensures ∙ e.enum_told-1.given.1))
+    ∙ input-bad-line (s a) (line-no-digit (s a) _ (sym a.number-reading.ensures ∙ c.enum_told-1.given.1))
 
 refused-requires-2 : tie.Need-refused-requires-then-next-gt2
 refused-requires-2 c κs = search rules
 
 returns-2 : tie.Need-returns-then-next-gt2
 returns-2 c =
-    let i = c.before in
-    let k = i.before in
-    c.refused-then-next-gt2.ensures ∙ input-bad-line (s (asked k)) (line-long (named k) i.if-next-gt2.true)
+    let k = c.before.before in
+    c.refused-then-next-gt2.ensures ∙ input-bad-line (s (asked k)) (line-long (named k) c.if-next-gt2.true)
 
 byte-at-requires : tie.Need-byte_at-requires
 byte-at-requires c κs = search rules
@@ -106,22 +104,20 @@ refused-requires-3 c κs = search rules
 
 returns-3 : tie.Need-returns-then-byte_at-ne10
 returns-3 c =
-    let i = c.before in
-    let b = i.before in
+    let b = c.before.before in
     c.refused-then-byte_at-ne10.ensures
     ∙ input-bad-line (s (asked (read b)))
-    (line-not-ended (named (read b)) (λ e. i.if-byte_at-ne10.true (b.byte_at.ensures ∙ e)))
+    (line-not-ended (named (read b)) (λ e. c.if-byte_at-ne10.true (b.byte_at.ensures ∙ e)))
 
 refused-requires-4 : tie.Need-refused-requires-then-input-gt-MOST_INPUT
 refused-requires-4 c κs = search rules
 
 returns-4 : tie.Need-returns-then-input-gt-MOST_INPUT
 returns-4 c =
-    let i = c.before in
-    let e = i.before in
+    let e = c.before.before in
     let k = read e.before in
     c.refused-then-input-gt-MOST_INPUT.ensures
-    ∙ input-long (s (asked k)) (line-good (named k) (omega arith) (ended e)) i.if-input-gt-MOST_INPUT.true
+    ∙ input-long (s (asked k)) (line-good (named k) (omega arith) (ended e)) c.if-input-gt-MOST_INPUT.true
 
 add-picture : tie.Need-overflow_add-picture
 add-picture c = search rules
@@ -145,11 +141,10 @@ refused-requires-5 c κs = search rules
 
 returns-5 : tie.Need-returns-then-number-ne-DONE
 returns-5 c =
-    let i = c.before in
-    let f = i.before in
+    let f = c.before.before in
     let l = line (passed f) in
     c.refused-then-number-ne-DONE.ensures
-    ∙ input-bad-picture l (picture-is l.named) f.picture_refusal-number.ensures i.if-number-ne-DONE.true
+    ∙ input-bad-picture l (picture-is l.named) f.picture_refusal-number.ensures c.if-number-ne-DONE.true
 
 cast-work-picture : tie.Need-overflow_cast-count
 cast-work-picture c = search rules
@@ -159,10 +154,9 @@ work-picture-requires c κs = search rules
 
 returns-6 : tie.Need-returns
 returns-6 c =
-    let g = c.before in
-    let f = g.before in
+    let f = c.before.before in
     let l = line (passed f) in
-    c.work_picture.ensures ∙ input-left l (picture-is l.named) f.picture_refusal-number.ensures g.if-number-ne-DONE.false
+    c.work_picture.ensures ∙ input-left l (picture-is l.named) f.picture_refusal-number.ensures c.if-number-ne-DONE.false
 
 pub work_input_spec : {M : Type 1} → statement M
 work_input_spec =

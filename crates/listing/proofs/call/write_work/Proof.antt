@@ -22,38 +22,35 @@ same_length c = search rules
 
 returns : tie.Need-returns-then-number-ne-DONE
 returns c =
-    let put = c.before.before in
-    let t = put.before.before in
-    rw (text-refused t.before.before.args.work t.if-number-ne-DONE.true) put.put_refusal.ensures
+    rw (text-refused c.args.work c.if-number-ne-DONE.true) c.put_refusal.ensures
 
 mul-n : tie.Need-overflow_mul-n
 mul-n c = search rules
 
 array-share-prefix-palette : tie.Need-slice_bounds-palette-end
-array-share-prefix-palette c = (st (past c)).requires.0.palette-1
+array-share-prefix-palette c = c.requires.0.palette
 
 slice-aggregate-put-lines : tie.Need-slice_bounds-put_lines-end
-slice-aggregate-put-lines c = sym (length-take-le _ _ (st (past c.before)).requires.0.palette-1)
+slice-aggregate-put-lines c = sym (length-take-le _ _ c.requires.0.palette)
 
 array-share-prefix-index : tie.Need-slice_bounds-index-end
-array-share-prefix-index c = (st (past c.before)).requires.0.index-1
+array-share-prefix-index c = c.requires.0.index
 
 slice-aggregate-put-lines-2 : tie.Need-slice_bounds-put_lines-end-2
-slice-aggregate-put-lines-2 c = sym (length-take-le _ _ (st (past c.before.before)).requires.0.index-1)
+slice-aggregate-put-lines-2 c = sym (length-take-le _ _ c.requires.0.index)
 
 put-lines-requires : tie.Need-put_lines-requires
 put-lines-requires c κs =
     let s = st (past c.before.before) in
-    (entries-most s.pre.0, s.pre.1)
+    (entries-most s.requires.0, s.requires.1)
 
 same-length-2 : tie.Need-shape_of-out
 same-length-2 c = search rules
 
 returns-2 : tie.Need-returns
 returns-2 c =
-    let put = c.before.before in
-    let e = past put.before.before.before in
-    rw (text-lines (st e).args.work e.if-number-ne-DONE.left) put.put_lines.ensures
+    let e = past c.before.before.before.before.before in
+    rw (text-lines e.args.work e.if-number-ne-DONE.left) c.put_lines.ensures
 
 pub write_work_spec : {M : Type 1} → statement M
 write_work_spec =

@@ -27,12 +27,12 @@ shared-slice-read-if1 : tie.Need-bounds-index-i invariant-loop decreases-loop
 shared-slice-read-if1 c = search rules
 
 cast-if1 : tie.Need-overflow_cast-index invariant-loop decreases-loop
-cast-if1 c = omega (arith, c.shared_slice_known-1.given (turn c).before.loop-i.i)
+cast-if1 c = omega (arith, c.shared_slice_known-1.given c.loop-i.i)
 
 add-count : tie.Need-overflow_add-count invariant-loop decreases-loop
 add-count c =
     let t = turn c.before in
-    omega (arith, t.before.loop-i.inv.few, t.loop-i-test.taken)
+    omega (arith, t.loop-i.invariant.few, t.loop-i-test.taken)
 
 add-i : tie.Need-overflow_add-i invariant-loop decreases-loop
 add-i c = search rules
@@ -43,14 +43,13 @@ loop-less c = omega arith
 loop-again : tie.Need-loop-i-preserved invariant-loop decreases-loop
 loop-again c =
     let t = turn c.before in
-    let l = t.before in
-    let b = get_or l.before.args.index.now l.loop-i.i 0 in
-    let q = l.before.args.q in
-    counting-next l.loop-i.inv t.loop-i-test.taken
+    let b = get_or t.args.index.now t.loop-i.i 0 in
+    let q = t.args.q in
+    counting-next t.loop-i.invariant t.loop-i-test.taken
     (⊎_elim (λ t. rw (eq-eqb b q t.0.taken) t.1) (λ t. rw (ne_eqb b q t.0.left) t.1) c.if-index-i.branch)
 
 returns : tie.Need-returns invariant-loop decreases-loop
-returns c = counting-done c.before.loop-i.invariant c.loop-i-test.false
+returns c = counting-done c.loop-i.invariant c.loop-i-test.false
 
 pub count_of_spec : {M : Type 1} → statement M
 count_of_spec =

@@ -16,10 +16,6 @@ invariant-loop index k counts₀ q₀ counts q = (q ≤ k) × (counts ≡ fill q
 abbrev decreases-loop : tie.decreases-loop-q
 decreases-loop index k counts₀ q₀ counts q = k - q
 
--- where the function begins
-abbrev st : tie.At-loop-q invariant-loop decreases-loop → tie.Start invariant-loop decreases-loop
-st c = c.before.before.before
-
 loop-holds : tie.Need-loop-q-init invariant-loop decreases-loop
 unfolding fill
 loop-holds c = (omega arith, refl)
@@ -32,8 +28,7 @@ mul-counts c = search rules
 
 slice-write-counts : tie.Need-bounds-counts-q invariant-loop decreases-loop
 slice-write-counts c =
-    let l = c.before.before in
-    rw (l.loop-q.invariant.1, fill-length) (omega (arith, (st l).requires))
+    rw (c.loop-q.invariant.1, fill-length) (omega (arith, c.requires))
 
 add-q : tie.Need-overflow_add-q invariant-loop decreases-loop
 add-q c = search rules
@@ -43,20 +38,19 @@ loop-less c = omega arith
 
 loop-again : tie.Need-loop-q-preserved invariant-loop decreases-loop
 loop-again c =
-    let l = c.before.before in
-    let a = (st l).args in (
+    let a = c.args in (
       omega arith,
-      rw (l.loop-q.invariant.1, c.count_of.ensures)
-          (fill_more l.loop-q.q (mapped_to a.index.now) a.counts.now (omega (arith, (st l).requires))),
+      rw (c.loop-q.invariant.1, c.count_of.ensures)
+          (fill_more c.loop-q.q (mapped_to a.index.now) a.counts.now (omega (arith, c.requires))),
     )
 
 same_length : tie.Need-shape_of-counts invariant-loop decreases-loop
-same_length c = ap length c.before.loop-q.invariant.1 ∙ fill-length _ _ _
+same_length c = ap length c.loop-q.invariant.1 ∙ fill-length _ _ _
 
 returns : tie.Need-returns invariant-loop decreases-loop
 returns c =
-    let e : c.before.loop-q.q ≡ (st c.before).args.shades = omega arith in
-    rw e at c.before.loop-q.invariant.1
+    let e : c.loop-q.q ≡ c.args.shades = omega arith in
+    rw e at c.loop-q.invariant.1
 
 pub count_shades_spec : {M : Type 1} → statement M
 count_shades_spec =

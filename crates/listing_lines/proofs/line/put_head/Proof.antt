@@ -13,7 +13,7 @@ same_length : tie.Need-shape_of-out
 same_length c = search rules
 
 returns : tie.Need-returns
-returns c = c.before.before.put_line.ensures
+returns c = c.put_line.ensures
 
 pub put_head_spec : {M : Type 1} → statement M
 put_head_spec = tie.close (tie.spec slice-aggregate-put-line put-line-requires same_length returns)

@@ -12,10 +12,6 @@ invariant-loop out₀ at fields last a₀ i₀ out a i = Turn at fields out₀ i
 abbrev decreases-loop : tie.decreases-loop-i
 decreases-loop out₀ at fields last a₀ i₀ out a i = last - i
 
--- where the function begins
-abbrev st : tie.At-loop-i invariant-loop decreases-loop → tie.Start invariant-loop decreases-loop
-st c = c.before.before.before
-
 -- the turn in which a field is put
 abbrev turn : tie.After-put_field-a invariant-loop decreases-loop → tie.In-loop-i invariant-loop decreases-loop
 turn c = c.before.before.before
@@ -33,12 +29,11 @@ abbrev after : tie.After-put_last invariant-loop decreases-loop → tie.After-lo
 after c = c.before.before.before
 
 sub-last : tie.Need-overflow_sub-last invariant-loop decreases-loop
-sub-last c = omega (arith, c.before.before.requires.0)
+sub-last c = omega (arith, c.requires.0)
 
 loop-holds : tie.Need-loop-i-init invariant-loop decreases-loop
 loop-holds c =
-    let s = c.before.before in
-    turn-start s.args.at s.args.fields.now s.args.out-1.now s.requires.0
+    turn-start c.args.at c.args.fields.now c.args.out.now c.requires.0
 
 mul-put-field : tie.Need-offset_bounds-fields-i invariant-loop decreases-loop
 mul-put-field c = search rules
@@ -48,8 +43,7 @@ shared-slice-read-put-field c = search rules
 
 put-field-requires : tie.Need-put_field-a-requires invariant-loop decreases-loop
 put-field-requires c κs =
-    let l = c.before.before.before in
-    omega (arith, l.loop-i.invariant.few, l.loop-i.invariant.long, (st l).requires.1, c.before.before.loop-i-test.true)
+    omega (arith, c.loop-i.invariant.few, c.loop-i.invariant.long, c.requires.1, c.loop-i-test.true)
 
 add-i : tie.Need-overflow_add-i invariant-loop decreases-loop
 add-i c = search rules
@@ -60,7 +54,7 @@ loop-less c = omega arith
 loop-again : tie.Need-loop-i-preserved invariant-loop decreases-loop
 loop-again c =
     let t = turn (put c) in
-    turn_step t.before.loop-i.inv (omega (arith, t.loop-i-test.taken)) (put c).put_field-a.ensures
+    turn_step t.loop-i.invariant (omega (arith, t.loop-i-test.taken)) c.put_field-a.ensures
 
 mul-put-last : tie.Need-offset_bounds-fields-last invariant-loop decreases-loop
 mul-put-last c = search rules
@@ -70,8 +64,7 @@ shared-slice-read-put-last c = search rules
 
 put-last-requires : tie.Need-put_last-requires invariant-loop decreases-loop
 put-last-requires c κs =
-    let l = c.before.before.before in
-    omega (arith, l.loop-i.invariant.few, l.loop-i.invariant.long, l.loop-i.invariant.within, (st l).requires.1)
+    omega (arith, c.loop-i.invariant.few, c.loop-i.invariant.long, c.loop-i.invariant.within, c.requires.1)
 
 same_length : tie.Need-shape_of-out invariant-loop decreases-loop
 same_length c = search rules
@@ -79,7 +72,7 @@ same_length c = search rules
 returns : tie.Need-returns invariant-loop decreases-loop
 returns c =
     let l = after (end c) in
-    turn-done l.before.loop-i.inv l.loop-i-test.left (end c).put_last.ensures
+    turn-done l.loop-i.invariant l.loop-i-test.left c.put_last.ensures
 
 pub put_line_spec : {M : Type 1} → statement M
 put_line_spec =

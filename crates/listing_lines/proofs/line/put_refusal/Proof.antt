@@ -22,8 +22,7 @@ same_length c = search rules
 
 returns : tie.Need-returns
 returns c =
-    let last = c.before.before in
-    put_then (word last).put_word-a.ensures last.put_last.ensures
+    put_then c.put_word-a.ensures c.put_last.ensures
 
 pub put_refusal_spec : {M : Type 1} → statement M
 put_refusal_spec =

@@ -5,10 +5,6 @@ use borrow.Author.Rules.{rules}
 use Rattle.listing_lines.proofs.line.put_shade.Statement.{statement}
 use Rattle.listing_lines.proofs.line.put_shade.Tie as tie
 
--- where the function begins
-abbrev st : tie.After-shared_slice_known-1 → tie.Start
-st c = c.before.before
-
 mul-i : tie.Need-overflow_mul-i
 mul-i c = search rules
 
@@ -16,7 +12,7 @@ shared-slice-read-t10 : tie.Need-bounds-palette-i
 shared-slice-read-t10 c = search rules
 
 cast-t11 : tie.Need-overflow_cast-fields
-cast-t11 c = omega (arith, c.shared_slice_known-2-1.given (3 * (st c.before).args.q))
+cast-t11 c = omega (arith, c.shared_slice_known-2-1.given (3 * c.args.q))
 
 add-t12 : tie.Need-overflow_add-fields
 add-t12 c = search rules
@@ -25,7 +21,7 @@ shared-slice-read-t14 : tie.Need-bounds-palette-i-2
 shared-slice-read-t14 c = search rules
 
 cast-t15 : tie.Need-overflow_cast-fields-2
-cast-t15 c = omega (arith, c.shared_slice_known-3-1.given (3 * (st c.before.before).args.q + 1))
+cast-t15 c = omega (arith, c.shared_slice_known-3-1.given (3 * c.args.q + 1))
 
 add-t16 : tie.Need-overflow_add-fields-2
 add-t16 c = search rules
@@ -34,7 +30,7 @@ shared-slice-read-t18 : tie.Need-bounds-palette-i-3
 shared-slice-read-t18 c = search rules
 
 cast-t19 : tie.Need-overflow_cast-fields-3
-cast-t19 c = omega (arith, c.shared_slice_known-4-1.given (3 * (st c.before.before.before).args.q + 2))
+cast-t19 c = omega (arith, c.shared_slice_known-4-1.given (3 * c.args.q + 2))
 
 slice-aggregate-put-line : tie.Need-slice_bounds-put_line-end
 slice-aggregate-put-line c = search rules

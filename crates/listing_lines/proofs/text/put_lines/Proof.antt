@@ -34,7 +34,7 @@ listed c = c.before.before.before.before
 
 -- the palette
 abbrev palette : tie.After-count_shades → List ℕ
-palette c = (st c).args.palette.now
+palette c = c.args.palette.now
 
 -- the count of a shade
 abbrev count : tie.After-count_shades → ℕ → ℕ
@@ -42,12 +42,12 @@ count c q = get_or c.count_shades.new.counts q 0
 
 -- it is the one that the index picture gives
 count-is : (c : tie.After-count_shades) (q : ℕ) → q < length (palette c) / 3
-    → count c q ≡ mapped_to (st c).args.index.now q
+    → count c q ≡ mapped_to c.args.index.now q
 count-is c q h =
     let z = length-replicate {A = ℕ} 64 0 in
     ap (λ (l : List ℕ). get_or l q 0) c.count_shades.ensures
-    ∙ fill-at (length (palette c) / 3) q (mapped_to (st c).args.index.now) (replicate 64 0) h
-    (omega (arith, z, (st c).requires.0))
+    ∙ fill-at (length (palette c) / 3) q (mapped_to c.args.index.now) (replicate 64 0) h
+    (omega (arith, z, c.requires.0))
 
 -- ---- the proof
 
@@ -68,15 +68,15 @@ put-rows-requires c κs =
     let h = c.before.before.before.before in
     let put = h.put_head-a.ensures in
     let s = st (counted h) in (
-      omega (arith, (counted h).count_shades.auto.1.1.0, length-replicate {A = ℕ} 64 0, s.pre.0),
-      omega (arith, put.ends, put-length put, head-length s.args.summary, s.pre.0, s.pre.1),
+      omega (arith, h.count_shades.auto.1.1.0, length-replicate {A = ℕ} 64 0, s.requires.0),
+      omega (arith, put.ends, put-length put, head-length s.args.summary, s.requires.0, s.requires.1),
     )
 
 put-last-requires : tie.Need-put_last-requires
 put-last-requires c κs =
     let l = c.before.before.before in
     let k = counted (headed l) in
-    let head = (headed l).put_head-a.ensures in
+    let head = l.put_head-a.ensures in
     let rows = l.put_rows-b.ensures in
     let s = st k in
     omega (
@@ -87,8 +87,8 @@ put-last-requires c κs =
       rows.ends,
       put-length rows,
       rows-length (length (palette k) / 3) (palette k) (count k),
-      s.pre.0,
-      s.pre.1,
+      s.requires.0,
+      s.requires.1,
     )
 
 same_length : tie.Need-shape_of-out
@@ -99,8 +99,8 @@ returns c =
     let e = c.before.before in
     let l = listed e in
     let k = counted (headed l) in
-    lines-put (st k).args.summary (palette k) (st k).args.index.now (count k) (count-is k)
-    (headed l).put_head-a.ensures l.put_rows-b.ensures e.put_last.ensures
+    lines-put k.args.summary (palette k) k.args.index.now (count k) (count-is k)
+    l.put_head-a.ensures l.put_rows-b.ensures e.put_last.ensures
 
 pub put_lines_spec : {M : Type 1} → statement M
 put_lines_spec =

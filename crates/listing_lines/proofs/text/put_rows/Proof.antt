@@ -36,7 +36,7 @@ count c q = get_or c.args.counts.now q 0
 loop-holds : tie.Need-loop-q-init invariant-loop decreases-loop
 loop-holds c =
     let s = c.before.before.before in
-    (omega arith, rows_start s.args.at s.args.palette.now (count s) s.args.out-1.now)
+    (omega arith, rows_start s.args.at s.args.palette.now (count s) s.args.out.now)
 
 mul-put-shade : tie.Need-offset_bounds-counts-q invariant-loop decreases-loop
 mul-put-shade c = search rules
@@ -47,11 +47,11 @@ shared-slice-read-put-shade c = search rules
 put-shade-requires : tie.Need-put_shade-a-requires invariant-loop decreases-loop
 put-shade-requires c κs =
     let t = turn c in
-    let l = t.before.loop-q in
+    let l = t.loop-q in
     let s = st t.before in
     let n = rows-length l.q s.args.palette.now (count s) in (
       omega (arith, t.loop-q-test.taken),
-      omega (arith, t.loop-q-test.taken, n, l.inv.1.ends, put-length l.inv.1, s.pre.1),
+      omega (arith, t.loop-q-test.taken, n, l.invariant.1.ends, put-length l.invariant.1, s.requires.1),
     )
 
 add-q : tie.Need-overflow_add-q invariant-loop decreases-loop
@@ -64,18 +64,18 @@ loop-again : tie.Need-loop-q-preserved invariant-loop decreases-loop
 loop-again c =
     let t = turn (put c).before in
     let s = st t.before in
-    let l = t.before.loop-q in (
+    let l = t.loop-q in (
       omega (arith, t.loop-q-test.taken),
-      rows_step l.q s.args.palette.now (count s) l.inv.1 (put c).put_shade-a.ensures,
+      rows_step l.q s.args.palette.now (count s) l.invariant.1 c.put_shade-a.ensures,
     )
 
 same_length : tie.Need-shape_of-out invariant-loop decreases-loop
-same_length c = put-length c.before.loop-q.invariant.1
+same_length c = put-length c.loop-q.invariant.1
 
 returns : tie.Need-returns invariant-loop decreases-loop
 returns c =
     let s = st c.before in
-    let i = c.before.loop-q.invariant in
+    let i = c.loop-q.invariant in
     rows-done s.args.palette.now (count s) i.0 c.loop-q-test.false i.1
 
 pub put_rows_spec : {M : Type 1} → statement M

@@ -19,31 +19,31 @@ read_at c = c.before.before.before.before
 
 -- the picture
 abbrev p : tie.After-read_header-h → List ℕ
-p c = c.before.before.args.picture.now
+p c = c.args.picture.now
 
 -- the header's width
 abbrev width : tie.After-bad_size → ℕ
-width c = c.before.before.h-1.given.0.0
+width c = c.h-1.given.0.0
 
 -- its height
 abbrev height : tie.After-bad_size → ℕ
-height c = c.before.before.h-1.given.0.1.0
+height c = c.h-1.given.0.1.0
 
 -- its depth
 abbrev depth : tie.After-bad_size → ℕ
-depth c = c.before.before.h-1.given.0.1.1.0
+depth c = c.h-1.given.0.1.1.0
 
 -- the first place after it
 abbrev start : tie.After-bad_size → ℕ
-start c = c.before.before.h-1.given.0.1.1.1.0
+start c = c.h-1.given.0.1.1.1.0
 
 -- what the header is
 header : (c : tie.After-bad_size) → header_of (p (read_at c)) ≡ Read (width c) (height c) (depth c) (start c)
-header c = sym (read_at c).read_header-h.ensures ∙ c.before.before.h-1.given.1
+header c = sym c.read_header-h.ensures ∙ c.h-1.given.1
 
 -- past the size's test: it fails
 size_ok : (c : tie.Else-bad_size) → bad_size (width c.before) (height c.before) ≡ false
-size_ok c = sym c.before.bad_size.ensures ∙ c.if-bad_size.false
+size_ok c = sym c.bad_size.ensures ∙ c.if-bad_size.false
 
 read-header-requires : tie.Need-read_header-h-requires
 read-header-requires c κs = search rules

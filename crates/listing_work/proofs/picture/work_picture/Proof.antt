@@ -8,10 +8,6 @@ use Rattle.listing_work.proofs.Works.{ready, ready-count, ready-room, ready_refu
 use Rattle.listing_work.proofs.picture.work_picture.Statement.{statement}
 use Rattle.listing_work.proofs.picture.work_picture.Tie as tie
 
--- where the function begins
-abbrev st : tie.After-raster_of-raster → tie.Start
-st c = c.before.before
-
 -- where the raster is told
 abbrev told : tie.After-add_strip-added → tie.After-raster_of-raster
 told c = c.before.before.before
@@ -34,15 +30,15 @@ shared c = c.before.before.before
 
 -- the picture
 abbrev p : tie.After-run-ran → List ℕ
-p c = (st (told (added c))).args.picture.now
+p c = c.args.picture.now
 
 -- the count
 abbrev k : tie.After-run-ran → ℕ
-k c = (st (told (added c))).args.count
+k c = c.args.count
 
 -- the raster is the picture's
-raster-is : (c : tie.After-run-ran) → (told (added c)).raster_of-raster.result.now ≡ raster_of (p c)
-raster-is c = (told (added c)).raster_of-raster.ensures
+raster-is : (c : tie.After-run-ran) → c.raster_of-raster.result.now ≡ raster_of (p c)
+raster-is c = c.raster_of-raster.ensures
 
 raster-of-requires : tie.Need-raster_of-raster-requires
 raster-of-requires c κs = search rules
@@ -78,7 +74,7 @@ returns : tie.Need-returns-then-number-ne-DONE
 returns c =
     let t = c.before in
     let r = ran-refused t in
-    let w = ready (p r) (k r) (raster-is r) (added r).add_strip-added.ensures r.run-ran.ensures in
+    let w = ready (p r) (k r) (raster-is r) r.add_strip-added.ensures r.run-ran.ensures in
     ready_refused w c.refused.ensures t.if-number-ne-DONE.true
 
 slice-aggregate-work-run : tie.Need-slice_bounds-work_run-end
@@ -94,14 +90,14 @@ work-run-requires : tie.Need-work_run-requires
 work-run-requires c κs =
     let e = shared c in
     let r = ran e in
-    let w = ready (p r) (k r) (raster-is r) (added r).add_strip-added.ensures r.run-ran.ensures in
+    let w = ready (p r) (k r) (raster-is r) r.add_strip-added.ensures r.run-ran.ensures in
     (ready-count w e.if-number-ne-DONE.left, ready-room w e.if-number-ne-DONE.left)
 
 returns-2 : tie.Need-returns
 returns-2 c =
     let e = shared c.before in
     let r = ran e in
-    let w = ready (p r) (k r) (raster-is r) (added r).add_strip-added.ensures r.run-ran.ensures in
+    let w = ready (p r) (k r) (raster-is r) r.add_strip-added.ensures r.run-ran.ensures in
     ready-left w c.work_run.ensures (raster-is r) e.if-number-ne-DONE.left
 
 pub work_picture_spec : {M : Type 1} → statement M

@@ -10,10 +10,6 @@ use Rattle.listing_work.proofs.Works.{run-refused, run-left}
 use Rattle.listing_work.proofs.picture.work_run.Statement.{statement}
 use Rattle.listing_work.proofs.picture.work_run.Tie as tie
 
--- where the function begins
-abbrev st : tie.After-palette_from_groups → tie.Start
-st c = c.before.before.before.before.before.before.before.before
-
 -- where the palette is made
 abbrev made : tie.After-map_strip-mapped → tie.After-palette_from_groups
 made c = c.before.before.before.before
@@ -22,11 +18,11 @@ mul-n : tie.Need-overflow_mul-n
 mul-n c = search rules
 
 array-share-prefix-shades : tie.Need-slice_bounds-shades-end
-array-share-prefix-shades c = c.before.before.before.before.before.requires.1
+array-share-prefix-shades c = c.requires.1
 
 slice-aggregate-palette-from-groups : tie.Need-slice_bounds-palette_from_groups-end
 slice-aggregate-palette-from-groups c =
-    sym (length-take-le _ _ c.before.before.before.before.before.before.requires.1)
+    sym (length-take-le _ _ c.requires.1)
 
 slice-aggregate-palette-from-groups-2 : tie.Need-slice_bounds-palette_from_groups-end-2
 slice-aggregate-palette-from-groups-2 c = search rules
@@ -39,9 +35,8 @@ array-share-prefix-palette c = search rules
 
 slice-aggregate-map-strip : tie.Need-slice_bounds-map_strip-end
 slice-aggregate-map-strip c =
-    let m = c.before.before in
-    let long = m.palette_from_groups.auto.1.1.1.1.1.1.0 ∙ length-replicate {A = ℕ} 192 0 in
-    sym (length-take-le _ _ (omega (arith, long, (st m).requires.0)))
+    let long = c.palette_from_groups.auto.1.1.1.1.1.1.0 ∙ length-replicate {A = ℕ} 192 0 in
+    sym (length-take-le _ _ (omega (arith, long, c.requires.0)))
 
 slice-aggregate-map-strip-2 : tie.Need-slice_bounds-map_strip-end-2
 slice-aggregate-map-strip-2 c = search rules
@@ -54,10 +49,9 @@ refused-requires c κs = search rules
 
 returns : tie.Need-returns-then-number-ne-DONE
 returns c =
-    let m = c.before.before.before in
-    let a = (st (made m)).args in
+    let a = c.args in
     run-refused a.raster.now a.rec a.keys.now a.weights.now a.ran a.members.now a.count
-    (made m).palette_from_groups.ensures m.map_strip-mapped.ensures c.refused.ensures c.before.if-number-ne-DONE.true
+    c.palette_from_groups.ensures c.map_strip-mapped.ensures c.refused.ensures c.if-number-ne-DONE.true
 
 bit-requires : tie.Need-bit-requires
 bit-requires c κs = search rules
@@ -67,10 +61,9 @@ cast-t28 c = search rules
 
 returns-2 : tie.Need-returns
 returns-2 c =
-    let m = c.before.before.before in
-    let a = (st (made m)).args in
+    let a = c.args in
     run-left a.raster.now a.rec a.keys.now a.weights.now a.ran a.members.now a.count
-    (made m).palette_from_groups.ensures m.map_strip-mapped.ensures c.bit.ensures.0 c.before.if-number-ne-DONE.false
+    c.palette_from_groups.ensures c.map_strip-mapped.ensures c.bit.ensures.0 c.if-number-ne-DONE.false
 
 pub work_run_spec : {M : Type 1} → statement M
 work_run_spec =

@@ -15,7 +15,7 @@ same-length-2 c = search rules
 
 returns : tie.Need-returns
 unfolding run_of
-returns c = c.before.before.before.before.run_with.ensures
+returns c = c.run_with.ensures
 
 pub run_spec : {M : Type 1} → statement M
 run_spec = tie.close (tie.spec run-with-requires same_length same-length-2 returns)

@@ -14,22 +14,14 @@ use Rattle.lloyd.proofs.Wholes.{
 use Rattle.lloyd.proofs.runs.run_with.Statement.{statement}
 use Rattle.lloyd.proofs.runs.run_with.Tie as tie
 
--- what the call was given, from the tests
-abbrev st : tie.After-run_refusal-number → tie.Start
-st c = c.before.before.before.before.before.before.before
-
--- the tests, from the limit that is asked for
-abbrev tested : tie.After-limit_of-rounds → tie.After-run_refusal-number
-tested c = c.before.before
-
 -- past them no row holds
 none : (c : tie.After-limit_of-rounds)
-    → (let s = (st (tested c)).args in
-    first_of (run_rows s.rec s.keys.now s.weights.now s.count s.limit s.members-1.now
-    s.totals-1.now) ≡ done)
-none c = sym (tested c).run_refusal-number.ensures ∙ c.before.if-number-ne-DONE.false
+    → (let s = c.args in
+    first_of (run_rows s.rec s.keys.now s.weights.now s.count s.limit s.members.now
+    s.totals.now) ≡ done)
+none c = sym c.run_refusal-number.ensures ∙ c.if-number-ne-DONE.false
 
-limit_is : (c : tie.After-limit_of-rounds) → c.limit_of-rounds.result ≡ limit_of (st (tested c)).args.limit
+limit_is : (c : tie.After-limit_of-rounds) → c.limit_of-rounds.result ≡ limit_of c.args.limit
 limit_is c = c.limit_of-rounds.ensures
 
 run-refusal-requires : tie.Need-run_refusal-number-requires
@@ -46,10 +38,9 @@ same-length-2 c = search rules
 
 returns : tie.Need-returns-then-number-ne-DONE
 returns c =
-    let t = c.before.before in
-    let s = (st t).args in
-    with-meets-refused s.rec s.keys.now s.weights.now s.count s.limit s.members-1.now
-    s.totals-1.now (kind_of s.leaps) _ _ t.run_refusal-number.ensures c.before.if-number-ne-DONE.true c.refused.ensures
+    let s = c.args in
+    with-meets-refused s.rec s.keys.now s.weights.now s.count s.limit s.members.now
+    s.totals.now (kind_of s.leaps) _ _ c.run_refusal-number.ensures c.if-number-ne-DONE.true c.refused.ensures
 
 limit-of-requires : tie.Need-limit_of-rounds-requires
 limit-of-requires c κs = search rules
@@ -60,12 +51,12 @@ slice-aggregate-make-run c = search rules
 make-run-requires : tie.Need-make_run-a-requires
 make-run-requires c κs =
     let l = c.before.before.before in
-    let s = (st (tested l)).args in (
+    let s = l.args in (
       rw (limit_is l)
-          (runnable-of-none s.rec s.keys.now s.weights.now s.count s.limit s.members-1.now
-          s.totals-1.now (none l)),
-      table-of-none s.rec s.keys.now s.weights.now s.count s.limit s.members-1.now
-          s.totals-1.now (none l),
+          (runnable-of-none s.rec s.keys.now s.weights.now s.count s.limit s.members.now
+          s.totals.now (none l)),
+      table-of-none s.rec s.keys.now s.weights.now s.count s.limit s.members.now
+          s.totals.now (none l),
       refl,
     )
 
@@ -77,12 +68,11 @@ same-length-4 c = search rules
 
 returns-2 : tie.Need-returns
 returns-2 c =
-    let m = c.before.before.before.before.before in
-    let l = m.before.before.before.before in
-    let s = (st (tested l)).args in
-    with-meets-made s.rec s.keys.now s.weights.now s.count s.limit s.members-1.now
-    s.totals-1.now (kind_of s.leaps) _ _ _ _ _ _ _ (none l) (rw (limit_is l) at m.make_run-a.ensures.0)
-    m.make_run-a.ensures.1 refl
+    let l = c.before.before.before.before.before.before.before.before.before in
+    let s = l.args in
+    with-meets-made s.rec s.keys.now s.weights.now s.count s.limit s.members.now
+    s.totals.now (kind_of s.leaps) _ _ _ _ _ _ _ (none l) (rw (limit_is l) at c.make_run-a.ensures.0)
+    c.make_run-a.ensures.1 refl
 
 pub run_with_spec : {M : Type 1} → statement M
 run_with_spec =

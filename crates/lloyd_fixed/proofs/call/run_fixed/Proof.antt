@@ -7,7 +7,7 @@ use borrow.Author.Rules.{rules}
 use Rattle.number.proofs.Fills.{fill-length}
 use Rattle.refusal.specs.{done, first_of}
 use Rattle.colour.specs.{Bytes}
-use Rattle.shades-1.specs.{OnGrid}
+use Rattle.shades.specs.{OnGrid}
 use Rattle.lloyd_tests.specs.{limit_of}
 use Rattle.lloyd_stock.specs.{most_fixed, stock}
 use Rattle.lloyd_stock.proofs.Promises.{bad-fixed-exactly, stock-length, stock-low, stock-laid}
@@ -23,43 +23,35 @@ use Rattle.lloyd_fixed.proofs.Wholes.{
 use Rattle.lloyd_fixed.proofs.call.run_fixed.Statement.{statement}
 use Rattle.lloyd_fixed.proofs.call.run_fixed.Tie as tie
 
--- what the call was given, from the tests
-abbrev st : tie.After-fixed_refusal-number → tie.Start
-st c = c.before.before.before.before.before.before.before.before
-
--- the tests, from the limit that is asked for
-abbrev tested : tie.After-limit_of-rounds → tie.After-fixed_refusal-number
-tested c = c.before.before
-
 -- past them no row holds
 none : (c : tie.After-limit_of-rounds)
-    → (let s = (st (tested c)).args in
+    → (let s = c.args in
     first_of (fixed_rows s.rec s.keys.now s.weights.now s.fixed.now s.count s.limit
-    s.members-1.now s.totals-1.now) ≡ done)
-none c = sym (tested c).fixed_refusal-number.ensures ∙ c.before.if-number-ne-DONE.false
+    s.members.now s.totals.now) ≡ done)
+none c = sym c.fixed_refusal-number.ensures ∙ c.if-number-ne-DONE.false
 
 -- so all tests failed
 good : (c : tie.After-limit_of-rounds)
-    → (let s = (st (tested c)).args in
-    FixedGood s.rec s.keys.now s.weights.now s.fixed.now s.count s.limit s.members-1.now
-    s.totals-1.now)
+    → (let s = c.args in
+    FixedGood s.rec s.keys.now s.weights.now s.fixed.now s.count s.limit s.members.now
+    s.totals.now)
 good c =
-    let s = (st (tested c)).args in
-    good-of-none s.rec s.keys.now s.weights.now s.fixed.now s.count s.limit s.members-1.now
-    s.totals-1.now (none c)
+    let s = c.args in
+    good-of-none s.rec s.keys.now s.weights.now s.fixed.now s.count s.limit s.members.now
+    s.totals.now (none c)
 
-limit_is : (c : tie.After-limit_of-rounds) → c.limit_of-rounds.result ≡ limit_of (st (tested c)).args.limit
+limit_is : (c : tie.After-limit_of-rounds) → c.limit_of-rounds.result ≡ limit_of c.args.limit
 limit_is c = c.limit_of-rounds.ensures
 
 -- the fixed list has 3 to 189 bytes
 fixed-most : (c : tie.After-limit_of-rounds)
-    → (let n = length (st (tested c)).args.fixed.now in (3 ≤ n) × (n ≤ most_fixed))
+    → (let n = length c.args.fixed.now in (3 ≤ n) × (n ≤ most_fixed))
 fixed-most c =
-    let w = (bad-fixed-exactly (st (tested c)).args.fixed.now).0 (good c).whole in
+    let w = (bad-fixed-exactly c.args.fixed.now).0 (good c).whole in
     (omega (arith, w.0, w.2), omega (arith, w.1, w.2))
 
-fixed-bytes : (c : tie.After-limit_of-rounds) → Bytes (st (tested c)).args.fixed.now
-fixed-bytes c i = omega (arith, (tested c).before.before.before.before.before.shared_slice_known-3-1.given i)
+fixed-bytes : (c : tie.After-limit_of-rounds) → Bytes c.args.fixed.now
+fixed-bytes c i = omega (arith, c.shared_slice_known-3-1.given i)
 
 -- where the limit is asked for, from the shades laid
 abbrev asked : tie.After-lay_stock → tie.After-limit_of-rounds
@@ -67,10 +59,10 @@ asked c = c.before.before
 
 -- the front of what is laid is the stock
 base-is : (c : tie.After-lay_stock)
-    → (let fixed = (st (tested (asked c))).args.fixed.now in
+    → (let fixed = c.args.fixed.now in
     take (length fixed) c.lay_stock.new.base ≡ stock fixed)
 base-is c =
-    let fixed = (st (tested (asked c))).args.fixed.now in
+    let fixed = c.args.fixed.now in
     ap (take (length fixed)) c.lay_stock.ensures
     ∙ stock-laid fixed _ (omega (arith, (fixed-most (asked c)).1))
 
@@ -88,10 +80,9 @@ same-length-2 c = search rules
 
 returns : tie.Need-returns-then-number-ne-DONE
 returns c =
-    let t = c.before.before in
-    let s = (st t).args in
+    let s = c.args in
     fixed-meets-refused s.rec s.keys.now s.weights.now s.fixed.now s.count s.limit
-    s.members-1.now s.totals-1.now _ _ t.fixed_refusal-number.ensures c.before.if-number-ne-DONE.true c.refused.ensures
+    s.members.now s.totals.now _ _ c.fixed_refusal-number.ensures c.if-number-ne-DONE.true c.refused.ensures
 
 limit-of-requires : tie.Need-limit_of-rounds-requires
 limit-of-requires c κs = search rules
@@ -110,7 +101,7 @@ array-share-prefix-base c =
 slice-aggregate-run-from : tie.Need-slice_bounds-run_from-end
 slice-aggregate-run-from c =
     let l = c.before.before in
-    sym (ap length (base-is l) ∙ stock-length (st (tested (asked l))).args.fixed.now)
+    sym (ap length (base-is l) ∙ stock-length l.args.fixed.now)
 
 slice-aggregate-run-from-2 : tie.Need-slice_bounds-run_from-end-2
 slice-aggregate-run-from-2 c = search rules
@@ -119,17 +110,17 @@ run-from-requires : tie.Need-run_from-a-requires
 run-from-requires c κs =
     let l = c.before.before.before.before.before in
     let a = asked l in
-    let s = (st (tested a)).args in
+    let s = a.args in
     let fixed = s.fixed.now in (
       rw (limit_is a)
-          (fixed-able s.rec s.keys.now s.weights.now fixed s.count s.limit s.members-1.now
-          s.totals-1.now (good a)),
+          (fixed-able s.rec s.keys.now s.weights.now fixed s.count s.limit s.members.now
+          s.totals.now (good a)),
       subst OnGrid (sym (base-is l)) (stock-low fixed (fixed-bytes a)),
       omega (arith, ap length (base-is l), stock-length fixed, (fixed-most a).0),
       omega (
         arith,
-        (some-free s.rec s.keys.now s.weights.now fixed s.count s.limit s.members-1.now
-            s.totals-1.now (good a)).0,
+        (some-free s.rec s.keys.now s.weights.now fixed s.count s.limit s.members.now
+            s.totals.now (good a)).0,
       ),
       refl,
     )
@@ -142,13 +133,12 @@ same-length-4 c = search rules
 
 returns-2 : tie.Need-returns
 returns-2 c =
-    let m = c.before.before.before.before.before in
-    let l = m.before.before.before.before.before.before in
+    let l = c.before.before.before.before.before.before.before.before.before.before.before in
     let a = asked l in
-    let s = (st (tested a)).args in
+    let s = a.args in
     fixed-meets-made s.rec s.keys.now s.weights.now s.fixed.now s.count s.limit
-    s.members-1.now s.totals-1.now _ _ (base-is l) (limit_is a) _ _ _ _ _ _ _ (none a) m.run_from-a.ensures.0
-    m.run_from-a.ensures.1 refl
+    s.members.now s.totals.now _ _ (base-is l) (limit_is a) _ _ _ _ _ _ _ (none a) c.run_from-a.ensures.0
+    c.run_from-a.ensures.1 refl
 
 pub run_fixed_spec : {M : Type 1} → statement M
 run_fixed_spec =

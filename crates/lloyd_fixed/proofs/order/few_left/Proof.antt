@@ -12,11 +12,10 @@ use Rattle.lloyd_fixed.proofs.order.few_left.Tie as tie
 
 returns : tie.Need-returns-then-count-used
 returns c =
-    let s = c.before.before.before in
-    let fixed = s.args.fixed.now in
-    let enough = left-at-least fixed (λ i. omega (arith, c.before.shared_slice_known-2-1.given i)) s.requires.0
-    s.requires.1 in
-    sym (le-ltb (colours_left s.args.rec.used s.args.keys.now fixed) (s.args.count - fixed_in fixed)
+    let fixed = c.args.fixed.now in
+    let enough = left-at-least fixed (λ i. omega (arith, c.shared_slice_known-2-1.given i)) c.requires.0
+    c.requires.1 in
+    sym (le-ltb (colours_left c.args.rec.used c.args.keys.now fixed) (c.args.count - fixed_in fixed)
     (omega (arith, c.if-count-used.true, enough)))
 
 colours-left-requires : tie.Need-colours_left-requires
@@ -27,7 +26,7 @@ sub-result c = search rules
 
 returns-2 : tie.Need-returns
 returns-2 c =
-    let a = c.before.before.before.before.args in
+    let a = c.args in
     ap (λ n. ltb n (a.count - fixed_in a.fixed.now)) c.colours_left.ensures
 
 pub few_left_spec : {M : Type 1} → statement M

@@ -11,53 +11,47 @@ use Rattle.lloyd_stock.proofs.Promises.{used-keys-of-table}
 use Rattle.lloyd_fixed.proofs.order.fixed_refusal.Statement.{statement}
 use Rattle.lloyd_fixed.proofs.order.fixed_refusal.Tie as tie
 
--- what the call was given
-abbrev st : tie.After-bad_table → tie.Start
-st c = c.before.before.before.before.before.before
-
 -- past each test: it fails
 table-ok : (c : tie.Else-bad_table)
-    → (let s = (st c.before).args in bad_table s.rec s.keys.now s.weights.now ≡ false)
-table-ok c = sym c.before.bad_table.ensures ∙ c.if-bad_table.false
+    → (let s = c.args in bad_table s.rec s.keys.now s.weights.now ≡ false)
+table-ok c = sym c.bad_table.ensures ∙ c.if-bad_table.false
 
-fixed-ok : (c : tie.Else-bad_fixed) → bad_fixed (st c.before.before.before).args.fixed.now ≡ false
-fixed-ok c = sym c.before.bad_fixed.ensures ∙ c.if-bad_fixed.false
+fixed-ok : (c : tie.Else-bad_fixed) → bad_fixed c.args.fixed.now ≡ false
+fixed-ok c = sym c.bad_fixed.ensures ∙ c.if-bad_fixed.false
 
-count-ok : (c : tie.Else-bad_count) → bad_count (st c.before.before.before.before.before).args.count ≡ false
-count-ok c = sym c.before.bad_count.ensures ∙ c.if-bad_count.false
+count-ok : (c : tie.Else-bad_count) → bad_count c.args.count ≡ false
+count-ok c = sym c.bad_count.ensures ∙ c.if-bad_count.false
 
 free-ok : (c : tie.Else-count-held)
-    → (let s = (st c.before.before.before.before.before.before).args in
+    → (let s = c.args in
     no_free (fixed_in s.fixed.now) s.count ≡ false)
 free-ok c = lt-leb _ _ c.if-count-held.false
 
 colours-ok : (c : tie.Else-few_left)
-    → (let s = (st c.before.before.before.before.before.before.before.before).args in
+    → (let s = c.args in
     few_left s.rec s.keys.now s.fixed.now s.count ≡ false)
-colours-ok c = sym c.before.few_left.ensures ∙ c.if-few_left.false
+colours-ok c = sym c.few_left.ensures ∙ c.if-few_left.false
 
 bad-table-requires : tie.Need-bad_table-requires
 bad-table-requires c κs = search rules
 
 returns : tie.Need-returns-then-bad_table
-returns c = simp (sym c.before.bad_table.ensures ∙ c.if-bad_table.true)
+returns c = simp (sym c.bad_table.ensures ∙ c.if-bad_table.true)
 
 bad-fixed-requires : tie.Need-bad_fixed-requires
 bad-fixed-requires c κs = search rules
 
 returns-2 : tie.Need-returns-then-bad_fixed
 returns-2 c =
-    let b = c.before in
-    simp (table-ok b.before, sym b.bad_fixed.ensures ∙ c.if-bad_fixed.true)
+    simp (table-ok c.before.before, sym c.bad_fixed.ensures ∙ c.if-bad_fixed.true)
 
 bad-count-requires : tie.Need-bad_count-requires
 bad-count-requires c κs = search rules
 
 returns-3 : tie.Need-returns-then-bad_count
 returns-3 c =
-    let b = c.before in
-    let w = b.before in
-    simp (table-ok w.before.before, fixed-ok w, sym b.bad_count.ensures ∙ c.if-bad_count.true)
+    let w = c.before.before in
+    simp (table-ok w.before.before, fixed-ok w, sym c.bad_count.ensures ∙ c.if-bad_count.true)
 
 returns-4 : tie.Need-returns-then-count-held
 returns-4 c =
@@ -68,7 +62,7 @@ returns-4 c =
 few-left-requires : tie.Need-few_left-requires
 few-left-requires c κs =
     let w = c.before.before.before in
-    let s = (st w.before.before.before).args in (
+    let s = w.args in (
       used-keys-of-table
           ((bad-table-exactly s.rec s.keys.now s.weights.now).0 (table-ok w.before.before)),
       fixed-ok w,
@@ -77,8 +71,7 @@ few-left-requires c κs =
 
 returns-5 : tie.Need-returns-then-few_left
 returns-5 c =
-    let l = c.before in
-    let f = l.before in
+    let f = c.before.before in
     let e = f.before in
     let w = e.before.before in
     simp (
@@ -86,7 +79,7 @@ returns-5 c =
       fixed-ok w,
       count-ok e,
       free-ok f,
-      sym l.few_left.ensures ∙ c.if-few_left.true,
+      sym c.few_left.ensures ∙ c.if-few_left.true,
     )
 
 room-refusal-requires : tie.Need-room_refusal-requires

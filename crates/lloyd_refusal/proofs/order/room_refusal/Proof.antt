@@ -9,10 +9,10 @@ use Rattle.lloyd_refusal.proofs.order.room_refusal.Statement.{statement}
 use Rattle.lloyd_refusal.proofs.order.room_refusal.Tie as tie
 
 -- past each test: it fails
-limit-ok : (c : tie.Else-limit-gt-MOST_ROUNDS) → bad_limit c.before.before.before.args.limit ≡ false
+limit-ok : (c : tie.Else-limit-gt-MOST_ROUNDS) → bad_limit c.args.limit ≡ false
 limit-ok c = le-ltb _ _ c.if-limit-gt-MOST_ROUNDS.false
 
-members-ok : (c : tie.Else-members-used) → (let s = c.before.before.before.before.args in short_members s.rec s.members.now ≡ false)
+members-ok : (c : tie.Else-members-used) → (let s = c.args in short_members s.rec s.members.now ≡ false)
 members-ok c = le-ltb _ _ c.if-members-used.false
 
 returns : tie.Need-returns-then-limit-gt-MOST_ROUNDS
@@ -26,22 +26,20 @@ limit-of-requires c κs = search rules
 
 returns-3 : tie.Need-returns-then-totals-rounds
 returns-3 c =
-    let l = c.before in
-    let m = l.before in
+    let m = c.before.before in
     simp (
       limit-ok m.before,
       members-ok m,
-      ap (ltb _) (sym l.limit_of-rounds.ensures) ∙ lt-ltb _ _ c.if-totals-rounds.true,
+      ap (ltb _) (sym c.limit_of-rounds.ensures) ∙ lt-ltb _ _ c.if-totals-rounds.true,
     )
 
 returns-4 : tie.Need-returns
 returns-4 c =
-    let l = c.before in
-    let m = l.before in
+    let m = c.before.before in
     simp (
       limit-ok m.before,
       members-ok m,
-      ap (ltb _) (sym l.limit_of-rounds.ensures) ∙ le-ltb _ _ c.if-totals-rounds.false,
+      ap (ltb _) (sym c.limit_of-rounds.ensures) ∙ le-ltb _ _ c.if-totals-rounds.false,
     )
 
 pub room_refusal_spec : {M : Type 1} → statement M

@@ -8,35 +8,30 @@ use Rattle.lloyd_tests.specs.{bad_count, few_colours}
 use Rattle.lloyd_refusal.proofs.order.run_refusal.Statement.{statement}
 use Rattle.lloyd_refusal.proofs.order.run_refusal.Tie as tie
 
--- what the call was given
-abbrev st : tie.After-bad_table → tie.Start
-st c = c.before.before.before.before.before
-
 -- past each test: it fails
 table-ok : (c : tie.Else-bad_table)
-    → (let s = (st c.before).args in bad_table s.rec s.keys.now s.weights.now ≡ false)
-table-ok c = sym c.before.bad_table.ensures ∙ c.if-bad_table.false
+    → (let s = c.args in bad_table s.rec s.keys.now s.weights.now ≡ false)
+table-ok c = sym c.bad_table.ensures ∙ c.if-bad_table.false
 
-count-ok : (c : tie.Else-bad_count) → bad_count (st c.before.before.before).args.count ≡ false
-count-ok c = sym c.before.bad_count.ensures ∙ c.if-bad_count.false
+count-ok : (c : tie.Else-bad_count) → bad_count c.args.count ≡ false
+count-ok c = sym c.bad_count.ensures ∙ c.if-bad_count.false
 
 colours-ok : (c : tie.Else-used-count)
-    → (let s = (st c.before.before.before.before).args in few_colours s.rec s.count ≡ false)
+    → (let s = c.args in few_colours s.rec s.count ≡ false)
 colours-ok c = le-ltb _ _ c.if-used-count.false
 
 bad-table-requires : tie.Need-bad_table-requires
 bad-table-requires c κs = search rules
 
 returns : tie.Need-returns-then-bad_table
-returns c = simp (sym c.before.bad_table.ensures ∙ c.if-bad_table.true)
+returns c = simp (sym c.bad_table.ensures ∙ c.if-bad_table.true)
 
 bad-count-requires : tie.Need-bad_count-requires
 bad-count-requires c κs = search rules
 
 returns-2 : tie.Need-returns-then-bad_count
 returns-2 c =
-    let b = c.before in
-    simp (table-ok b.before, sym b.bad_count.ensures ∙ c.if-bad_count.true)
+    simp (table-ok c.before.before, sym c.bad_count.ensures ∙ c.if-bad_count.true)
 
 returns-3 : tie.Need-returns-then-used-count
 returns-3 c =

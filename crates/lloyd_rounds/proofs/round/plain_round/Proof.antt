@@ -16,35 +16,31 @@ use Rattle.lloyd_rounds.proofs.Ways.{plain-meets-refused, plain-meets-made}
 use Rattle.lloyd_rounds.proofs.round.plain_round.Statement.{statement}
 use Rattle.lloyd_rounds.proofs.round.plain_round.Tie as tie
 
--- what the call was given
-abbrev st : tie.After-bad_table → tie.Start
-st c = c.before.before.before.before.before
-
 abbrev rec' : tie.After-bad_table → Record
-rec' c = (st c).args.rec
+rec' c = c.args.rec
 
 abbrev ks : tie.After-bad_table → List ℕ
-ks c = (st c).args.keys.now
+ks c = c.args.keys.now
 
 abbrev ws : tie.After-bad_table → List ℕ
-ws c = (st c).args.weights.now
+ws c = c.args.weights.now
 
 abbrev a : tie.After-bad_table → State
-a c = state_of (st c).args.coordinates-1.now (st c).args.members-1.now
+a c = state_of c.args.coordinates.now c.args.members.now
 
 -- past each test: it fails
 table-ok : (c : tie.Else-bad_table) → bad_table (rec' c.before) (ks c.before) (ws c.before) ≡ false
-table-ok c = sym c.before.bad_table.ensures ∙ c.if-bad_table.false
+table-ok c = sym c.bad_table.ensures ∙ c.if-bad_table.false
 
-count-ok : (c : tie.Else-bad_coordinates) → bad_coordinates (length (a c.before.before.before).coordinates-1) ≡ false
-count-ok c = sym c.before.bad_coordinates.ensures ∙ c.if-bad_coordinates.false
+count-ok : (c : tie.Else-bad_coordinates) → bad_coordinates (length (a c.before.before.before).coordinates) ≡ false
+count-ok c = sym c.bad_coordinates.ensures ∙ c.if-bad_coordinates.false
 
-centre-ok : (c : tie.Else-bad_centre) → bad_centre (a c.before.before.before.before.before.before).coordinates-1 ≡ false
-centre-ok c = sym c.before.bad_centre.ensures ∙ c.if-bad_centre.false
+centre-ok : (c : tie.Else-bad_centre) → bad_centre (a c.before.before.before.before.before.before).coordinates ≡ false
+centre-ok c = sym c.bad_centre.ensures ∙ c.if-bad_centre.false
 
 -- where the tests are made
 abbrev tested : tie.Else-members-used → tie.After-bad_table
-tested c = c.before.before.before.before.before.before.before
+tested c = c.before.before.before.before.before.before
 
 -- past all of them
 good : (c : tie.Else-members-used) → PlainGood (rec' (tested c)) (ks (tested c)) (ws (tested c)) (a (tested c))
@@ -63,9 +59,8 @@ refused-requires c κs = search rules
 
 returns : tie.Need-returns-then-bad_table
 returns c =
-    let i = c.before in
-    let t = i.before in
-    plain-meets-refused (rec' t) (ks t) (ws t) (a t) BAD-TABLE _ (simp (sym t.bad_table.ensures ∙ i.if-bad_table.true))
+    let t = c.before.before in
+    plain-meets-refused (rec' t) (ks t) (ws t) (a t) BAD-TABLE _ (simp (sym t.bad_table.ensures ∙ c.if-bad_table.true))
     c.refused.ensures
 
 bad-coordinates-requires : tie.Need-bad_coordinates-requires
@@ -76,16 +71,14 @@ refused-requires-2 c κs = search rules
 
 returns-2 : tie.Need-returns-then-bad_coordinates
 returns-2 c =
-    let i = c.before in
-    let b = i.before in
-    let t = b.before.before in
+    let t = c.before.before.before.before in
     plain-meets-refused (rec' t) (ks t) (ws t) (a t) BAD-COUNT _
-    (simp (table-ok b.before, sym b.bad_coordinates.ensures ∙ i.if-bad_coordinates.true)) c.refused-then-bad_coordinates.ensures
+    (simp (table-ok c.before.before.before, sym c.bad_coordinates.ensures ∙ c.if-bad_coordinates.true)) c.refused-then-bad_coordinates.ensures
 
 bad-centre-requires : tie.Need-bad_centre-requires
 bad-centre-requires c κs =
     let e = c.before in
-    coordinates-at-most (length (a e.before.before.before).coordinates-1) (count-ok e)
+    coordinates-at-most (length (a e.before.before.before).coordinates) (count-ok e)
 
 refused-requires-3 : tie.Need-refused-requires-then-bad_centre
 refused-requires-3 c κs = search rules
@@ -95,12 +88,10 @@ same_length c = search rules
 
 returns-3 : tie.Need-returns-then-bad_centre
 returns-3 c =
-    let i = c.before in
-    let b = i.before in
-    let e = b.before.before in
+    let e = c.before.before.before.before in
     let t = e.before.before.before in
     plain-meets-refused (rec' t) (ks t) (ws t) (a t) BAD-CENTRE _
-    (simp (table-ok e.before.before, count-ok e, sym b.bad_centre.ensures ∙ i.if-bad_centre.true))
+    (simp (table-ok e.before.before, count-ok e, sym c.bad_centre.ensures ∙ c.if-bad_centre.true))
     c.refused-then-bad_centre.ensures
 
 refused-requires-4 : tie.Need-refused-requires-then-members-used
@@ -111,12 +102,11 @@ same-length-2 c = search rules
 
 returns-4 : tie.Need-returns-then-members-used
 returns-4 c =
-    let i = c.before in
-    let b = i.before in
+    let b = c.before.before in
     let e = b.before.before.before in
     let t = e.before.before.before in
     plain-meets-refused (rec' t) (ks t) (ws t) (a t) SHORT-ROOM _
-    (simp (table-ok e.before.before, count-ok e, centre-ok b, lt-ltb _ _ i.if-members-used.true)) c.refused-then-members-used.ensures
+    (simp (table-ok e.before.before, count-ok e, centre-ok b, lt-ltb _ _ c.if-members-used.true)) c.refused-then-members-used.ensures
 
 plain-step-requires : tie.Need-plain_step-requires
 plain-step-requires c κs =
@@ -135,10 +125,9 @@ same-length-4 c = search rules
 
 returns-5 : tie.Need-returns
 returns-5 c =
-    let p = c.before.before.before.before.before in
-    let g = p.before.before.before in
+    let g = c.before.before.before.before.before.before.before.before in
     let t = tested g in
-    plain-meets-made (rec' t) (ks t) (ws t) (a t) (good g) _ _ _ _ _ p.plain_step.ensures c.made.ensures
+    plain-meets-made (rec' t) (ks t) (ws t) (a t) (good g) _ _ _ _ _ c.plain_step.ensures c.made.ensures
 
 pub plain_round_spec : {M : Type 1} → statement M
 plain_round_spec =

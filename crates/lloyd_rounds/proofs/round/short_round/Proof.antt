@@ -17,35 +17,31 @@ use Rattle.lloyd_rounds.proofs.Ways.{short-meets-refused, short-meets-made}
 use Rattle.lloyd_rounds.proofs.round.short_round.Statement.{statement}
 use Rattle.lloyd_rounds.proofs.round.short_round.Tie as tie
 
--- what the call was given
-abbrev st : tie.After-bad_table → tie.Start
-st c = c.before.before.before.before.before
-
 abbrev rec' : tie.After-bad_table → Record
-rec' c = (st c).args.rec
+rec' c = c.args.rec
 
 abbrev ks : tie.After-bad_table → List ℕ
-ks c = (st c).args.keys.now
+ks c = c.args.keys.now
 
 abbrev ws : tie.After-bad_table → List ℕ
-ws c = (st c).args.weights.now
+ws c = c.args.weights.now
 
 abbrev a : tie.After-bad_table → State
-a c = state_of (st c).args.coordinates-1.now (st c).args.members-1.now
+a c = state_of c.args.coordinates.now c.args.members.now
 
 -- past each test: it fails
 table-ok : (c : tie.Else-bad_table) → bad_table (rec' c.before) (ks c.before) (ws c.before) ≡ false
-table-ok c = sym c.before.bad_table.ensures ∙ c.if-bad_table.false
+table-ok c = sym c.bad_table.ensures ∙ c.if-bad_table.false
 
-count-ok : (c : tie.Else-bad_coordinates) → bad_coordinates (length (a c.before.before.before).coordinates-1) ≡ false
-count-ok c = sym c.before.bad_coordinates.ensures ∙ c.if-bad_coordinates.false
+count-ok : (c : tie.Else-bad_coordinates) → bad_coordinates (length (a c.before.before.before).coordinates) ≡ false
+count-ok c = sym c.bad_coordinates.ensures ∙ c.if-bad_coordinates.false
 
-centre-ok : (c : tie.Else-bad_centre) → bad_centre (a c.before.before.before.before.before.before).coordinates-1 ≡ false
-centre-ok c = sym c.before.bad_centre.ensures ∙ c.if-bad_centre.false
+centre-ok : (c : tie.Else-bad_centre) → bad_centre (a c.before.before.before.before.before.before).coordinates ≡ false
+centre-ok c = sym c.bad_centre.ensures ∙ c.if-bad_centre.false
 
 -- where the tests are made
 abbrev tested : tie.Else-members-used → tie.After-bad_table
-tested c = c.before.before.before.before.before.before.before
+tested c = c.before.before.before.before.before.before
 
 -- past all of them
 good : (c : tie.Else-members-used) → PlainGood (rec' (tested c)) (ks (tested c)) (ws (tested c)) (a (tested c))
@@ -59,8 +55,8 @@ good c = record {
 -- the members too
 members-ok : (c : tie.Else-bad_member)
     → (let t = tested c.before.before.before in
-    bad_member (rec' t).used (length (a t).coordinates-1 / 3) (a t).members-1 ≡ false)
-members-ok c = sym c.before.bad_member.ensures ∙ c.if-bad_member.false
+    bad_member (rec' t).used (length (a t).coordinates / 3) (a t).members ≡ false)
+members-ok c = sym c.bad_member.ensures ∙ c.if-bad_member.false
 
 bad-table-requires : tie.Need-bad_table-requires
 bad-table-requires c κs = search rules
@@ -70,9 +66,8 @@ refused-requires c κs = search rules
 
 returns : tie.Need-returns-then-bad_table
 returns c =
-    let i = c.before in
-    let t = i.before in
-    short-meets-refused (rec' t) (ks t) (ws t) (a t) BAD-TABLE _ (simp (sym t.bad_table.ensures ∙ i.if-bad_table.true))
+    let t = c.before.before in
+    short-meets-refused (rec' t) (ks t) (ws t) (a t) BAD-TABLE _ (simp (sym t.bad_table.ensures ∙ c.if-bad_table.true))
     c.refused.ensures
 
 bad-coordinates-requires : tie.Need-bad_coordinates-requires
@@ -83,16 +78,14 @@ refused-requires-2 c κs = search rules
 
 returns-2 : tie.Need-returns-then-bad_coordinates
 returns-2 c =
-    let i = c.before in
-    let b = i.before in
-    let t = b.before.before in
+    let t = c.before.before.before.before in
     short-meets-refused (rec' t) (ks t) (ws t) (a t) BAD-COUNT _
-    (simp (table-ok b.before, sym b.bad_coordinates.ensures ∙ i.if-bad_coordinates.true)) c.refused-then-bad_coordinates.ensures
+    (simp (table-ok c.before.before.before, sym c.bad_coordinates.ensures ∙ c.if-bad_coordinates.true)) c.refused-then-bad_coordinates.ensures
 
 bad-centre-requires : tie.Need-bad_centre-requires
 bad-centre-requires c κs =
     let e = c.before in
-    coordinates-at-most (length (a e.before.before.before).coordinates-1) (count-ok e)
+    coordinates-at-most (length (a e.before.before.before).coordinates) (count-ok e)
 
 refused-requires-3 : tie.Need-refused-requires-then-bad_centre
 refused-requires-3 c κs = search rules
@@ -102,12 +95,10 @@ same_length c = search rules
 
 returns-3 : tie.Need-returns-then-bad_centre
 returns-3 c =
-    let i = c.before in
-    let b = i.before in
-    let e = b.before.before in
+    let e = c.before.before.before.before in
     let t = e.before.before.before in
     short-meets-refused (rec' t) (ks t) (ws t) (a t) BAD-CENTRE _
-    (simp (table-ok e.before.before, count-ok e, sym b.bad_centre.ensures ∙ i.if-bad_centre.true))
+    (simp (table-ok e.before.before, count-ok e, sym c.bad_centre.ensures ∙ c.if-bad_centre.true))
     c.refused-then-bad_centre.ensures
 
 refused-requires-4 : tie.Need-refused-requires-then-members-used
@@ -118,12 +109,11 @@ same-length-2 c = search rules
 
 returns-4 : tie.Need-returns-then-members-used
 returns-4 c =
-    let i = c.before in
-    let b = i.before in
+    let b = c.before.before in
     let e = b.before.before.before in
     let t = e.before.before.before in
     short-meets-refused (rec' t) (ks t) (ws t) (a t) SHORT-ROOM _
-    (simp (table-ok e.before.before, count-ok e, centre-ok b, lt-ltb _ _ i.if-members-used.true)) c.refused-then-members-used.ensures
+    (simp (table-ok e.before.before, count-ok e, centre-ok b, lt-ltb _ _ c.if-members-used.true)) c.refused-then-members-used.ensures
 
 bad-member-requires : tie.Need-bad_member-requires
 bad-member-requires c κs =
@@ -143,13 +133,11 @@ same-length-4 c = search rules
 
 returns-5 : tie.Need-returns-then-bad_member
 returns-5 c =
-    let i = c.before in
-    let b = i.before in
-    let g = b.before.before in
+    let g = c.before.before.before.before in
     let t = tested g in
     let o = good g in
     short-meets-refused (rec' t) (ks t) (ws t) (a t) BAD-MEMBER _
-    (simp (o.table, o.count, o.centre, o.room, sym b.bad_member.ensures ∙ i.if-bad_member.true)) c.refused-then-bad_member.ensures
+    (simp (o.table, o.count, o.centre, o.room, sym c.bad_member.ensures ∙ c.if-bad_member.true)) c.refused-then-bad_member.ensures
 
 short-step-requires : tie.Need-short_step-requires
 short-step-requires c κs =
@@ -169,11 +157,10 @@ same-length-6 c = search rules
 
 returns-6 : tie.Need-returns
 returns-6 c =
-    let p = c.before.before.before.before.before in
-    let e = p.before.before.before in
+    let e = c.before.before.before.before.before.before.before.before in
     let g = e.before.before.before in
     let t = tested g in
-    short-meets-made (rec' t) (ks t) (ws t) (a t) (good g) (members-ok e) _ _ _ _ _ p.short_step.ensures
+    short-meets-made (rec' t) (ks t) (ws t) (a t) (good g) (members-ok e) _ _ _ _ _ c.short_step.ensures
     c.made.ensures
 
 pub short_round_spec : {M : Type 1} → statement M

@@ -23,16 +23,16 @@ shared-slice-read-base : tie.Need-bounds-fixed-i invariant-loop decreases-loop
 shared-slice-read-base c = omega arith
 
 cast-base : tie.Need-overflow_cast-base invariant-loop decreases-loop
-cast-base c = omega (arith, c.shared_slice_known-1.given c.before.before.loop-i.i)
+cast-base c = omega (arith, c.shared_slice_known-1.given c.loop-i.i)
 
 mul-base : tie.Need-overflow_mul-base invariant-loop decreases-loop
-mul-base c = omega (arith, c.shared_slice_known-1.given c.before.before.loop-i.i)
+mul-base c = omega (arith, c.shared_slice_known-1.given c.loop-i.i)
 
 mul-base-2 : tie.Need-offset_bounds-base-i invariant-loop decreases-loop
 mul-base-2 c = omega arith
 
 slice-write-base : tie.Need-bounds-base-i invariant-loop decreases-loop
-slice-write-base c = rw (c.before.before.loop-i.invariant.1, fill-length) (omega arith)
+slice-write-base c = rw (c.loop-i.invariant.1, fill-length) (omega arith)
 
 add-i : tie.Need-overflow_add-i invariant-loop decreases-loop
 add-i c = omega arith
@@ -42,17 +42,17 @@ loop-less c = omega arith
 
 loop-again : tie.Need-loop-i-preserved invariant-loop decreases-loop
 loop-again c =
-    let l = c.before.before.loop-i in
-    let fixed = c.before.before.before.args.fixed.now in
+    let l = c.loop-i in
+    let fixed = c.args.fixed.now in
     (omega arith, rw l.invariant.1 (fill_more l.i (λ j. sixteenth (get_or fixed j 0)) _ (omega arith)))
 
 same_length : tie.Need-shape_of-base invariant-loop decreases-loop
-same_length c = ap length c.before.loop-i.invariant.1 ∙ fill-length _ _ _
+same_length c = ap length c.loop-i.invariant.1 ∙ fill-length _ _ _
 
 returns : tie.Need-returns invariant-loop decreases-loop
 returns c =
-    let e : c.before.loop-i.i ≡ length c.before.before.args.fixed.now = omega arith in
-    rw e at c.before.loop-i.invariant.1
+    let e : c.loop-i.i ≡ length c.args.fixed.now = omega arith in
+    rw e at c.loop-i.invariant.1
 
 pub lay_stock_spec : {M : Type 1} → statement M
 lay_stock_spec =

@@ -20,23 +20,22 @@ abbrev decreases-loop : tie.decreases-loop-q
 decreases-loop keys used fixed n taken₀ q₀ taken q = fixed_in fixed - q
 
 -- there are 63 fixed shades at most
-few : (c : tie.At-loop-q invariant-loop decreases-loop) → fixed_in c.before.before.before.args.fixed.now ≤ 63
-few c = let s = c.before.before.before in ((bad-fixed-exactly s.args.fixed.now).0 s.requires.1).1
+few : (c : tie.At-loop-q invariant-loop decreases-loop) → fixed_in c.args.fixed.now ≤ 63
+few c = ((bad-fixed-exactly c.args.fixed.now).0 c.requires.1).1
 
 -- past the loop the count is what the used colours have less
-taken_is : (c : tie.After-loop-q invariant-loop decreases-loop) → let a = c.before.before.before.before.args in
-    (c.before.loop-q.taken ≤ a.used)
-    × (a.used - c.before.loop-q.taken ≡ colours_left a.used a.keys.now a.fixed.now)
+taken_is : (c : tie.After-loop-q invariant-loop decreases-loop) → let a = c.args in
+    (c.loop-q.taken ≤ a.used)
+    × (a.used - c.loop-q.taken ≡ colours_left a.used a.keys.now a.fixed.now)
 taken_is c =
-    let s = c.before.before.before.before in
-    left_is s.args.fixed.now (λ i. omega (arith, c.before.before.shared_slice_known-2-1.given i)) s.requires.0
-    s.requires.1 c.before.loop-q.taken (counting-done c.before.loop-q.invariant (omega arith))
+    left_is c.args.fixed.now (λ i. omega (arith, c.shared_slice_known-2-1.given i)) c.requires.0
+    c.requires.1 c.loop-q.taken (counting-done c.loop-q.invariant (omega arith))
 
 loop-holds : tie.Need-loop-q-init invariant-loop decreases-loop
 loop-holds c = counting-start _ _
 
 takes-one-requires : tie.Need-takes_one-requires invariant-loop decreases-loop
-takes-one-requires c κs = (c.before.before.before.before.requires.0, omega arith)
+takes-one-requires c κs = (c.requires.0, omega arith)
 
 bit-requires : tie.Need-bit-taken-requires invariant-loop decreases-loop
 bit-requires c κs = search rules
@@ -52,9 +51,8 @@ loop-less c = omega arith
 
 loop-again : tie.Need-loop-q-preserved invariant-loop decreases-loop
 loop-again c =
-    let turn = c.before.before in
-    counting-step turn.before.loop-q.invariant (omega arith) c.bit-taken.result
-    (c.bit-taken.ensures.0 ∙ ap bit c.before.takes_one.ensures)
+    counting-step c.loop-q.invariant (omega arith) c.bit-taken.result
+    (c.bit-taken.ensures.0 ∙ ap bit c.takes_one.ensures)
 
 cast-result : tie.Need-overflow_cast-result invariant-loop decreases-loop
 cast-result c = omega (arith, few c.before)

@@ -29,9 +29,8 @@ fixed-key-requires-2 c κs = omega arith
 
 returns : tie.Need-returns-then-fixed_key-key invariant-loop decreases-loop
 returns c =
-    let l = c.before.before.before in
-    sym (among-found _ _ _ l.loop-i.i c.before.before.loop-i-test.true
-    (sym c.before.fixed_key.ensures ∙ c.if-fixed_key-key.true ∙ (told l).fixed_key-key.ensures))
+    sym (among-found _ _ _ c.loop-i.i c.loop-i-test.true
+    (sym c.fixed_key.ensures ∙ c.if-fixed_key-key.true ∙ c.fixed_key-key.ensures))
 
 add-i : tie.Need-overflow_add-i invariant-loop decreases-loop
 add-i c = omega arith
@@ -41,12 +40,11 @@ loop-less c = omega arith
 
 loop-again : tie.Need-loop-i-preserved invariant-loop decreases-loop
 loop-again c =
-    let l = c.before.before.before in
-    unseen-step l.loop-i.invariant c.before.before.loop-i-test.true
-    (λ e. c.if-fixed_key-key.false (c.before.fixed_key.ensures ∙ e ∙ sym (told l).fixed_key-key.ensures))
+    unseen-step c.loop-i.invariant c.loop-i-test.true
+    (λ e. c.if-fixed_key-key.false (c.fixed_key.ensures ∙ e ∙ sym c.fixed_key-key.ensures))
 
 returns-2 : tie.Need-returns invariant-loop decreases-loop
-returns-2 c = sym (unseen-done c.before.loop-i.invariant c.loop-i-test.false)
+returns-2 c = sym (unseen-done c.loop-i.invariant c.loop-i-test.false)
 
 pub has_equal_spec : {M : Type 1} → statement M
 has_equal_spec =

@@ -8,17 +8,16 @@ use Rattle.lloyd_stock.proofs.left.takes_one.Statement.{statement}
 use Rattle.lloyd_stock.proofs.left.takes_one.Tie as tie
 
 -- the key stands at its place exactly where the shade's key is one of the used ones
-found : (c : tie.After-stands) → let a = c.before.before.before.before.before.args in
+found : (c : tie.After-stands) → let a = c.args in
     c.stands.result ≡ among a.used (key_at a.keys.now) (fixed_key a.fixed.now a.q)
 found c =
-    let k = c.before.before in
-    found_among k.before.before.before.requires.0 k.fixed_key-key.ensures c.stands.ensures
+    found_among c.requires.0 c.fixed_key-key.ensures c.stands.ensures
 
 fixed-key-requires : tie.Need-fixed_key-key-requires
 fixed-key-requires c κs = search rules
 
 place-requires : tie.Need-place-at-requires
-place-requires c κs = let u = c.before.before.before.requires.0 in (u.within, used-in-order u)
+place-requires c κs = let u = c.requires.0 in (u.within, used-in-order u)
 
 stands-requires : tie.Need-stands-requires
 stands-requires c κs = search rules
@@ -28,8 +27,7 @@ has-equal-requires c κs = search rules
 
 returns : tie.Need-returns-then-stands
 returns c =
-    let t = c.before in
-    simp (sym (found t.before) ∙ t.if-stands.true) (ap not c.has-Equal.ensures)
+    simp (sym (found c.before.before) ∙ c.if-stands.true) (ap not c.has-Equal.ensures)
 
 returns-2 : tie.Need-returns
 returns-2 c = simp (sym (found c.before) ∙ c.if-stands.false)

@@ -17,7 +17,7 @@ abbrev decreases-loop : tie.decreases-loop-i
 decreases-loop members used count bad₀ i₀ bad i = used - i
 
 loop-holds : tie.Need-loop-i-init invariant-loop decreases-loop
-loop-holds c = counting-start _ (member_off c.before.args.count c.before.args.members.now)
+loop-holds c = counting-start _ (member_off c.args.count c.args.members.now)
 
 mul_wide : tie.Need-offset_bounds-members-i invariant-loop decreases-loop
 mul_wide c = omega arith
@@ -42,13 +42,12 @@ loop-less c = omega arith
 
 loop-again : tie.Need-loop-i-preserved invariant-loop decreases-loop
 loop-again c =
-    let wide = c.before in
-    let count = wide.before.before.before.before.before.args.count in
-    counting-step wide.before.before.before.loop-i.invariant (omega arith) c.bit-bad.result
-    (c.bit-bad.ensures.0 ∙ ap (λ n. bit (leb count n)) wide.wide.ensures)
+    let count = c.args.count in
+    counting-step c.loop-i.invariant (omega arith) c.bit-bad.result
+    (c.bit-bad.ensures.0 ∙ ap (λ n. bit (leb count n)) c.wide.ensures)
 
 returns : tie.Need-returns invariant-loop decreases-loop
-returns c = ap (ltb 0) (counting-done c.before.loop-i.invariant c.loop-i-test.false)
+returns c = ap (ltb 0) (counting-done c.loop-i.invariant c.loop-i-test.false)
 
 pub bad_member_spec : {M : Type 1} → statement M
 bad_member_spec =

@@ -65,21 +65,21 @@ many c = (many-back c).before.before.before.before.before
 
 -- the strip is of bytes
 bytes : (c : tie.After-gather-slots) → Bytes (st c).args.strip.now
-bytes c i = omega (arith, (known c).before.shared_slice_known-1.given i)
+bytes c i = omega (arith, (known c).shared_slice_known-1.given i)
 
 -- the pixels are gathered, one for each place of the index
 gathered : (c : tie.After-gather-slots)
-    → Gathered (pixel_key (st c).args.strip.now) (length (st c).args.index-1.now) c.gather-slots.new.keys
+    → Gathered (pixel_key (st c).args.strip.now) (length (st c).args.index.now) c.gather-slots.new.keys
     c.gather-slots.new.which c.gather-slots.result
 gathered c =
-    let n : length (st c).args.strip.now / 3 ≡ length (st c).args.index-1.now = omega (arith, (st c).requires.0) in
+    let n : length (st c).args.strip.now / 3 ≡ length (st c).args.index.now = omega (arith, (st c).requires.0) in
     rw n at c.gather-slots.ensures
 
 -- there is room to work
 room : (c : tie.After-gather-slots)
     → let a = (st c).args in
-    Room (length a.index-1.now) c.gather-slots.new.keys c.gather-slots.new.which a.reds-1.now
-    a.greens-1.now a.blues-1.now a.best-1.now
+    Room (length a.index.now) c.gather-slots.new.keys c.gather-slots.new.which a.reds.now
+    a.greens.now a.blues.now a.best.now
 room c =
     let p = (st c).requires.4 in
     record {
@@ -96,13 +96,13 @@ map-few-requires : tie.Need-map_few-requires
 map-few-requires c κs =
     let taken = few-slots c in
     let g = here taken.before in
-    let p = (st g).pre in
+    let p = (st g).requires in
     (p.1, p.2, p.3, gathered-taken (gathered g) (omega (arith, taken.if-slots-le256.taken)), room g)
 
 map-many-requires : tie.Need-map_many-requires
 map-many-requires c κs =
     let g = here (many-slots c).before in
-    let p = (st g).pre in
+    let p = (st g).requires in
     (p.0, p.1, p.2, p.3, room g, gathered g)
 
 same_length : tie.Need-shape_of-keys-then-slots-le256
@@ -132,7 +132,7 @@ returns c =
     let g = here (few-slots m.before).before in
     let a = (st g).args in
     let e = m.map_few.ensures in (
-      gathered-index a.strip.now (bytes g) (gathered g) a.shades.now a.count a.index-1.now e.0,
+      gathered-index a.strip.now (bytes g) (gathered g) a.shades.now a.count a.index.now e.0,
       gathered-errors a.strip.now (bytes g) (gathered g) a.shades.now a.count e.1,
     )
 

@@ -29,27 +29,27 @@ abbrev st : tie.After-search_slots-arg-4-1 → tie.Start
 st c = (known c).before.before.before
 
 -- where the lists to work in come back
-abbrev back : tie.After-settle-arg2 → tie.After-blues-1
-back c = c.before.before.before.before.before
+abbrev back : tie.After-settle-arg-1 → tie.After-blues-1
+back c = c.before.before.before.before
 
 -- where the slots are searched
-abbrev found : tie.After-settle-arg2 → tie.After-search_slots
+abbrev found : tie.After-settle-arg-1 → tie.After-search_slots
 found c = (back c).before.before.before.before.before
 
 -- the strip is of bytes
 bytes : (c : tie.After-search_slots-arg-4-1) → Bytes (st c).args.strip.now
-bytes c i = omega (arith, (known c).before.before.shared_slice_known-1.given i)
+bytes c i = omega (arith, (known c).shared_slice_known-1.given i)
 
 -- the slots are searched
 all : (c : tie.After-search_slots)
     → let a = (st c.before).args in
-    Searched (pixel_at a.strip.now) a.shades.now a.count (length a.index-1.now) a.which.now
+    Searched (pixel_at a.strip.now) a.shades.now a.count (length a.index.now) a.which.now
     c.search_slots.new.best
 all c =
     let a = (st c.before).args in
     let p = (st c.before).requires in
     searched-all p.1 p.2 p.5
-    (λ i q l. levels-of-pixel a.strip.now a.keys.now i q (bytes c.before)) a.best-1.now
+    (λ i q l. levels-of-pixel a.strip.now a.keys.now i q (bytes c.before)) a.best.now
     (omega (arith, p.4.number, p.5.few)) c.search_slots.ensures
 
 search-slots-requires : tie.Need-search_slots-requires
@@ -61,7 +61,7 @@ search-slots-requires c κs =
 settle-requires : tie.Need-settle-requires
 settle-requires c κs =
     let start = st (found c).before in
-    let p = start.pre in
+    let p = start.requires in
     searched-found start.args.strip.now (all (found c)) p.1 p.2 p.0 p.4.slot (omega (arith, p.3))
 
 same_length : tie.Need-shape_of-reds
@@ -82,8 +82,8 @@ same-length-5 c = search rules
 returns : tie.Need-returns
 returns c =
     let f = found c.before.before.before in
-    let e = c.before.before.settle.ensures in
-    (searched-index (all f) (st f.before).args.index-1.now e.0, searched-errors (all f) e.1)
+    let e = c.settle.ensures in
+    (searched-index (all f) (st f.before).args.index.now e.0, searched-errors (all f) e.1)
 
 pub map_many_spec : {M : Type 1} → statement M
 map_many_spec =

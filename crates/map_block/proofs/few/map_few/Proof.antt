@@ -44,7 +44,7 @@ here c = linked c.before
 
 -- where the lists have come back
 abbrev back : tie.After-told-1 → tie.After-best-1
-back c = c.before.before.before.before.before
+back c = c.before.before.before
 
 -- the first of them
 abbrev first : tie.After-best-1 → tie.After-slice_known-8-1
@@ -60,35 +60,35 @@ end c = c.before.before.before.before.before
 
 -- the slots are joined
 joined : (c : tie.After-join-joined)
-    → Gathered (slot_key (st c).args.keys-1.now) (st c).args.slots c.join-joined.new.keys c.join-joined.new.link
+    → Gathered (slot_key (st c).args.keys.now) (st c).args.slots c.join-joined.new.keys c.join-joined.new.link
     c.join-joined.result
 joined c = c.join-joined.ensures
 
 -- in no more than there are pixels
-fewer : (c : tie.After-join-joined) → c.join-joined.result ≤ length (st c).args.index-1.now
+fewer : (c : tie.After-join-joined) → c.join-joined.result ≤ length (st c).args.index.now
 fewer c = omega (arith, (joined c).few, (st c).requires.3.few)
 
 -- they are searched
 all : (c : tie.After-search_slots)
     → let g = here c in
     let a = (st g).args in
-    Searched (levels_at a.keys-1.now) a.shades.now a.count a.slots g.join-joined.last.1.1.0
+    Searched (levels_at a.keys.now) a.shades.now a.count a.slots g.join-joined.last.1.1.0
     c.search_slots.new.best
 all c =
     let g = here c in
-    let p = (st g).pre in
+    let p = (st g).requires in
     searched-all p.0 p.1 (joined g)
-    (λ i q l. levels-same g.join-joined.last.0 (st g).args.keys-1.now i q) (st g).args.best-1.now
+    (λ i q l. levels-same g.join-joined.last.0 (st g).args.keys.now i q) (st g).args.best.now
     (omega (arith, fewer g, p.4.number)) c.search_slots.ensures
 
 -- and told of
 told : (c : tie.After-tell)
     → let a = (st (here (found c.before))).args in
-    NearestTold (levels_at a.keys-1.now) a.shades.now a.count a.slots c.tell.new.told
+    NearestTold (levels_at a.keys.now) a.shades.now a.count a.slots c.tell.new.told
 told c =
     let f = found c.before in
     let g = here f in
-    joined-told (st g).args.keys-1.now (joined g) (all f) _ (omega (arith, (st g).pre.3.at_most)) c.tell.ensures
+    joined-told (st g).args.keys.now (joined g) (all f) _ (omega (arith, (st g).requires.3.at_most)) c.tell.ensures
 
 slice-aggregate-join : tie.Need-slice_bounds-join-end
 slice-aggregate-join c = search rules
@@ -99,7 +99,7 @@ join-requires c κs = search rules
 search-slots-requires : tie.Need-search_slots-requires
 search-slots-requires c κs =
     let g = linked c in
-    let p = (st g).pre in (
+    let p = (st g).requires in (
       p.0,
       p.1,
       omega (arith, fewer g, p.4.key, g.join-joined.kept.0),
@@ -117,8 +117,8 @@ tell-requires : tie.Need-tell-requires
 tell-requires c κs =
     let f = found c in
     let g = here f in
-    let p = (st g).pre in
-    joined-tellable (st g).args.keys-1.now (joined g) (all f) p.0 p.1
+    let p = (st g).requires in
+    joined-tellable (st g).args.keys.now (joined g) (all f) p.0 p.1
     (omega (arith, p.3.at_most, g.join-joined.kept.1.1.0))
     (omega (arith, fewer g, p.4.key, g.join-joined.kept.0)) _
     (omega (arith, p.3.at_most))
@@ -156,9 +156,9 @@ returns : tie.Need-returns
 returns c =
     let t = (end c).before in
     let start = st (here (found t.before)) in
-    let e = c.before.before.add_told.ensures in (
-      told-index (told t) _ _ start.pre.3 start.args.index-1.now e.0,
-      told-errors (told t) _ _ start.pre.3 e.1,
+    let e = c.add_told.ensures in (
+      told-index (told t) _ _ start.requires.3 start.args.index.now e.0,
+      told-errors (told t) _ _ start.requires.3 e.1,
     )
 
 pub map_few_spec : {M : Type 1} → statement M

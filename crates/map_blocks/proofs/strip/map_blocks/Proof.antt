@@ -29,10 +29,6 @@ decreases-loop
     index keys which reds greens blues best errors i =
     length index₀ - i
 
--- where the function begins
-abbrev st : tie.At-loop-i invariant-loop decreases-loop → tie.Start invariant-loop decreases-loop
-st c = c.before.before.before.before
-
 -- the turn, from where the first list is lent
 abbrev turn : tie.After-keys-1 invariant-loop decreases-loop → tie.At-loop-i invariant-loop decreases-loop
 turn c = c.before.before.before.before
@@ -58,13 +54,13 @@ abbrev mapped : tie.After-slice_known-in-loop-i-1 invariant-loop decreases-loop 
 mapped c = (back c).before.before.before
 
 -- the strip is of bytes
-bytes : (c : tie.At-loop-i invariant-loop decreases-loop) → Bytes (st c).args.strip.now
-bytes c i = omega (arith, c.before.before.before.shared_slice_known-1.given i)
+bytes : (c : tie.At-loop-i invariant-loop decreases-loop) → Bytes c.args.strip.now
+bytes c i = omega (arith, c.shared_slice_known-1.given i)
 
 loop-holds : tie.Need-loop-i-init invariant-loop decreases-loop
 loop-holds c =
-    let a = c.before.before.before.args in (
-      mapped-start a.strip.now a.shades.now a.count a.index-1.now,
+    let a = c.args in (
+      mapped-start a.strip.now a.shades.now a.count a.index.now,
       record {
         keys_long = refl;
         which_long = refl;
@@ -79,10 +75,10 @@ block-end-requires : tie.Need-block_end-e-requires invariant-loop decreases-loop
 block-end-requires c κs = search rules
 
 mul-map-block : tie.Need-overflow_mul-i invariant-loop decreases-loop
-mul-map-block c = omega (arith, (st c.before.before).pre.3)
+mul-map-block c = omega (arith, c.requires.3)
 
 mul-map-block-2 : tie.Need-overflow_mul-e invariant-loop decreases-loop
-mul-map-block-2 c = omega (arith, c.block_end-e.ensures, (st c.before.before).pre.3)
+mul-map-block-2 c = omega (arith, c.block_end-e.ensures, c.requires.3)
 
 sub-map-block : tie.Need-slice_bounds-map_block-count invariant-loop decreases-loop
 sub-map-block c = omega (arith, c.block_end-e.ensures)
@@ -91,26 +87,26 @@ part-map-block-start : tie.Need-slice_bounds-map_block-start invariant-loop decr
 part-map-block-start c = omega (arith, c.block_end-e.ensures)
 
 part-map-block-end : tie.Need-slice_bounds-map_block-end invariant-loop decreases-loop
-part-map-block-end c = omega (arith, c.block_end-e.ensures, (st c.before.before).pre.0)
+part-map-block-end c = omega (arith, c.block_end-e.ensures, c.requires.0)
 
 slice-aggregate-map-block : tie.Need-slice_bounds-map_block-end-in-loop-i invariant-loop decreases-loop
-slice-aggregate-map-block c = omega (arith, (turn c).loop-i.invariant.1.keys_long)
+slice-aggregate-map-block c = omega (arith, c.loop-i.invariant.1.keys_long)
 
 slice-aggregate-map-block-2 : tie.Need-slice_bounds-map_block-end-in-loop-i-2 invariant-loop decreases-loop
-slice-aggregate-map-block-2 c = omega (arith, (turn c.before).loop-i.inv.1.which_long)
+slice-aggregate-map-block-2 c = omega (arith, c.loop-i.invariant.1.which_long)
 
 slice-aggregate-map-block-3 : tie.Need-slice_bounds-map_block-end-in-loop-i-3 invariant-loop decreases-loop
-slice-aggregate-map-block-3 c = omega (arith, (turn c.before.before).loop-i.inv.1.red_long)
+slice-aggregate-map-block-3 c = omega (arith, c.loop-i.invariant.1.red_long)
 
 slice-aggregate-map-block-4 : tie.Need-slice_bounds-map_block-end-in-loop-i-4 invariant-loop decreases-loop
-slice-aggregate-map-block-4 c = omega (arith, (turn c.before.before.before).loop-i.inv.1.green_long)
+slice-aggregate-map-block-4 c = omega (arith, c.loop-i.invariant.1.green_long)
 
 slice-aggregate-map-block-5 : tie.Need-slice_bounds-map_block-end-in-loop-i-5 invariant-loop decreases-loop
 slice-aggregate-map-block-5 c =
-    omega (arith, (turn c.before.before.before.before).loop-i.inv.1.blue_long)
+    omega (arith, c.loop-i.invariant.1.blue_long)
 
 slice-aggregate-map-block-6 : tie.Need-slice_bounds-map_block-end-in-loop-i-6 invariant-loop decreases-loop
-slice-aggregate-map-block-6 c = omega (arith, (turn (lent c)).loop-i.inv.1.best_long)
+slice-aggregate-map-block-6 c = omega (arith, c.loop-i.invariant.1.best_long)
 
 sub-map-block-2 : tie.Need-slice_bounds-map_block-count-in-loop-i invariant-loop decreases-loop
 sub-map-block-2 c = omega (arith, (ended c).block_end-e.ensures)
@@ -121,14 +117,13 @@ part-map-block-start-2 c = omega (arith, (ended c).block_end-e.ensures)
 part-map-block-end-2 : tie.Need-slice_bounds-map_block-end-in-loop-i-7 invariant-loop decreases-loop
 part-map-block-end-2 c =
     let b = ended c in
-    omega (arith, b.block_end-e.ensures, mapped-long b.before.before.loop-i.inv.0)
+    omega (arith, b.block_end-e.ensures, mapped-long b.loop-i.invariant.0)
 
 map-block-requires : tie.Need-map_block-block-requires invariant-loop decreases-loop
 map-block-requires c κs =
     let b = ended c.before in
-    let l = b.before.before in
     let e = b.block_end-e.ensures in
-    block-asked l.loop-i.inv.0 b.block_end-e.result (omega arith) e.within (st l).pre l.loop-i.inv.1
+    block-asked b.loop-i.invariant.0 b.block_end-e.result (omega arith) e.within b.requires b.loop-i.invariant.1
     e.few
 
 plus-requires : tie.Need-plus-errors-requires invariant-loop decreases-loop
@@ -136,7 +131,7 @@ plus-requires c κs =
     let at = mapped c in
     let b = (told at).block_end-e in
     let l = (told at).before.before in
-    errors-small l.loop-i.inv.0 b.result (omega (arith, b.ensures)) b.ensures.within (st l).pre (bytes l)
+    errors-small l.loop-i.invariant.0 b.result (omega (arith, b.ensures)) b.ensures.within l.requires (bytes l)
     at.map_block-block.ensures.1
 
 loop-less : tie.Need-loop-i-smaller invariant-loop decreases-loop
@@ -150,10 +145,10 @@ loop-again c =
     let m = at.map_block-block in
     let b = (told at).block_end-e in
     let l = (told at).before.before in
-    let w = l.loop-i.inv.1 in
+    let w = l.loop-i.invariant.1 in
     let kept = m.kept.1.1.1 in (
       rw c.plus-errors.ensures
-          (mapped-step l.loop-i.inv.0 b.result (omega (arith, b.ensures)) b.ensures.within m.ensures.0
+          (mapped-step l.loop-i.invariant.0 b.result (omega (arith, b.ensures)) b.ensures.within m.ensures.0
           m.ensures.1),
       record {
         keys_long = kept.0 ∙ w.keys_long;
@@ -166,12 +161,12 @@ loop-again c =
     )
 
 same_length : tie.Need-shape_of-index invariant-loop decreases-loop
-same_length c = mapped-long c.before.loop-i.invariant.0
+same_length c = mapped-long c.loop-i.invariant.0
 
 returns : tie.Need-returns invariant-loop decreases-loop
 returns c =
-    let w = c.before.loop-i.invariant.0 in
-    let e : c.before.loop-i.i ≡ length (st c.before).args.index-1.now = omega (arith, w.within) in
+    let w = c.loop-i.invariant.0 in
+    let e : c.loop-i.i ≡ length c.args.index.now = omega (arith, w.within) in
     (rw e at w.is, rw e at w.errors_are)
 
 pub map_blocks_spec : {M : Type 1} → statement M

@@ -5,10 +5,6 @@ use Rattle.map_blocks.proofs.Widened.{widened-shades, widened-index, widened-err
 use Rattle.map_blocks.proofs.strip.map_pixels.Statement.{statement}
 use Rattle.map_blocks.proofs.strip.map_pixels.Tie as tie
 
--- where the function begins
-abbrev st : tie.After-widen → tie.Start
-st c = c.before.before.before.before.before
-
 -- where the palette is widened
 abbrev widened : tie.After-map_blocks-arg-1 → tie.After-widen
 widened c = c.before.before.before
@@ -25,10 +21,9 @@ slice-aggregate-map-blocks c = search rules
 map-blocks-requires : tie.Need-map_blocks-requires
 map-blocks-requires c κs =
     let w = widened c in
-    let p = (st w).pre in
-    let known = w.before.before.before in (
+    let p = w.requires in (
       p.pixels,
-      widened-shades p w.widen.ensures (λ i. omega (arith, known.shared_slice_known-2-1.given i)),
+      widened-shades p w.widen.ensures (λ i. omega (arith, w.shared_slice_known-2-1.given i)),
       p.some,
       p.few,
     )
@@ -38,11 +33,10 @@ same_length c = search rules
 
 returns : tie.Need-returns
 returns c =
-    let at = c.before.before in
-    let w = widened at.before in
-    let p = (st w).pre in
-    let e = at.map_blocks.ensures in (
-      widened-index p w.widen.ensures (st w).args.index-1.now e.0,
+    let w = widened c.before.before.before in
+    let p = w.requires in
+    let e = c.map_blocks.ensures in (
+      widened-index p w.widen.ensures w.args.index.now e.0,
       widened-errors p w.widen.ensures e.1,
     )
 

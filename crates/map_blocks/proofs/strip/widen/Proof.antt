@@ -37,7 +37,7 @@ mul_wide : tie.Need-offset_bounds-wide-i invariant-loop decreases-loop
 mul_wide c = omega arith
 
 slice-write-wide : tie.Need-bounds-wide-i invariant-loop decreases-loop
-slice-write-wide c = rw ((turn c).loop-i.invariant.1, fill-length) (omega (arith, (st (turn c)).pre))
+slice-write-wide c = rw (c.loop-i.invariant.1, fill-length) (omega (arith, c.requires))
 
 add-i : tie.Need-overflow_add-i invariant-loop decreases-loop
 add-i c = omega arith
@@ -47,19 +47,19 @@ loop-less c = omega arith
 
 loop-again : tie.Need-loop-i-preserved invariant-loop decreases-loop
 loop-again c =
-    let l = (turn c).loop-i in
+    let l = c.loop-i in
     let start = st (turn c) in (
       omega arith,
-      rw (c.level.ensures.0, l.inv.1) (fill_more l.i _ start.args.wide.now (omega (arith, start.pre))),
+      rw (c.level.ensures.0, l.invariant.1) (fill_more l.i _ start.args.wide.now (omega (arith, start.requires))),
     )
 
 same_length : tie.Need-shape_of-wide invariant-loop decreases-loop
-same_length c = ap length c.before.loop-i.invariant.1 ∙ fill-length _ _ _
+same_length c = ap length c.loop-i.invariant.1 ∙ fill-length _ _ _
 
 returns : tie.Need-returns invariant-loop decreases-loop
 returns c =
-    let e : c.before.loop-i.i ≡ length (st c.before).args.palette.now = omega arith in
-    rw e at c.before.loop-i.invariant.1
+    let e : c.loop-i.i ≡ length c.args.palette.now = omega arith in
+    rw e at c.loop-i.invariant.1
 
 pub widen_spec : {M : Type 1} → statement M
 widen_spec =

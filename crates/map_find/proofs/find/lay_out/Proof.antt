@@ -16,29 +16,25 @@ invariant-loop keys n reds₀ greens₀ blues₀ i₀ reds greens blues i =
 abbrev decreases-loop : tie.decreases-loop-i
 decreases-loop keys n reds₀ greens₀ blues₀ i₀ reds greens blues i = n - i
 
--- where the function begins
-abbrev st : tie.At-loop-i invariant-loop decreases-loop → tie.Start invariant-loop decreases-loop
-st c = c.before.before.before.before.before
-
 -- the turn, from its red level
 abbrev turn : tie.After-red_of invariant-loop decreases-loop → tie.At-loop-i invariant-loop decreases-loop
 turn c = c.before.before.before
 
 -- the turn has room in the three lists
 room : (c : tie.At-loop-i invariant-loop decreases-loop)
-    → RoomFor (st c).args.slots c.loop-i.reds c.loop-i.greens c.loop-i.blues
-room c = fronts-room c.loop-i.invariant (st c).requires.1
+    → RoomFor c.args.slots c.loop-i.reds c.loop-i.greens c.loop-i.blues
+room c = fronts-room c.loop-i.invariant c.requires.1
 
 loop-holds : tie.Need-loop-i-init invariant-loop decreases-loop
 loop-holds c =
-    let a = c.before.before.before.before.args in
+    let a = c.args in
     fronts-start (levels_at a.keys.now) a.slots a.reds.now a.greens.now a.blues.now
 
 mul-key : tie.Need-offset_bounds-keys-i invariant-loop decreases-loop
-mul-key c = omega (arith, (st c.before).pre.0)
+mul-key c = omega (arith, c.requires.0)
 
 shared-slice-read-key : tie.Need-bounds-keys-i invariant-loop decreases-loop
-shared-slice-read-key c = omega (arith, (st c.before.before).pre.0)
+shared-slice-read-key c = omega (arith, c.requires.0)
 
 red-of-requires : tie.Need-red_of-requires invariant-loop decreases-loop
 red-of-requires c κs = search rules
@@ -84,30 +80,28 @@ loop-less c = omega arith
 
 loop-again : tie.Need-loop-i-preserved invariant-loop decreases-loop
 loop-again c =
-    let second = c.before.before in
-    let first = second.before.before in
-    let l = turn first.before in
-    fronts-step l.loop-i.inv (omega arith) (st l).pre.1
-    record { r = first.short_of.result; g = second.short_of-in-loop-i.result; b = c.short_of-in-loop-i-2.result }
+    let l = turn c.before.before.before.before.before in
+    fronts-step l.loop-i.invariant (omega arith) l.requires.1
+    record { r = c.short_of.result; g = c.short_of-in-loop-i.result; b = c.short_of-in-loop-i-2.result }
     (rw (
-      first.short_of.ensures.0 ∙ first.before.red_of.ensures.0,
-      second.short_of-in-loop-i.ensures.0 ∙ second.before.green_of.ensures.0,
-      c.short_of-in-loop-i-2.ensures.0 ∙ c.before.blue_of.ensures.0,
+      c.short_of.ensures.0 ∙ c.red_of.ensures.0,
+      c.short_of-in-loop-i.ensures.0 ∙ c.green_of.ensures.0,
+      c.short_of-in-loop-i-2.ensures.0 ∙ c.blue_of.ensures.0,
     ))
 
 same_length : tie.Need-shape_of-reds invariant-loop decreases-loop
-same_length c = (fronts-long c.before.loop-i.invariant).0
+same_length c = (fronts-long c.loop-i.invariant).0
 
 same-length-2 : tie.Need-shape_of-greens invariant-loop decreases-loop
-same-length-2 c = (fronts-long c.before.loop-i.invariant).1
+same-length-2 c = (fronts-long c.loop-i.invariant).1
 
 same-length-3 : tie.Need-shape_of-blues invariant-loop decreases-loop
-same-length-3 c = (fronts-long c.before.loop-i.invariant).2
+same-length-3 c = (fronts-long c.loop-i.invariant).2
 
 returns : tie.Need-returns invariant-loop decreases-loop
 returns c =
-    let l = c.before.loop-i in
-    let e : l.i ≡ (st c.before).args.slots = omega (arith, l.invariant.within) in
+    let l = c.loop-i in
+    let e : l.i ≡ c.args.slots = omega (arith, l.invariant.within) in
     (rw e at l.invariant.red, (rw e at l.invariant.green, rw e at l.invariant.blue))
 
 pub lay_out_spec : {M : Type 1} → statement M

@@ -17,11 +17,11 @@ abbrev st : tie.After-lay_out → tie.Start
 st c = (known c).before.before.before.before.before
 
 -- where the three lists have come back
-abbrev back : tie.After-search-points-arg3 → tie.After-blues-1
-back c = c.before.before.before.before
+abbrev back : tie.After-search_points-arg-1 → tie.After-blues-1
+back c = c.before.before
 
 -- where the colours are laid out
-abbrev laid : tie.After-search-points-arg3 → tie.After-lay_out
+abbrev laid : tie.After-search_points-arg-1 → tie.After-lay_out
 laid c = (back c).before.before.before.before.before
 
 -- they are laid out
@@ -49,8 +49,8 @@ search-points-requires : tie.Need-search_points-requires
 search-points-requires c κs =
     let at = laid c.before in
     let a = (st at).args in
-    let p = (st at).pre in
-    let ready = keys-ready a.keys.now (done at) a.best-1.now p.3 in
+    let p = (st at).requires in
+    let ready = keys-ready a.keys.now (done at) a.best.now p.3 in
     (ready.0, ready.1, p.0, p.1)
 
 same_length : tie.Need-shape_of-reds
@@ -69,8 +69,8 @@ returns : tie.Need-returns
 returns c =
     let at = laid c.before.before.before.before in
     let a = (st at).args in
-    keys-searched a.shades.now a.count a.keys.now (done at) a.best-1.now (st at).pre.3
-    c.before.before.search_points.ensures
+    keys-searched a.shades.now a.count a.keys.now (done at) a.best.now (st at).requires.3
+    c.search_points.ensures
 
 pub search_slots_spec : {M : Type 1} → statement M
 search_slots_spec =

@@ -16,39 +16,33 @@ invariant-loop keys₀ n link₀ sites₀ taken₀ i₀ keys link sites taken i 
 abbrev decreases-loop : tie.decreases-loop-i
 decreases-loop keys₀ n link₀ sites₀ taken₀ i₀ keys link sites taken i = n - i
 
--- where the function begins
-abbrev st : tie.At-loop-i invariant-loop decreases-loop → tie.Start invariant-loop decreases-loop
-st c = c.before.before.before
-
 -- the loop, from the slot that the key takes
 abbrev turn : tie.After-slot_for-slot invariant-loop decreases-loop → tie.At-loop-i invariant-loop decreases-loop
-turn c = c.before.before.before.before
+turn c = c.before.before.before
 
 -- the slots taken are fewer than the keys, and fewer than may be joined
 fewer : (c : tie.In-loop-i invariant-loop decreases-loop)
-    → let l = c.before.loop-i in (l.taken < length l.keys) × (l.taken < few_slots)
+    → let l = c.loop-i in (l.taken < length l.keys) × (l.taken < few_slots)
 fewer c =
-    let l = c.before in
-    let w = l.loop-i.invariant.0 in
-    let less : l.loop-i.taken < (st l).args.slots = omega (arith, w.joined.few, c.loop-i-test.true) in
-    (omega (arith, less, w.keys_long, (st l).requires.0), omega (arith, less, (st l).requires.2))
+    let w = c.loop-i.invariant.0 in
+    let less : c.loop-i.taken < c.args.slots = omega (arith, w.joined.few, c.loop-i-test.true) in
+    (omega (arith, less, w.keys_long, c.requires.0), omega (arith, less, c.requires.2))
 
 -- the slot that the key takes is one of them, or the next
-most : (c : tie.After-slot_for-slot invariant-loop decreases-loop) → c.slot_for-slot.result ≤ (turn c).loop-i.taken
+most : (c : tie.After-slot_for-slot invariant-loop decreases-loop) → c.slot_for-slot.result ≤ c.loop-i.taken
 most c = takes-most c.slot_for-slot.ensures
 
 loop-holds : tie.Need-loop-i-init invariant-loop decreases-loop
 loop-holds c =
-    let a = c.before.before.args in
+    let a = c.args in
     (joining-start a.keys.now a.link.now a.slots, refl)
 
 mul-key : tie.Need-offset_bounds-keys-i invariant-loop decreases-loop
-mul-key c = omega (arith, (st c.before).pre.2)
+mul-key c = omega (arith, c.requires.2)
 
 slice-read-key : tie.Need-bounds-keys-i invariant-loop decreases-loop
 slice-read-key c =
-    let l = c.before.before in
-    omega (arith, l.loop-i.invariant.0.keys_long, (st l).requires.0)
+    omega (arith, c.loop-i.invariant.0.keys_long, c.requires.0)
 
 cast-site : tie.Need-overflow_cast-site invariant-loop decreases-loop
 cast-site c = omega arith
@@ -57,7 +51,7 @@ mul-slot-for : tie.Need-offset_bounds-sites-site invariant-loop decreases-loop
 mul-slot-for c = omega arith
 
 array-read-slot-for : tie.Need-bounds-sites-site invariant-loop decreases-loop
-array-read-slot-for c = omega (arith, c.before.before.before.loop-i.invariant.1)
+array-read-slot-for c = omega (arith, c.loop-i.invariant.1)
 
 slot-for-requires : tie.Need-slot_for-slot-requires invariant-loop decreases-loop
 slot-for-requires c κs = omega (arith, (fewer c.before.before).0)
@@ -72,13 +66,13 @@ mul-sites : tie.Need-offset_bounds-sites-site-in-loop-i invariant-loop decreases
 mul-sites c = omega arith
 
 array-write-sites : tie.Need-bounds-sites-site-in-loop-i invariant-loop decreases-loop
-array-write-sites c = omega (arith, (turn c).loop-i.invariant.1)
+array-write-sites c = omega (arith, c.loop-i.invariant.1)
 
 cast-link : tie.Need-overflow_cast-link invariant-loop decreases-loop
 cast-link c = omega (arith, most c, (fewer c.before.before.before).1)
 
 slice-write-link : tie.Need-bounds-link-i invariant-loop decreases-loop
-slice-write-link c = omega (arith, (turn c).loop-i.invariant.0.link_long, (st (turn c)).pre.1)
+slice-write-link c = omega (arith, c.loop-i.invariant.0.link_long, c.requires.1)
 
 with-slot-requires : tie.Need-with_slot-taken-requires invariant-loop decreases-loop
 with-slot-requires c κs = (most c, omega (arith, (fewer c.before.before.before).1))
@@ -94,22 +88,22 @@ loop-again c =
     let at = c.before in
     let l = turn at in
     let e = c.with_slot-taken.ensures in (
-      joining-step l.loop-i.inv.0 (omega arith) at.slot_for-slot.ensures
+      joining-step l.loop-i.invariant.0 (omega arith) at.slot_for-slot.ensures
           (omega (arith, most at, (fewer at.before.before.before).0))
-          (omega (arith, l.loop-i.inv.0.link_long, (st l).pre.1)) e.0 e.1 e.2,
-      length-set l.loop-i.sites (slot_key l.loop-i.keys l.loop-i.i % 251) at.slot_for-slot.result ∙ l.loop-i.inv.1,
+          (omega (arith, l.loop-i.invariant.0.link_long, l.requires.1)) e.0 e.1 e.2,
+      length-set l.loop-i.sites (slot_key l.loop-i.keys l.loop-i.i % 251) at.slot_for-slot.result ∙ l.loop-i.invariant.1,
     )
 
 same_length : tie.Need-shape_of-keys invariant-loop decreases-loop
-same_length c = c.before.loop-i.invariant.0.keys_long
+same_length c = c.loop-i.invariant.0.keys_long
 
 same-length-2 : tie.Need-shape_of-link invariant-loop decreases-loop
-same-length-2 c = c.before.loop-i.invariant.0.link_long
+same-length-2 c = c.loop-i.invariant.0.link_long
 
 returns : tie.Need-returns invariant-loop decreases-loop
 returns c =
-    let l = c.before.loop-i in
-    let e : l.i ≡ (st c.before).args.slots = omega (arith, l.invariant.0.within) in
+    let l = c.loop-i in
+    let e : l.i ≡ c.args.slots = omega (arith, l.invariant.0.within) in
     rw e at l.invariant.0.joined
 
 pub join_spec : {M : Type 1} → statement M

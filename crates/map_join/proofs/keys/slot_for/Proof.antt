@@ -13,7 +13,7 @@ shared-slice-read-if2 : tie.Need-bounds-keys-slot
 shared-slice-read-if2 c = search rules
 
 returns : tie.Need-returns-then-keys-slot
-returns c = there c.before.before.if1.true (eqb-true _ _ c.if-keys-slot.true)
+returns c = there c.if1.true (eqb-true _ _ c.if-keys-slot.true)
 
 returns-2 : tie.Need-returns-else-slot-taken
 returns-2 c = next refl

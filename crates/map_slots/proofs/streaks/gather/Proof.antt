@@ -16,10 +16,6 @@ invariant-loop strip keys₀ which₀ n slots₀ last₀ i₀ keys which slots l
 abbrev decreases-loop : tie.decreases-loop-i
 decreases-loop strip keys₀ which₀ n slots₀ last₀ i₀ keys which slots last i = length strip / 3 - i
 
--- where the function begins
-abbrev st : tie.At-loop-i invariant-loop decreases-loop → tie.Start invariant-loop decreases-loop
-st c = c.before.before.before.before
-
 -- the loop, from the key of the turn's pixel
 abbrev keyed : tie.After-key_of-key invariant-loop decreases-loop → tie.At-loop-i invariant-loop decreases-loop
 keyed c = c.before.before.before.before.before
@@ -36,18 +32,18 @@ slot c = (turn c).loop-i.slots + c.bit.result - 1
 takes : (c : tie.After-bit invariant-loop decreases-loop)
     → let l = (turn c).loop-i in (0 < l.slots + c.bit.result)
     × (l.slots + c.bit.result ≤ l.slots + 1)
-    × Takes l.keys l.slots c.before.key_of-key.result (slot c)
-takes c = gathering-takes (turn c).loop-i.invariant c.before.key_of-key.ensures.1 c.bit.ensures.0
+    × Takes l.keys l.slots c.key_of-key.result (slot c)
+takes c = gathering-takes (turn c).loop-i.invariant c.key_of-key.ensures.1 c.bit.ensures.0
 
 -- and has room there
 room : (c : tie.After-bit invariant-loop decreases-loop) → slot c < length (turn c).loop-i.keys
 room c =
     let w = (turn c).loop-i.invariant in
-    omega (arith, takes c, w.gathered.few, w.keys_long, (st (turn c)).pre.0)
+    omega (arith, takes c, w.gathered.few, w.keys_long, (turn c).requires.0)
 
 loop-holds : tie.Need-loop-i-init invariant-loop decreases-loop
 loop-holds c =
-    let a = c.before.before.before.args in
+    let a = c.args in
     gathering-start a.strip.now a.keys.now a.which.now
 
 mul_at : tie.Need-overflow_mul-at invariant-loop decreases-loop
@@ -84,19 +80,19 @@ sub-slot : tie.Need-overflow_sub-slot invariant-loop decreases-loop
 sub-slot c = omega (arith, takes c)
 
 mul-keys : tie.Need-offset_bounds-keys-slot invariant-loop decreases-loop
-mul-keys c = omega (arith, takes c, (turn c).loop-i.invariant.gathered.few, (st (turn c)).pre.2)
+mul-keys c = omega (arith, takes c, (turn c).loop-i.invariant.gathered.few, (turn c).requires.2)
 
 slice-write-keys : tie.Need-bounds-keys-slot invariant-loop decreases-loop
 slice-write-keys c = omega (arith, room c)
 
 cast-which : tie.Need-overflow_cast-which invariant-loop decreases-loop
-cast-which c = omega (arith, takes c, (turn c).loop-i.invariant.gathered.few, (st (turn c)).pre.2)
+cast-which c = omega (arith, takes c, (turn c).loop-i.invariant.gathered.few, (turn c).requires.2)
 
 mul-which : tie.Need-offset_bounds-which-i invariant-loop decreases-loop
 mul-which c = omega arith
 
 slice-write-which : tie.Need-bounds-which-i invariant-loop decreases-loop
-slice-write-which c = omega (arith, (turn c).loop-i.invariant.which_long, (st (turn c)).pre.1)
+slice-write-which c = omega (arith, (turn c).loop-i.invariant.which_long, (turn c).requires.1)
 
 add-i : tie.Need-overflow_add-i invariant-loop decreases-loop
 add-i c = omega arith
@@ -107,19 +103,19 @@ loop-less c = omega arith
 loop-again : tie.Need-loop-i-preserved invariant-loop decreases-loop
 loop-again c =
     let l = turn c in
-    gathering-step l.loop-i.inv (omega arith) c.before.key_of-key.ensures.0 (takes c).2
-    (omega (arith, takes c)) (omega arith) (takes c).1 (room c) (omega (arith, l.loop-i.inv.which_long, (st l).pre.1))
+    gathering-step l.loop-i.invariant (omega arith) c.key_of-key.ensures.0 (takes c).2
+    (omega (arith, takes c)) (omega arith) (takes c).1 (room c) (omega (arith, l.loop-i.invariant.which_long, l.requires.1))
 
 same_length : tie.Need-shape_of-keys invariant-loop decreases-loop
-same_length c = c.before.loop-i.invariant.keys_long
+same_length c = c.loop-i.invariant.keys_long
 
 same-length-2 : tie.Need-shape_of-which invariant-loop decreases-loop
-same-length-2 c = c.before.loop-i.invariant.which_long
+same-length-2 c = c.loop-i.invariant.which_long
 
 returns : tie.Need-returns invariant-loop decreases-loop
 returns c =
-    let l = c.before.loop-i in
-    let e : l.i ≡ length (st c.before).args.strip.now / 3 = omega (arith, l.invariant.within) in
+    let l = c.loop-i in
+    let e : l.i ≡ length c.args.strip.now / 3 = omega (arith, l.invariant.within) in
     rw e at l.invariant.gathered
 
 pub gather_spec : {M : Type 1} → statement M

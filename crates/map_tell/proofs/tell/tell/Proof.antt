@@ -37,30 +37,30 @@ abbrev second : tie.After-square-in-loop-i-2 invariant-loop decreases-loop → t
 second c = c.before.before.before
 
 -- there is room for the turn's cells
-room : (c : tie.In-loop-i invariant-loop decreases-loop) → 4 * c.before.loop-i.i + 3 < length c.before.loop-i.told
-room c = omega (arith, telling-long c.before.loop-i.invariant, (st c.before).pre.room, c.loop-i-test.true)
+room : (c : tie.In-loop-i invariant-loop decreases-loop) → 4 * c.loop-i.i + 3 < length c.loop-i.told
+room c = omega (arith, telling-long c.loop-i.invariant, (st c.before).requires.room, c.loop-i-test.true)
 
 -- the shade with the number found is in s
 inside : (c : tie.In-loop-i invariant-loop decreases-loop)
     → let a = (st c.before).args in
-    3 * found_number a.link.now a.best.now c.before.loop-i.i + 2 < length a.shades.now
-inside c = (st c.before).pre.inside c.before.loop-i.i (omega arith)
+    3 * found_number a.link.now a.best.now c.loop-i.i + 2 < length a.shades.now
+inside c = (st c.before).requires.inside c.loop-i.i (omega arith)
 
 loop-holds : tie.Need-loop-i-init invariant-loop decreases-loop
 loop-holds c =
-    let a = (begin c).args in
+    let a = c.args in
     let link = a.link.now in
     telling-start (levels_of a.keys.now link) a.shades.now (found_number link a.best.now) a.slots
     a.told.now
 
 shared-slice-read-slot : tie.Need-bounds-link-i invariant-loop decreases-loop
-shared-slice-read-slot c = omega (arith, (st c.before.before).pre.links)
+shared-slice-read-slot c = omega (arith, (st c.before.before).requires.links)
 
 cast-slot : tie.Need-overflow_cast-slot invariant-loop decreases-loop
-cast-slot c = omega (arith, c.shared_slice_known-in-loop-i-1.given c.before.before.loop-i.i)
+cast-slot c = omega (arith, c.shared_slice_known-in-loop-i-1.given c.loop-i.i)
 
 mul-key : tie.Need-offset_bounds-keys-slot invariant-loop decreases-loop
-mul-key c = omega (arith, c.shared_slice_known-in-loop-i-1.given c.before.before.loop-i.i)
+mul-key c = omega (arith, c.shared_slice_known-in-loop-i-1.given c.loop-i.i)
 
 shared-slice-read-key : tie.Need-bounds-keys-slot invariant-loop decreases-loop
 shared-slice-read-key c =
@@ -68,7 +68,7 @@ shared-slice-read-key c =
     (st l).requires.keyed l.loop-i.i (omega arith)
 
 mul-number : tie.Need-offset_bounds-best-slot invariant-loop decreases-loop
-mul-number c = omega (arith, c.before.shared_slice_known-in-loop-i-1.given c.before.before.before.loop-i.i)
+mul-number c = omega (arith, c.shared_slice_known-in-loop-i-1.given c.loop-i.i)
 
 shared-slice-read-number : tie.Need-bounds-best-slot invariant-loop decreases-loop
 shared-slice-read-number c =
@@ -94,7 +94,7 @@ shared-slice-read-square : tie.Need-bounds-shades-from invariant-loop decreases-
 shared-slice-read-square c = omega (arith, inside (turn c.before))
 
 square-requires : tie.Need-square-requires invariant-loop decreases-loop
-square-requires c κs = (omega (arith, c.before.red_of.ensures.1), (st (turn c.before).before).pre.shades _)
+square-requires c κs = (omega (arith, c.red_of.ensures.1), (st (turn c.before).before).requires.shades _)
 
 mul-told : tie.Need-offset_bounds-told-at invariant-loop decreases-loop
 mul-told c = omega (arith, room (turn c.before.before))
@@ -117,7 +117,7 @@ shared-slice-read-square-2 c = omega (arith, inside (turn c.before.before.before
 square-requires-2 : tie.Need-square-requires-in-loop-i invariant-loop decreases-loop
 square-requires-2 c κs =
     let l = (turn c.before.before.before.before).before in
-    (omega (arith, c.before.green_of.ensures.1), (st l).pre.shades _)
+    (omega (arith, c.green_of.ensures.1), (st l).requires.shades _)
 
 add-told : tie.Need-overflow_add-told invariant-loop decreases-loop
 add-told c = omega (arith, room (turn (first c).before.before))
@@ -143,7 +143,7 @@ shared-slice-read-square-3 c = omega (arith, inside (turn (first c.before.before
 square-requires-3 : tie.Need-square-requires-in-loop-i-2 invariant-loop decreases-loop
 square-requires-3 c κs =
     let l = (turn (first c.before.before).before.before).before in
-    (omega (arith, c.before.blue_of.ensures.1), (st l).pre.shades _)
+    (omega (arith, c.blue_of.ensures.1), (st l).requires.shades _)
 
 add-told-2 : tie.Need-overflow_add-told-in-loop-i invariant-loop decreases-loop
 add-told-2 c = omega (arith, room (turn (first (second c)).before.before))
@@ -176,17 +176,17 @@ loop-again c =
     let two = second c in
     let one = first two in
     let l = (turn one.before.before).before in
-    telling-step l.loop-i.inv (omega arith) (st l).pre.room
-    one.before.before.red_of.ensures.0 two.before.before.green_of.ensures.0
-    c.before.before.blue_of.ensures.0 one.square.ensures.0 two.square-in-loop-i.ensures.0
+    telling-step l.loop-i.invariant (omega arith) (st l).requires.room
+    one.red_of.ensures.0 two.green_of.ensures.0
+    c.blue_of.ensures.0 one.square.ensures.0 two.square-in-loop-i.ensures.0
     c.square-in-loop-i-2.ensures.0
 
 same_length : tie.Need-shape_of-told invariant-loop decreases-loop
-same_length c = telling-long c.before.loop-i.invariant
+same_length c = telling-long c.loop-i.invariant
 
 returns : tie.Need-returns invariant-loop decreases-loop
 returns c =
-    let l = c.before.loop-i in
+    let l = c.loop-i in
     let e : l.i ≡ (st c.before).args.slots = omega (arith, l.invariant.within) in
     rw e at l.invariant.is
 

@@ -18,8 +18,8 @@ channel-means-requires c κs = search rules
 
 returns : tie.Need-returns
 returns c =
-    let a = c.before.before.args in
-    answer_is a.errors a.pixels _ _ c.before.mean_figure.ensures c.channel_means.ensures
+    let a = c.args in
+    answer_is a.errors a.pixels _ _ c.mean_figure.ensures c.channel_means.ensures
 
 pub answer_spec : {M : Type 1} → statement M
 answer_spec = tie.close (tie.spec add-error add-error-2 mean-figure-requires channel-means-requires returns)

@@ -37,11 +37,11 @@ returns c =
     let m = at.map_pixels in
     let start = st at in
     let a = start.args in (
-      stretch-mapped a.first a.pixels (entry_for a.palette.now a.strip.now) a.index-1.now _
-          start.pre.1 m.ensures.0,
+      stretch-mapped a.first a.pixels (entry_for a.palette.now a.strip.now) a.index.now _
+          start.requires.1 m.ensures.0,
       m.ensures.1
           ∙ ap (errors_of a.palette.now a.strip.now)
-          (mid_len a.first (a.first + a.pixels) a.index-1.now start.pre.1 ∙ omega arith),
+          (mid_len a.first (a.first + a.pixels) a.index.now start.requires.1 ∙ omega arith),
     )
 
 pub map_stretch_spec : {M : Type 1} → statement M

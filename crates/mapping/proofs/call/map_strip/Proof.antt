@@ -18,25 +18,21 @@ use borrow.Author.Rules.{rules}
 use Rattle.mapping.proofs.call.map_strip.Statement.{statement}
 use Rattle.mapping.proofs.call.map_strip.Tie as tie
 
--- where the call begins
-abbrev st : tie.After-slice_known-1 → tie.Start
-st c = c.before.before.before
-
 -- the strip that it was given
 abbrev s : tie.After-slice_known-1 → List ℕ
-s c = (st c).args.strip.now
+s c = c.args.strip.now
 
 -- the palette
 abbrev p : tie.After-slice_known-1 → List ℕ
-p c = (st c).args.palette.now
+p c = c.args.palette.now
 
 -- the index picture
 abbrev d : tie.After-slice_known-1 → List ℕ
-d c = (st c).args.index-1.now
+d c = c.args.index.now
 
 -- the stretch's first place
 abbrev a : tie.After-slice_known-1 → ℕ
-a c = (st c).args.first
+a c = c.args.first
 
 -- past the first test, from past the second
 abbrev first : tie.Else-bad_palette → tie.Else-strip-ne0
@@ -52,14 +48,14 @@ whole c = ap not (eq-eqb _ _ c.if-strip-ne0.false)
 
 -- past the second
 colours : (c : tie.Else-bad_palette) → bad_palette (p (first c).before) ≡ false
-colours c = sym c.before.bad_palette.ensures ∙ c.if-bad_palette.false
+colours c = sym c.bad_palette.ensures ∙ c.if-bad_palette.false
 
 -- the third is told by the higher number
 twins-by : (c : tie.After-struct_known-1)
-    → twin_shade (p (first (second c)).before) ≡ ltb 0 c.before.twin_of-twins.result.higher
+    → twin_shade (p (first (second c)).before) ≡ ltb 0 c.twin_of-twins.result.higher
 twins-by c =
     told-exactly (p (first (second c)).before)
-    ∙ ap (λ (t : Twins). ltb 0 t.higher) (sym c.before.twin_of-twins.ensures)
+    ∙ ap (λ (t : Twins). ltb 0 t.higher) (sym c.twin_of-twins.ensures)
 
 -- past the third
 unlike : (c : tie.Else-twins-gt0) → twin_shade (p (first (second c.before)).before) ≡ false
@@ -75,7 +71,7 @@ refused-requires c κs = search rules
 returns : tie.Need-returns-then-strip-ne0
 returns c =
     let t = c.before.before in
-    map-meets-refused (s t) (p t) (d t) (a t) BAD-STRIP _ (simp (ne_eqb _ _ c.before.if-strip-ne0.true))
+    map-meets-refused (s t) (p t) (d t) (a t) BAD-STRIP _ (simp (ne_eqb _ _ c.if-strip-ne0.true))
     c.refused.ensures
 
 bad-palette-requires : tie.Need-bad_palette-requires
@@ -86,11 +82,10 @@ refused-requires-2 c κs = search rules
 
 returns-2 : tie.Need-returns-then-bad_palette
 returns-2 c =
-    let b = c.before.before in
-    let w = b.before in
+    let w = c.before.before.before in
     let t = w.before in
     map-meets-refused (s t) (p t) (d t) (a t) BAD-PALETTE _
-    (simp (whole w, sym b.bad_palette.ensures ∙ c.before.if-bad_palette.true)) c.refused-then-bad_palette.ensures
+    (simp (whole w, sym c.bad_palette.ensures ∙ c.if-bad_palette.true)) c.refused-then-bad_palette.ensures
 
 twin-of-requires : tie.Need-twin_of-twins-requires
 twin-of-requires c κs = search rules
@@ -105,8 +100,8 @@ returns-3 c =
     let w = first e in
     let t = w.before in
     map-meets-refused (s t) (p t) (d t) (a t) TWIN_SHADE _
-    (simp (whole w, colours e, twins-by k ∙ lt-ltb 0 _ c.before.if-twins-gt0.true))
-    (c.refused-then-twins-gt0.ensures ∙ ap (refused_map 18) k.before.twin_of-twins.ensures)
+    (simp (whole w, colours e, twins-by k ∙ lt-ltb 0 _ c.if-twins-gt0.true))
+    (c.refused-then-twins-gt0.ensures ∙ ap (refused_map 18) k.twin_of-twins.ensures)
 
 refused-requires-4 : tie.Need-refused-requires-then-count-gt-MOST_PIXELS
 refused-requires-4 c κs = search rules
@@ -118,7 +113,7 @@ returns-4 c =
     let w = first e in
     let t = w.before in
     map-meets-refused (s t) (p t) (d t) (a t) MANY-PIXELS _
-    (simp (whole w, colours e, unlike u, lt-ltb _ _ c.before.if-count-gt-MOST_PIXELS.true)) c.refused-then-count-gt-MOST_PIXELS.ensures
+    (simp (whole w, colours e, unlike u, lt-ltb _ _ c.if-count-gt-MOST_PIXELS.true)) c.refused-then-count-gt-MOST_PIXELS.ensures
 
 refused-requires-5 : tie.Need-refused-requires-then-room-pixels
 refused-requires-5 c κs = search rules
@@ -156,13 +151,12 @@ map-stretch-requires c κs =
 
 answer-requires : tie.Need-answer-requires
 answer-requires c κs =
-    let m = c.before.before in
-    let f = m.before.before.before.before in
+    let f = c.before.before.before.before.before.before in
     let t = (first (second f.before.before)).before in (
-      rw m.map_stretch-errors.ensures.1
+      rw c.map_stretch-errors.ensures.1
           (small-errors (s t) (p t) (pixel_count (s t))
-          (λ i. omega (arith, t.before.before.shared_slice_known-1.given i))
-          (λ i. omega (arith, t.before.shared_slice_known-2-1.given i)) (few f)),
+          (λ i. omega (arith, t.shared_slice_known-1.given i))
+          (λ i. omega (arith, t.shared_slice_known-2-1.given i)) (few f)),
       few f,
     )
 
@@ -171,14 +165,13 @@ same_length c = search rules
 
 returns-7 : tie.Need-returns
 returns-7 c =
-    let m = c.before.before.before in
-    let f = m.before.before.before.before in
+    let f = c.before.before.before.before.before.before.before in
     let u = f.before in
     let e = second u.before in
     let w = first e in
     let t = w.before in
     map-meets-made (s t) (p t) (d t) (a t) (whole w) (colours e) (unlike u) (few f) (omega arith) _ _ _
-    m.map_stretch-errors.ensures.1 c.answer.ensures m.map_stretch-errors.ensures.0
+    c.map_stretch-errors.ensures.1 c.answer.ensures c.map_stretch-errors.ensures.0
 
 pub map_strip_spec : {M : Type 1} → statement M
 map_strip_spec =

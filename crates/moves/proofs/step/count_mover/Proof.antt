@@ -29,7 +29,7 @@ add-result-2 : tie.Need-overflow_add-result-then-green-shades
 add-result-2 c = search rules
 
 returns-2 : tie.Need-returns-then-green-shades
-returns-2 c = rw (eq-eqb _ _ c.before.before.if-red-shades.false, ne_eqb _ _ c.if-green-shades.true)
+returns-2 c = rw (eq-eqb _ _ c.if-red-shades.false, ne_eqb _ _ c.if-green-shades.true)
 
 add-if3 : tie.Need-overflow_add-i-2
 add-if3 c = search rules
@@ -45,19 +45,17 @@ add-result-3 c = search rules
 
 returns-3 : tie.Need-returns-then-blue-shades
 returns-3 c =
-    let second = c.before.before in
     rw (
-      eq-eqb _ _ second.before.before.if-red-shades.false,
-      eq-eqb _ _ second.if-green-shades.false,
+      eq-eqb _ _ c.if-red-shades.false,
+      eq-eqb _ _ c.if-green-shades.false,
       ne_eqb _ _ c.if-blue-shades.true,
     )
 
 returns-4 : tie.Need-returns
 returns-4 c =
-    let second = c.before.before in
     rw (
-      eq-eqb _ _ second.before.before.if-red-shades.false,
-      eq-eqb _ _ second.if-green-shades.false,
+      eq-eqb _ _ c.if-red-shades.false,
+      eq-eqb _ _ c.if-green-shades.false,
       eq-eqb _ _ c.if-blue-shades.false,
     )
 

@@ -56,13 +56,10 @@ same_length c = search rules
 
 returns : tie.Need-returns
 returns c =
-    let third = c.before.before in
-    let second = third.before.before in
-    let first = second.before.before in
     rw (
-      ← first.new_coordinate-red.ensures,
-      ← second.new_coordinate-green.ensures,
-      ← third.new_coordinate-blue.ensures,
+      ← c.new_coordinate-red.ensures,
+      ← c.new_coordinate-green.ensures,
+      ← c.new_coordinate-blue.ensures,
     )
     (refl, c.count_mover-counted.ensures)
 

@@ -24,19 +24,17 @@ decreases-loop sums shades₀ held count leaps moved₀ q₀ shades moved q = co
 
 loop-holds : tie.Need-loop-q-init invariant-loop decreases-loop
 loop-holds c =
-    let s = c.before in
-    let a = s.args in (
-      counting-from a.count a.held _ s.requires.1
-          (held_stays a.held (move_of a.leaps) a.sums.now a.shades-1.now),
-      held-shades a.held (move_of a.leaps) a.sums.now a.shades-1.now,
+    let a = c.args in (
+      counting-from a.count a.held _ c.requires.1
+          (held_stays a.held (move_of a.leaps) a.sums.now a.shades.now),
+      held-shades a.held (move_of a.leaps) a.sums.now a.shades.now,
       omega arith,
     )
 
 move-shade-requires : tie.Need-move_shade-moved-requires invariant-loop decreases-loop
 move-shade-requires c κs =
-    let l = c.before.before in
-    let p = l.before.before.requires in
-    (p.0, omega arith, rw (l.loop-q.invariant.1, fill-length) (omega arith), l.loop-q.invariant.0.few)
+    let p = c.requires in
+    (p.0, omega arith, rw (c.loop-q.invariant.1, fill-length) (omega arith), c.loop-q.invariant.0.few)
 
 add-q : tie.Need-overflow_add-q invariant-loop decreases-loop
 add-q c = omega arith
@@ -46,27 +44,23 @@ loop-less c = omega arith
 
 loop-again : tie.Need-loop-q-preserved invariant-loop decreases-loop
 loop-again c =
-    let m = c.before.before in
-    let i = m.before.before in
-    let l = i.before in
-    let a = l.before.before.args in
-    let free = l.loop-q.invariant.2 in (
-      counting-next l.loop-q.invariant.0 (omega (arith, i.loop-q-test.true))
-          (turn-counted a.held (move_of a.leaps) a.sums.now a.shades-1.now l.loop-q.q free l.loop-q.invariant.1
-          l.loop-q.moved m.move_shade-moved.ensures.1),
-      turn-shades a.held (move_of a.leaps) a.sums.now a.shades-1.now l.loop-q.q free l.loop-q.invariant.1
-          (omega arith) m.move_shade-moved.ensures.0,
+    let a = c.args in
+    let free = c.loop-q.invariant.2 in (
+      counting-next c.loop-q.invariant.0 (omega (arith, c.loop-q-test.true))
+          (turn-counted a.held (move_of a.leaps) a.sums.now a.shades.now c.loop-q.q free c.loop-q.invariant.1
+          c.loop-q.moved c.move_shade-moved.ensures.1),
+      turn-shades a.held (move_of a.leaps) a.sums.now a.shades.now c.loop-q.q free c.loop-q.invariant.1
+          (omega arith) c.move_shade-moved.ensures.0,
       omega arith,
     )
 
 same_length : tie.Need-shape_of-shades invariant-loop decreases-loop
-same_length c = ap length c.before.loop-q.invariant.1 ∙ fill-length _ _ _
+same_length c = ap length c.loop-q.invariant.1 ∙ fill-length _ _ _
 
 returns : tie.Need-returns invariant-loop decreases-loop
 returns c =
-    let l = c.before in
-    let e : l.loop-q.q ≡ l.before.before.args.count = omega (arith, l.loop-q.invariant.0.within) in
-    (rw e at l.loop-q.invariant.1, counting-done l.loop-q.invariant.0 (omega (arith, c.loop-q-test.false)))
+    let e : c.loop-q.q ≡ c.args.count = omega (arith, c.loop-q.invariant.0.within) in
+    (rw e at c.loop-q.invariant.1, counting-done c.loop-q.invariant.0 (omega (arith, c.loop-q-test.false)))
 
 pub move_shades_spec : {M : Type 1} → statement M
 move_shades_spec =

@@ -12,13 +12,11 @@ use Rattle.moves.proofs.step.new_coordinate.Tie as tie
 
 -- a group with a pixel: what its mean asks
 asked : (c : tie.After-level_sum-coords)
-    → (let pixels = c.before.before.pixels_of-pixels.result in
+    → (let pixels = c.pixels_of-pixels.result in
     (0 < pixels) × (pixels ≤ most_pixels) × (c.level_sum-coords.result ≤ most_level * pixels))
 asked c =
-    let p = c.before.before in
-    let s = p.before.before in
-    mean-asked s.requires.0 (s.args.i % 3) (s.args.i / 3) (omega arith) p.pixels_of-pixels.ensures
-    c.level_sum-coords.ensures c.before.if-pixels-eq0.false
+    mean-asked c.requires.0 (c.args.i % 3) (c.args.i / 3) (omega arith) c.pixels_of-pixels.ensures
+    c.level_sum-coords.ensures c.if-pixels-eq0.false
 
 pixels-of-requires : tie.Need-pixels_of-pixels-requires
 pixels-of-requires c κs = search rules
@@ -31,8 +29,7 @@ shared-slice-read-result c = search rules
 
 returns : tie.Need-returns-then-pixels-eq0
 returns c =
-    let t = c.before in
-    rw (eq-eqb _ 0 (sym t.before.pixels_of-pixels.ensures ∙ t.if-pixels-eq0.true))
+    rw (eq-eqb _ 0 (sym c.pixels_of-pixels.ensures ∙ c.if-pixels-eq0.true))
 
 level-sum-requires : tie.Need-level_sum-coords-requires
 level-sum-requires c κs = search rules
@@ -51,13 +48,11 @@ leap-requires c κs = let m = asked c.before.before in (m.0, m.1, omega (arith, 
 
 returns-2 : tie.Need-returns-then-leaps
 returns-2 c =
-    let t = c.before.before in
-    let l = t.before in
-    let p = l.before.before.pixels_of-pixels in
+    let p = c.pixels_of-pixels in
     rw (
-      ne_eqb _ 0 (λ z. l.before.if-pixels-eq0.false (p.ensures ∙ z)),
-      t.if-leaps.true,
-      ← l.level_sum-coords.ensures,
+      ne_eqb _ 0 (λ z. c.if-pixels-eq0.false (p.ensures ∙ z)),
+      c.if-leaps.true,
+      ← c.level_sum-coords.ensures,
       ← p.ensures,
     )
     c.leap.ensures
@@ -67,13 +62,11 @@ rounded-mean-requires c κs = let m = asked c.before in (m.0, m.1, omega (arith,
 
 returns-3 : tie.Need-returns
 returns-3 c =
-    let t = c.before in
-    let l = t.before in
-    let p = l.before.before.pixels_of-pixels in
+    let p = c.pixels_of-pixels in
     rw (
-      ne_eqb _ 0 (λ z. l.before.if-pixels-eq0.false (p.ensures ∙ z)),
-      t.if-leaps.false,
-      ← l.level_sum-coords.ensures,
+      ne_eqb _ 0 (λ z. c.if-pixels-eq0.false (p.ensures ∙ z)),
+      c.if-leaps.false,
+      ← c.level_sum-coords.ensures,
       ← p.ensures,
     )
     c.rounded_mean.ensures.0

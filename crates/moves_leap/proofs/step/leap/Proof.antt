@@ -19,28 +19,20 @@ off-mean-requires-2 c κs = search rules
 
 returns : tie.Need-returns-then-off_mean
 returns c =
-    let stay = c.before in
-    let off = stay.before in
-    let place = off.before in
-    let far = place.before in
-    let s = far.before.args in
-    goes-past s.pixels s.coords s.z far.past_mean-far.result place.held-place.result off.off_mean.result
-    stay.off_mean-2.result far.past_mean-far.ensures place.held-place.ensures off.off_mean.ensures
-    stay.off_mean-2.ensures (omega (arith, c.if-off_mean.true))
+    let s = c.args in
+    goes-past s.pixels s.coords s.z c.past_mean-far.result c.held-place.result c.off_mean.result
+    c.off_mean-2.result c.past_mean-far.ensures c.held-place.ensures c.off_mean.ensures
+    c.off_mean-2.ensures (omega (arith, c.if-off_mean.true))
 
 rounded-mean-requires : tie.Need-rounded_mean-requires
 rounded-mean-requires c κs = search rules
 
 returns-2 : tie.Need-returns
 returns-2 c =
-    let stay = c.before.before in
-    let off = stay.before in
-    let place = off.before in
-    let far = place.before in
-    let s = far.before.args in
-    goes-to-mean s.pixels s.coords s.z far.past_mean-far.result place.held-place.result off.off_mean.result
-    stay.off_mean-2.result far.past_mean-far.ensures place.held-place.ensures off.off_mean.ensures
-    stay.off_mean-2.ensures (omega (arith, c.before.if-off_mean.false)) c.rounded_mean.result
+    let s = c.args in
+    goes-to-mean s.pixels s.coords s.z c.past_mean-far.result c.held-place.result c.off_mean.result
+    c.off_mean-2.result c.past_mean-far.ensures c.held-place.ensures c.off_mean.ensures
+    c.off_mean-2.ensures (omega (arith, c.if-off_mean.false)) c.rounded_mean.result
     c.rounded_mean.ensures.0
 
 pub leap_spec : {M : Type 1} → statement M

@@ -18,8 +18,7 @@ mul-down-2 c = omega (arith, product-fits c.args.pixels c.args.z c.requires.1 (o
 
 returns : tie.Need-returns-then-up-down
 returns c =
-    let s = c.before in
-    sym (past-none s.args.pixels s.args.coords s.args.z s.requires.0 (omega (arith, c.if-up-down.true)))
+    sym (past-none c.args.pixels c.args.coords c.args.z c.requires.0 (omega (arith, c.if-up-down.true)))
 
 mul-result : tie.Need-overflow_mul-result
 mul-result c = search rules
@@ -38,16 +37,14 @@ div-result c = search rules
 
 returns-2 : tie.Need-returns
 returns-2 c =
-    let s = c.before in
-    past-divided s.args.pixels s.args.coords s.args.z
+    past-divided c.args.pixels c.args.coords c.args.z
 
 cast-result : tie.Need-overflow_cast-result
 cast-result c =
-    let s = c.before in
     omega (
       arith,
-      past-divided s.args.pixels s.args.coords s.args.z,
-      past-at-most s.args.pixels s.args.coords s.args.z s.requires.0 s.requires.2,
+      past-divided c.args.pixels c.args.coords c.args.z,
+      past-at-most c.args.pixels c.args.coords c.args.z c.requires.0 c.requires.2,
     )
 
 pub past_mean_spec : {M : Type 1} → statement M

@@ -15,18 +15,18 @@ use Rattle.p6.proofs.call.raster_of.Tie as tie
 
 -- the input
 abbrev s : tie.After-read_picture-picture → List ℕ
-s c = c.before.before.args.input.now
+s c = c.args.input.now
 
 -- the picture is accepted
 accepted : (c : tie.Else-number-ne-DONE) → (read_picture (s c.before)).refusal ≡ done
-accepted c = sym (ap (λ (p : Picture). p.refusal) c.before.read_picture-picture.ensures) ∙ c.if-number-ne-DONE.false
+accepted c = sym (ap (λ (p : Picture). p.refusal) c.read_picture-picture.ensures) ∙ c.if-number-ne-DONE.false
 
 -- its start is the answered one
-start_is : (c : tie.Else-number-ne-DONE) → c.before.read_picture-picture.result-1.start ≡ (read_picture (s c.before)).start
-start_is c = ap (λ (p : Picture). p.start) c.before.read_picture-picture.ensures
+start_is : (c : tie.Else-number-ne-DONE) → c.read_picture-picture.result.start ≡ (read_picture (s c.before)).start
+start_is c = ap (λ (p : Picture). p.start) c.read_picture-picture.ensures
 
 -- it stands inside the input
-inside : (c : tie.Else-number-ne-DONE) → c.before.read_picture-picture.result-1.start ≤ length (s c.before)
+inside : (c : tie.Else-number-ne-DONE) → c.read_picture-picture.result.start ≤ length (s c.before)
 inside c = omega (arith, start_is c, accepted-start (s c.before) (accepted c))
 
 read-picture-requires : tie.Need-read_picture-picture-requires
@@ -37,9 +37,8 @@ slice-aggregate-result c = search rules
 
 returns : tie.Need-returns-then-number-ne-DONE
 returns c =
-    let i = c.before in
-    let is = ap (λ (p : Picture). p.refusal) i.before.read_picture-picture.ensures in
-    sym (raster-nothing (s i.before) (λ ok. i.if-number-ne-DONE.true (is ∙ ok)))
+    let is = ap (λ (p : Picture). p.refusal) c.read_picture-picture.ensures in
+    sym (raster-nothing (s c.before.before) (λ ok. c.if-number-ne-DONE.true (is ∙ ok)))
 
 sub-result : tie.Need-slice_bounds-result-count
 sub-result c = omega (arith, inside c)
@@ -53,7 +52,7 @@ part-result-end c = search rules
 returns-2 : tie.Need-returns
 returns-2 c =
     let e = c.before in
-    let start = e.before.read_picture-picture.result-1.start in
+    let start = e.read_picture-picture.result.start in
     let l = s e.before in
     take_all (length l - start) (drop start l) (omega (arith, length-drop start l))
     ∙ ap (λ n. drop n l) (start_is e)

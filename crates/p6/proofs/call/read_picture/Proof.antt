@@ -24,7 +24,7 @@ use Rattle.p6.proofs.call.read_picture.Tie as tie
 
 -- the input, where the header is read
 abbrev input : tie.After-read_header-header → List ℕ
-input c = c.before.before.args.input.now
+input c = c.args.input.now
 
 -- where the header is read, at the size's test
 abbrev read_at : tie.After-bad_size → tie.After-read_header-header
@@ -36,27 +36,27 @@ s c = input (read_at c)
 
 -- the header's width
 abbrev width : tie.After-bad_size → ℕ
-width c = c.before.before.header-1.given.0.0
+width c = c.header-1.given.0.0
 
 -- its height
 abbrev height : tie.After-bad_size → ℕ
-height c = c.before.before.header-1.given.0.1.0
+height c = c.header-1.given.0.1.0
 
 -- its depth
 abbrev depth : tie.After-bad_size → ℕ
-depth c = c.before.before.header-1.given.0.1.1.0
+depth c = c.header-1.given.0.1.1.0
 
 -- the first place after it
 abbrev start : tie.After-bad_size → ℕ
-start c = c.before.before.header-1.given.0.1.1.1.0
+start c = c.header-1.given.0.1.1.1.0
 
 -- what the header is
 header : (c : tie.After-bad_size) → header_of (s c) ≡ Read (width c) (height c) (depth c) (start c)
-header c = sym (read_at c).read_header-header.ensures ∙ c.before.before.header-1.given.1
+header c = sym c.read_header-header.ensures ∙ c.header-1.given.1
 
 -- past the size's test: it fails
 size_ok : (c : tie.Else-bad_size) → bad_size (width c.before) (height c.before) ≡ false
-size_ok c = sym c.before.bad_size.ensures ∙ c.if-bad_size.false
+size_ok c = sym c.bad_size.ensures ∙ c.if-bad_size.false
 
 -- past the depth's test: it fails
 depth-ok : (c : tie.Else-depth-ne-DEPTH) → bad_depth (depth c.before.before) ≡ false
@@ -79,11 +79,10 @@ refused-requires c κs = search rules
 
 returns : tie.Need-returns-in_default
 returns c =
-    let a = c.before in
-    let r = a.before.before.before in
-    let failed = a.before.enum_told-1.given.1 in
+    let r = c.before.before.before.before in
+    let failed = c.enum_told-1.given.1 in
     c.refused.ensures
-    ∙ ap (refused_picture (number_of BAD-HEADER)) (a.bad_at.ensures ∙ ap offset_in failed)
+    ∙ ap (refused_picture (number_of BAD-HEADER)) (c.bad_at.ensures ∙ ap offset_in failed)
     ∙ sym (picture-bad-header (input r) _ (sym r.read_header-header.ensures ∙ failed))
 
 bad-size-requires : tie.Need-bad_size-requires
@@ -94,21 +93,19 @@ refused-requires-2 c κs = search rules
 
 returns-2 : tie.Need-returns-then-bad_size
 returns-2 c =
-    let i = c.before in
-    let t = i.before in
+    let t = c.before.before in
     c.refused-then-bad_size.ensures
-    ∙ sym (picture-bad-size (s t) _ _ _ _ (header t) (sym t.bad_size.ensures ∙ i.if-bad_size.true))
+    ∙ sym (picture-bad-size (s t) _ _ _ _ (header t) (sym t.bad_size.ensures ∙ c.if-bad_size.true))
 
 refused-requires-3 : tie.Need-refused-requires-then-depth-ne-DEPTH
 refused-requires-3 c κs = search rules
 
 returns-3 : tie.Need-returns-then-depth-ne-DEPTH
 returns-3 c =
-    let i = c.before in
-    let e = i.before in
+    let e = c.before.before in
     let t = e.before in
     c.refused-then-depth-ne-DEPTH.ensures
-    ∙ sym (picture-bad-depth (s t) _ _ _ _ (header t) (size_ok e) (rw (ne_eqb (depth t) the_depth i.if-depth-ne-DEPTH.true)))
+    ∙ sym (picture-bad-depth (s t) _ _ _ _ (header t) (size_ok e) (rw (ne_eqb (depth t) the_depth c.if-depth-ne-DEPTH.true)))
 
 sub-bad-raster : tie.Need-overflow_sub-input
 sub-bad-raster c = let t = c.before.before in start-inside (s t) _ _ _ _ (header t)
@@ -121,21 +118,18 @@ refused-requires-4 c κs = search rules
 
 returns-4 : tie.Need-returns-then-bad_raster
 returns-4 c =
-    let i = c.before in
-    let b = i.before in
-    let e = b.before in
+    let e = c.before.before.before in
     let t = e.before.before in
     c.refused-then-bad_raster.ensures
     ∙ sym (picture-bad-raster (s t) _ _ _ _ (header t) (size_ok e.before) (depth-ok e)
-    (sym b.bad_raster.ensures ∙ i.if-bad_raster.true))
+    (sym c.bad_raster.ensures ∙ c.if-bad_raster.true))
 
 returns-5 : tie.Need-returns
 returns-5 c =
-    let b = c.before in
-    let e = b.before in
+    let e = c.before.before in
     let t = e.before.before in
     sym (picture-made (s t) _ _ _ _ (header t) (size_ok e.before) (depth-ok e)
-    (sym b.bad_raster.ensures ∙ c.if-bad_raster.false))
+    (sym c.bad_raster.ensures ∙ c.if-bad_raster.false))
 
 pub read_picture_spec : {M : Type 1} → statement M
 read_picture_spec =

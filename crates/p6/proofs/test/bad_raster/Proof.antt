@@ -10,7 +10,7 @@ area-requires c κs = search rules
 
 mul-result : tie.Need-overflow_mul-result
 mul-result c =
-    let p = c.before.requires in
+    let p = c.requires in
     omega (arith, c.area.ensures, mul-le-mul p.0 p.1)
 
 returns : tie.Need-returns

@@ -8,28 +8,24 @@ use Rattle.p6.proofs.test.bad_size.Statement.{statement}
 use Rattle.p6.proofs.test.bad_size.Tie as tie
 
 -- past the width's test: it fails
-width-ok : (c : tie.Else-bad_side) → bad_side c.before.before.args.width ≡ false
-width-ok c = sym c.before.bad_side.ensures ∙ c.if-bad_side.false
-
--- where the width was tried, at the height's test
-abbrev first : tie.After-bad_side-2 → tie.After-bad_side
-first c = c.before.before
+width-ok : (c : tie.Else-bad_side) → bad_side c.args.width ≡ false
+width-ok c = sym c.bad_side.ensures ∙ c.if-bad_side.false
 
 -- past the height's test: it fails
-height-ok : (c : tie.Else-bad_side-2) → bad_side (first c.before).before.args.height ≡ false
-height-ok c = sym c.before.bad_side-2.ensures ∙ c.if-bad_side-2.false
+height-ok : (c : tie.Else-bad_side-2) → bad_side c.args.height ≡ false
+height-ok c = sym c.bad_side-2.ensures ∙ c.if-bad_side-2.false
 
 bad-side-requires : tie.Need-bad_side-requires
 bad-side-requires c κs = search rules
 
 returns : tie.Need-returns-then-bad_side
-returns c = rw (sym c.before.bad_side.ensures ∙ c.if-bad_side.true)
+returns c = rw (sym c.bad_side.ensures ∙ c.if-bad_side.true)
 
 bad-side-requires-2 : tie.Need-bad_side-requires-2
 bad-side-requires-2 c κs = search rules
 
 returns-2 : tie.Need-returns-then-bad_side-2
-returns-2 c = rw (width-ok c.before.before, sym c.before.bad_side-2.ensures ∙ c.if-bad_side-2.true)
+returns-2 c = rw (width-ok c.before.before, sym c.bad_side-2.ensures ∙ c.if-bad_side-2.true)
 
 area-requires : tie.Need-area-requires
 area-requires c κs =

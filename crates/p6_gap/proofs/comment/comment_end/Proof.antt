@@ -19,10 +19,10 @@ abbrev turn : tie.After-ends_comment invariant-loop decreases-loop → tie.At-lo
 turn c = c.before.before.before
 
 add-i : tie.Need-overflow_add-i invariant-loop decreases-loop
-add-i c = omega (arith, c.before.requires, c.before.well-formed)
+add-i c = omega (arith, c.requires, c.well_formed)
 
 loop-holds : tie.Need-loop-i-init invariant-loop decreases-loop
-loop-holds c = passed_start c.before.args.input.now c.before.args.at c.before.requires
+loop-holds c = passed_start c.args.input.now c.args.at c.requires
 
 shared-slice-read-ends-comment : tie.Need-bounds-input-i invariant-loop decreases-loop
 shared-slice-read-ends-comment c = omega arith
@@ -35,8 +35,7 @@ add-result c = search rules
 
 returns : tie.Need-returns-then-ends_comment invariant-loop decreases-loop
 returns c =
-    let w = c.before in
-    passed-done (turn w).loop-i.invariant (sym w.ends_comment.ensures ∙ c.if-ends_comment.true)
+    passed-done c.loop-i.invariant (sym c.ends_comment.ensures ∙ c.if-ends_comment.true)
 
 add-i-2 : tie.Need-overflow_add-i-in-loop-i invariant-loop decreases-loop
 add-i-2 c = search rules
@@ -46,12 +45,11 @@ loop-less c = omega arith
 
 loop-again : tie.Need-loop-i-preserved invariant-loop decreases-loop
 loop-again c =
-    let w = c.before in
-    passed-step (turn w).loop-i.invariant w.before.before.loop-i-test.true
-    (sym w.ends_comment.ensures ∙ c.if-ends_comment.false)
+    passed-step c.loop-i.invariant c.loop-i-test.true
+    (sym c.ends_comment.ensures ∙ c.if-ends_comment.false)
 
 returns-2 : tie.Need-returns invariant-loop decreases-loop
-returns-2 c = passed-all c.before.loop-i.invariant c.loop-i-test.false
+returns-2 c = passed-all c.loop-i.invariant c.loop-i-test.false
 
 pub comment_end_spec : {M : Type 1} → statement M
 comment_end_spec =

@@ -27,7 +27,7 @@ abbrev turn : tie.After-is_white invariant-loop decreases-loop → tie.At-loop-i
 turn c = c.before.before.before
 
 loop-holds : tie.Need-loop-i-init invariant-loop decreases-loop
-loop-holds c = left-start c.before.args.input.now c.before.args.at
+loop-holds c = left-start c.args.input.now c.args.at
 
 shared-slice-read-byte : tie.Need-bounds-input-i invariant-loop decreases-loop
 shared-slice-read-byte c = omega arith
@@ -43,29 +43,26 @@ loop-less c = omega arith
 
 loop-again : tie.Need-loop-i-preserved-then-is_white invariant-loop decreases-loop
 loop-again c =
-    let w = c.before in
-    left-white (turn w).loop-i.invariant (sym w.is_white.ensures ∙ c.if-is_white.true)
+    left-white c.loop-i.invariant (sym c.is_white.ensures ∙ c.if-is_white.true)
 
 returns : tie.Need-returns-then-byte-ne35 invariant-loop decreases-loop
 returns c =
-    let w = c.before.before in
-    left-done (turn w).loop-i.invariant (sym w.is_white.ensures ∙ c.before.if-is_white.false) c.if-byte-ne35.true
+    left-done c.loop-i.invariant (sym c.is_white.ensures ∙ c.if-is_white.false) c.if-byte-ne35.true
 
 comment-end-requires : tie.Need-comment_end-i-requires invariant-loop decreases-loop
 comment-end-requires c κs = search rules
 
 loop-less-2 : tie.Need-loop-i-smaller invariant-loop decreases-loop
 loop-less-2 c =
-    let w = c.before.before.before in
-    comment-less (turn w).loop-i.invariant _ w.before.before.loop-i-test.true c.before.if-byte-ne35.false
+    comment-less c.loop-i.invariant _ c.loop-i-test.true c.if-byte-ne35.false
     c.comment_end-i.ensures
 
 loop-again-2 : tie.Need-loop-i-preserved invariant-loop decreases-loop
 loop-again-2 c =
-    left-comment (turn c.before.before.before).loop-i.inv _ c.before.if-byte-ne35.false c.comment_end-i.ensures
+    left-comment c.loop-i.invariant _ c.if-byte-ne35.false c.comment_end-i.ensures
 
 returns-2 : tie.Need-returns invariant-loop decreases-loop
-returns-2 c = left-all c.before.loop-i.invariant c.loop-i-test.false
+returns-2 c = left-all c.loop-i.invariant c.loop-i-test.false
 
 pub gap_end_spec : {M : Type 1} → statement M
 gap_end_spec =

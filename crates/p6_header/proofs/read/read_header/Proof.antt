@@ -26,10 +26,6 @@ use Rattle.p6_header.proofs.read.Ways.{
 use Rattle.p6_header.proofs.read.read_header.Statement.{statement}
 use Rattle.p6_header.proofs.read.read_header.Tie as tie
 
--- where the function begins, at the letter
-abbrev st : tie.After-byte_at → tie.Start
-st c = c.before.before
-
 -- where the letter is read, at the figure
 abbrev letter_at : tie.After-byte_at-2 → tie.After-byte_at
 letter_at c = c.before.before
@@ -40,7 +36,7 @@ figure-at c = c.before.before
 
 -- the input, at the width
 abbrev input : tie.After-field-first → List ℕ
-input a = (st (letter_at (figure-at a))).args.input.now
+input a = a.args.input.now
 
 -- where the width was asked for, at the height
 abbrev width-at : tie.After-field-second → tie.After-field-first
@@ -48,11 +44,11 @@ width-at b = b.before.before.before.before
 
 -- the width
 abbrev width : tie.After-field-second → ℕ
-width b = b.before.before.first-1.given.0.0
+width b = b.first-1.given.0.0
 
 -- where the width ended
 abbrev width-end : tie.After-field-second → ℕ
-width-end b = b.before.before.first-1.given.0.1.0
+width-end b = b.first-1.given.0.1.0
 
 -- where the height was asked for, at the depth
 abbrev height-at : tie.After-field-third → tie.After-field-second
@@ -60,18 +56,18 @@ height-at d = d.before.before.before.before
 
 -- the height
 abbrev height : tie.After-field-third → ℕ
-height d = d.before.before.second-1.given.0.0
+height d = d.second-1.given.0.0
 
 -- where the height ended
 abbrev height-end : tie.After-field-third → ℕ
-height-end d = d.before.before.second-1.given.0.1.0
+height-end d = d.second-1.given.0.1.0
 
 -- with both letters there, the header goes on with the width
 at_width : (a : tie.After-field-first) → header_of (input a) ≡ and_then (field_at (input a) 2) (after_width (input a))
 at_width a =
     let f = figure-at a in
-    letters-pass (input a) _ _ (letter_at f).byte_at.ensures f.before.if-byte_at-ne80.left f.byte_at-2.ensures
-    a.before.if-byte_at-ne54.false
+    letters-pass (input a) _ _ f.byte_at.ensures f.if-byte_at-ne80.left f.byte_at-2.ensures
+    a.if-byte_at-ne54.false
 
 -- with the width read, it goes on with the height
 at-height : (b : tie.After-field-second) → header_of (input (width-at b))
@@ -79,7 +75,7 @@ at-height : (b : tie.After-field-second) → header_of (input (width-at b))
 at-height b =
     let a = width-at b in
     field-passes (input a) 2 (width b) (width-end b) (after_width (input a)) _ (at_width a) a.field-first.ensures
-    b.before.before.first-1.given.1
+    b.first-1.given.1
 
 -- with the height read, it goes on with the depth
 at-depth : (d : tie.After-field-third) → header_of (input (width-at (height-at d)))
@@ -88,7 +84,7 @@ at-depth d =
     let b = height-at d in
     let s = input (width-at b) in
     field-passes s (width-end b) (height d) (height-end d) (after_height s (width b)) _ (at-height b)
-    b.field-second.ensures d.before.before.second-1.given.1
+    b.field-second.ensures d.second-1.given.1
 
 -- where the depth was asked for, at the last byte
 abbrev depth-at : tie.After-is_white → tie.After-field-third
@@ -96,11 +92,11 @@ depth-at c = c.before.before.before.before.before
 
 -- the depth
 abbrev depth : tie.After-is_white → ℕ
-depth c = c.before.before.before.third-1.given.0.0
+depth c = c.third-1.given.0.0
 
 -- where the depth ended
 abbrev depth-end : tie.After-is_white → ℕ
-depth-end c = c.before.before.before.third-1.given.0.1.0
+depth-end c = c.third-1.given.0.1.0
 
 -- the input, at the last byte
 abbrev whole : tie.After-is_white → List ℕ
@@ -113,22 +109,21 @@ at_last c =
     let d = depth-at c in
     let w = width (height-at d) in
     field-passes (whole c) (height-end d) (depth c) (depth-end c) (last_white (whole c) w (height d)) _ (at-depth d)
-    d.field-third.ensures c.before.before.before.third-1.given.1
+    d.field-third.ensures c.third-1.given.1
 
 -- the last byte is white where the header is read
 white : (c : tie.Else-not-is_white) → is_white (byte_at (whole c.before) (depth-end c.before)) ≡ true
 white c =
     let l = c.before in
-    white-is (whole l) (depth-end l) _ _ true l.before.byte_at-3.ensures l.is_white.ensures
-    (not-false _ c.if-not-is_white.false)
+    white-is (whole l) (depth-end l) _ _ true l.byte_at-3.ensures l.is_white.ensures
+    c.if-not-is_white.false
 
 byte-at-requires : tie.Need-byte_at-requires
 byte-at-requires c κs = search rules
 
 returns : tie.Need-returns-then-byte_at-ne80
 returns c =
-    let l = c.before in
-    letter-fails (st l).args.input.now _ l.byte_at.ensures c.if-byte_at-ne80.true
+    letter-fails c.args.input.now _ c.byte_at.ensures c.if-byte_at-ne80.true
 
 byte-at-requires-2 : tie.Need-byte_at-requires-2
 byte-at-requires-2 c κs = search rules
@@ -137,7 +132,7 @@ returns-2 : tie.Need-returns-then-byte_at-ne54
 returns-2 c =
     let f = c.before in
     let l = letter_at f in
-    figure-fails (st l).args.input.now _ _ l.byte_at.ensures f.before.if-byte_at-ne80.false f.byte_at-2.ensures
+    figure-fails l.args.input.now _ _ l.byte_at.ensures f.if-byte_at-ne80.false f.byte_at-2.ensures
     c.if-byte_at-ne54.true
 
 field-requires : tie.Need-field-first-requires
@@ -157,7 +152,7 @@ returns-3 c =
     let a = c.before.before.before in
     ap Bad c.IsPlace-in.ensures
     ∙ field-ends (input a) 2 _ (after_width (input a)) _ (at_width a) a.field-first.ensures
-    c.before.enum_told-1.given.1
+    c.enum_told-1.given.1
 
 field-requires-2 : tie.Need-field-second-requires
 field-requires-2 c κs = search rules
@@ -177,7 +172,7 @@ returns-4 c =
     let s = input (width-at b) in
     ap Bad c.place_in-in_default-second.ensures
     ∙ field-ends s (width-end b) _ (after_height s (width b)) _ (at-height b) b.field-second.ensures
-    c.before.enum_told-in_default-second-1.given.1
+    c.enum_told-in_default-second-1.given.1
 
 field-requires-3 : tie.Need-field-third-requires
 field-requires-3 c κs = search rules
@@ -198,7 +193,7 @@ returns-5 c =
     let s = input (width-at b) in
     ap Bad c.place_in-in_default-third.ensures
     ∙ field-ends s (height-end d) _ (last_white s (width b) (height d)) _ (at-depth d) d.field-third.ensures
-    c.before.enum_told-in_default-third-1.given.1
+    c.enum_told-in_default-third-1.given.1
 
 byte-at-requires-3 : tie.Need-byte_at-requires-3
 byte-at-requires-3 c κs = search rules
@@ -210,14 +205,14 @@ returns-6 : tie.Need-returns-then-not-is_white
 returns-6 c =
     let l = c.before in
     last-fails (whole l) _ _ (depth l) (depth-end l) (at_last l)
-    (white-is (whole l) (depth-end l) _ _ _ l.before.byte_at-3.ensures l.is_white.ensures
-    (not-true _ c.if-not-is_white.true))
+    (white-is (whole l) (depth-end l) _ _ _ l.byte_at-3.ensures l.is_white.ensures
+    c.if-not-is_white.true)
 
 add-t17 : tie.Need-overflow_add-result
 add-t17 c =
     let l = c.before in
     let a = width-at (height-at (depth-at l)) in
-    omega (arith, (st (letter_at (figure-at a))).well-formed, white-inside (whole l) (depth-end l) (white c))
+    omega (arith, a.well_formed, white-inside (whole l) (depth-end l) (white c))
 
 returns-7 : tie.Need-returns
 returns-7 c =

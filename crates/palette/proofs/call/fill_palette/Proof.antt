@@ -16,10 +16,6 @@ invariant-loop coordinates palette₀ n i₀ palette i =
 abbrev decreases-loop : tie.decreases-loop-i
 decreases-loop coordinates palette₀ n i₀ palette i = n - i
 
--- where the function begins
-abbrev st : tie.At-loop-i invariant-loop decreases-loop → tie.Start invariant-loop decreases-loop
-st c = c.before.before.before
-
 loop-holds : tie.Need-loop-i-init invariant-loop decreases-loop
 unfolding fill
 loop-holds c = (omega arith, refl)
@@ -31,11 +27,11 @@ shared-slice-read-level-of : tie.Need-bounds-coordinates-i invariant-loop decrea
 shared-slice-read-level-of c = omega arith
 
 level-of-requires : tie.Need-level_of-requires invariant-loop decreases-loop
-level-of-requires c κs = (st c.before.before).pre.0 c.before.before.loop-i.i
+level-of-requires c κs = c.requires.0 c.loop-i.i
 
 slice-write-palette : tie.Need-bounds-palette-i invariant-loop decreases-loop
 slice-write-palette c =
-    rw (c.before.before.before.loop-i.invariant.1, fill-length) (omega (arith, (st c.before.before.before).pre.1))
+    rw (c.loop-i.invariant.1, fill-length) (omega (arith, c.requires.1))
 
 add-i : tie.Need-overflow_add-i invariant-loop decreases-loop
 add-i c = omega arith
@@ -45,21 +41,20 @@ loop-less c = omega arith
 
 loop-again : tie.Need-loop-i-preserved invariant-loop decreases-loop
 loop-again c =
-    let l = c.before.before.before in
-    let a = (st l).args in
+    let a = c.args in
     let f : ℕ → ℕ = λ j. level_of (get_or a.coordinates.now j 0) in (
       omega arith,
-      rw (l.loop-i.invariant.1, c.level_of.ensures)
-          (fill_more l.loop-i.i f a.palette.now (omega (arith, (st l).requires.1))),
+      rw (c.loop-i.invariant.1, c.level_of.ensures)
+          (fill_more c.loop-i.i f a.palette.now (omega (arith, c.requires.1))),
     )
 
 same_length : tie.Need-shape_of-palette invariant-loop decreases-loop
-same_length c = ap length c.before.loop-i.invariant.1 ∙ fill-length _ _ _
+same_length c = ap length c.loop-i.invariant.1 ∙ fill-length _ _ _
 
 returns : tie.Need-returns invariant-loop decreases-loop
 returns c =
-    let e : c.before.loop-i.i ≡ length (st c.before).args.coordinates.now = omega arith in
-    rw e at c.before.loop-i.invariant.1
+    let e : c.loop-i.i ≡ length c.args.coordinates.now = omega arith in
+    rw e at c.loop-i.invariant.1
 
 pub fill_palette_spec : {M : Type 1} → statement M
 fill_palette_spec =

@@ -9,30 +9,26 @@ use borrow.Author.Tests.{lt-ltb}
 use Rattle.refusal.specs.{BAD-COUNT, BAD-CENTRE, SHORT-ROOM}
 use Rattle.shades.specs.{bad_coordinates, bad_centre}
 use Rattle.shades.proofs.Checks.{coordinates-at-most, bad-centre-exactly}
-use Rattle.palette-1.proofs.Ways.{short-palette, palette-meets-refused, palette-meets-made}
+use Rattle.palette.proofs.Ways.{short-palette, palette-meets-refused, palette-meets-made}
 use borrow.Author.Rules.{rules}
-use Rattle.palette-1.proofs.call.palette_from_shades.Statement.{statement}
-use Rattle.palette-1.proofs.call.palette_from_shades.Tie as tie
-
--- where the call begins
-abbrev st : tie.After-bad_coordinates → tie.Start
-st c = c.before.before.before
+use Rattle.palette.proofs.call.palette_from_shades.Statement.{statement}
+use Rattle.palette.proofs.call.palette_from_shades.Tie as tie
 
 -- the coordinates it was given
 abbrev s : tie.After-bad_coordinates → List ℕ
-s c = (st c).args.coordinates.now
+s c = c.args.coordinates.now
 
 -- the bytes it was lent
 abbrev d : tie.After-bad_coordinates → List ℕ
-d c = (st c).args.palette-1.now
+d c = c.args.palette.now
 
 -- past the first test: it fails
 whole : (c : tie.Else-bad_coordinates) → bad_coordinates (length (s c.before)) ≡ false
-whole c = sym c.before.bad_coordinates.ensures ∙ c.if-bad_coordinates.false
+whole c = sym c.bad_coordinates.ensures ∙ c.if-bad_coordinates.false
 
 -- past the second
 centre : (c : tie.Else-bad_centre) → bad_centre (s c.before.before.before) ≡ false
-centre c = sym c.before.bad_centre.ensures ∙ c.if-bad_centre.false
+centre c = sym c.bad_centre.ensures ∙ c.if-bad_centre.false
 
 bad-coordinates-requires : tie.Need-bad_coordinates-requires
 bad-coordinates-requires c κs = search rules
@@ -47,10 +43,9 @@ bad-centre-requires c κs = coordinates-at-most _ (whole c)
 
 returns-2 : tie.Need-returns-then-bad_centre
 returns-2 c =
-    let b = c.before in
-    let t = b.before.before in
+    let t = c.before.before.before in
     palette-meets-refused (s t) (d t) BAD-CENTRE
-    (simp (whole b.before, sym b.bad_centre.ensures ∙ c.if-bad_centre.true))
+    (simp (whole c.before.before, sym c.bad_centre.ensures ∙ c.if-bad_centre.true))
 
 returns-3 : tie.Need-returns-then-palette-coordinates
 returns-3 c =
@@ -70,11 +65,9 @@ same_length c = search rules
 
 returns-4 : tie.Need-returns
 returns-4 c =
-    let f = c.before.before in
-    let e = f.before.before in
-    let w = e.before.before.before in
+    let w = c.before.before.before.before.before.before.before in
     let t = w.before in
-    palette-meets-made (s t) (d t) (whole w) (centre e.before) (omega arith) _ f.fill_palette.ensures
+    palette-meets-made (s t) (d t) (whole w) (centre c.before.before.before.before.before) (omega arith) _ c.fill_palette.ensures
 
 pub palette_from_shades_spec : {M : Type 1} → statement M
 palette_from_shades_spec =

@@ -12,7 +12,7 @@ use Rattle.shades.specs.{bad_coordinates, bad_centre}
 use Rattle.shades.proofs.Checks.{coordinates-at-most}
 use Rattle.method.specs.{State, state_of}
 use Rattle.lloyd_tests.specs.{no_free, bad_member}
-use Rattle.palette-1.proofs.Ways.{short-palette}
+use Rattle.palette.proofs.Ways.{short-palette}
 use Rattle.palette_groups.proofs.Ways.{
   RoomsGood,
   groups-meets-refused,
@@ -23,27 +23,23 @@ use Rattle.palette_groups.proofs.Ways.{
 use Rattle.palette_groups.proofs.call.palette_from_groups.Statement.{statement}
 use Rattle.palette_groups.proofs.call.palette_from_groups.Tie as tie
 
--- what the call was given
-abbrev st : tie.After-bad_table → tie.Start
-st c = c.before.before.before.before.before.before
-
 abbrev f : tie.After-bad_table → ℕ
-f c = (st c).args.fixed
+f c = c.args.fixed
 
 abbrev rec' : tie.After-bad_table → Record
-rec' c = (st c).args.rec
+rec' c = c.args.rec
 
 abbrev ks : tie.After-bad_table → List ℕ
-ks c = (st c).args.keys.now
+ks c = c.args.keys.now
 
 abbrev ws : tie.After-bad_table → List ℕ
-ws c = (st c).args.weights.now
+ws c = c.args.weights.now
 
 abbrev a : tie.After-bad_table → State
-a c = state_of (st c).args.coordinates.now (st c).args.members.now
+a c = state_of c.args.coordinates.now c.args.members.now
 
 abbrev d : tie.After-bad_table → List ℕ
-d c = (st c).args.palette-1.now
+d c = c.args.palette.now
 
 -- where the table is tested, from behind the test of the coordinates and that of the centres
 abbrev counted : tie.Else-bad_coordinates → tie.After-bad_table
@@ -54,17 +50,17 @@ tested c = counted c.before.before.before
 
 -- past each test: it fails
 table-ok : (c : tie.Else-bad_table) → bad_table (rec' c.before) (ks c.before) (ws c.before) ≡ false
-table-ok c = sym c.before.bad_table.ensures ∙ c.if-bad_table.false
+table-ok c = sym c.bad_table.ensures ∙ c.if-bad_table.false
 
 count-ok : (c : tie.Else-bad_coordinates) → bad_coordinates (length (a (counted c)).coordinates) ≡ false
-count-ok c = sym c.before.bad_coordinates.ensures ∙ c.if-bad_coordinates.false
+count-ok c = sym c.bad_coordinates.ensures ∙ c.if-bad_coordinates.false
 
 free-ok : (c : tie.Else-coordinates-fixed)
     → (let t = counted c.before in no_free (f t) (length (a t).coordinates / 3) ≡ false)
 free-ok c = lt-leb _ _ c.if-coordinates-fixed.false
 
 centre-ok : (c : tie.Else-bad_centre) → bad_centre (a (tested c)).coordinates ≡ false
-centre-ok c = sym c.before.bad_centre.ensures ∙ c.if-bad_centre.false
+centre-ok c = sym c.bad_centre.ensures ∙ c.if-bad_centre.false
 
 -- past the tests of table, shades and rooms
 rooms-ok : (c : tie.Else-palette-coordinates)
@@ -79,7 +75,7 @@ rooms-ok c =
       count = count;
       free = free-ok n;
       centre = centre-ok e;
-      members_room = le-ltb _ _ c.before.if-members-used.false;
+      members_room = le-ltb _ _ c.if-members-used.false;
       palette_room = short-palette (a t).coordinates (d t) count ∙ le-ltb _ _ c.if-palette-coordinates.false;
     }
 
@@ -87,7 +83,7 @@ rooms-ok c =
 members-ok : (c : tie.Else-bad_member)
     → (let t = tested c.before.before.before.before in
     bad_member (rec' t).used (length (a t).coordinates / 3) (a t).members ≡ false)
-members-ok c = sym c.before.bad_member.ensures ∙ c.if-bad_member.false
+members-ok c = sym c.bad_member.ensures ∙ c.if-bad_member.false
 
 bad-table-requires : tie.Need-bad_table-requires
 bad-table-requires c κs = search rules
@@ -103,10 +99,9 @@ bad-coordinates-requires c κs = search rules
 
 returns-2 : tie.Need-returns-then-bad_coordinates
 returns-2 c =
-    let b = c.before in
-    let t = b.before.before in
+    let t = c.before.before.before in
     groups-meets-refused (f t) (rec' t) (ks t) (ws t) (a t) (d t) BAD-COUNT
-    (simp (table-ok b.before, sym b.bad_coordinates.ensures ∙ c.if-bad_coordinates.true))
+    (simp (table-ok c.before.before, sym c.bad_coordinates.ensures ∙ c.if-bad_coordinates.true))
 
 returns-3 : tie.Need-returns-then-coordinates-fixed
 returns-3 c =
@@ -120,12 +115,11 @@ bad-centre-requires c κs = coordinates-at-most _ (count-ok c.before)
 
 returns-4 : tie.Need-returns-then-bad_centre
 returns-4 c =
-    let b = c.before in
-    let n = b.before in
+    let n = c.before.before in
     let e = n.before in
     let t = counted e in
     groups-meets-refused (f t) (rec' t) (ks t) (ws t) (a t) (d t) BAD-CENTRE
-    (simp (table-ok e.before.before, count-ok e, free-ok n, sym b.bad_centre.ensures ∙ c.if-bad_centre.true))
+    (simp (table-ok e.before.before, count-ok e, free-ok n, sym c.bad_centre.ensures ∙ c.if-bad_centre.true))
 
 returns-5 : tie.Need-returns-then-members-used
 returns-5 c =
@@ -143,8 +137,7 @@ returns-5 c =
 
 returns-6 : tie.Need-returns-then-palette-coordinates
 returns-6 c =
-    let m = c.before in
-    let e = m.before in
+    let e = c.before.before in
     let t = tested e in
     let n = e.before.before in
     let count = count-ok n.before in
@@ -154,7 +147,7 @@ returns-6 c =
       count,
       free-ok n,
       centre-ok e,
-      le-ltb _ _ m.if-members-used.false,
+      le-ltb _ _ c.if-members-used.false,
       short-palette (a t).coordinates (d t) count ∙ lt-ltb _ _ c.if-palette-coordinates.true,
     ))
 
@@ -165,8 +158,7 @@ bad-member-requires c κs =
 
 returns-7 : tie.Need-returns-then-bad_member
 returns-7 c =
-    let b = c.before in
-    let e = b.before in
+    let e = c.before.before in
     let t = tested e.before.before in
     let g = rooms-ok e in
     groups-meets-refused (f t) (rec' t) (ks t) (ws t) (a t) (d t) BAD-MEMBER
@@ -177,7 +169,7 @@ returns-7 c =
       g.centre,
       g.members_room,
       g.palette_room,
-      sym b.bad_member.ensures ∙ c.if-bad_member.true,
+      sym c.bad_member.ensures ∙ c.if-bad_member.true,
     ))
 
 fill-by-groups-requires : tie.Need-fill_by_groups-requires
@@ -192,12 +184,11 @@ same_length c = search rules
 
 returns-8 : tie.Need-returns
 returns-8 c =
-    let l = c.before.before in
-    let e = l.before.before in
+    let e = c.before.before.before.before in
     let g = e.before.before in
     let t = tested g.before.before in
     groups-meets-made (f t) (rec' t) (ks t) (ws t) (a t) (d t) (rooms-ok g) (members-ok e) _
-    l.fill_by_groups.ensures
+    c.fill_by_groups.ensures
 
 pub palette_from_groups_spec : {M : Type 1} → statement M
 palette_from_groups_spec =

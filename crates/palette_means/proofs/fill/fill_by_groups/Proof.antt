@@ -7,32 +7,25 @@ use Rattle.palette_means.proofs.Means.{palette-by-sums}
 use Rattle.palette_means.proofs.fill.fill_by_groups.Statement.{statement}
 use Rattle.palette_means.proofs.fill.fill_by_groups.Tie as tie
 
--- where the function begins, from where the groups are added up
-abbrev st : tie.After-sum_groups → tie.Start
-st c = c.before.before.before.before.before.before.before
-
 sum-groups-requires : tie.Need-sum_groups-requires
 sum-groups-requires c κs = search rules
 
 fill-levels-requires : tie.Need-fill_levels-requires
 fill-levels-requires c κs =
-    let g = c.before.before in
-    let p = (st g).requires in
-    (measured _ _ _ p.0 _ _ g.sum_groups.ensures, p.2, p.4, p.5)
+    let p = c.requires in
+    (measured _ _ _ p.0 _ _ c.sum_groups.ensures, p.2, p.4, p.5)
 
 same_length : tie.Need-shape_of-palette
 same_length c = search rules
 
 returns : tie.Need-returns
 returns c =
-    let f = c.before.before in
-    let g = f.before.before.before in
-    let a = (st g).args in
-    let p = (st g).requires in
+    let a = c.args in
+    let p = c.requires in
     let state = state_of a.coordinates.now a.members.now in
-    f.fill_levels.ensures
-    ∙ palette-by-sums a.fixed a.used a.keys.now a.weights.now state p.0 _ g.sum_groups.ensures
-    a.palette-1.now p.3 p.4
+    c.fill_levels.ensures
+    ∙ palette-by-sums a.fixed a.used a.keys.now a.weights.now state p.0 _ c.sum_groups.ensures
+    a.palette.now p.3 p.4
 
 pub fill_by_groups_spec : {M : Type 1} → statement M
 fill_by_groups_spec =

@@ -16,23 +16,18 @@ invariant-loop sums coordinates fixed palette₀ n i₀ palette i =
 abbrev decreases-loop : tie.decreases-loop-i
 decreases-loop sums coordinates fixed palette₀ n i₀ palette i = n - i
 
--- where the function begins
-abbrev st : tie.At-loop-i invariant-loop decreases-loop → tie.Start invariant-loop decreases-loop
-st c = c.before.before.before
-
 loop-holds : tie.Need-loop-i-init invariant-loop decreases-loop
 unfolding fill
 loop-holds c = (omega arith, refl)
 
 group-level-requires : tie.Need-group_level-requires invariant-loop decreases-loop
 group-level-requires c κs =
-    let p = (st c.before).pre in
+    let p = c.requires in
     (p.0, p.1, omega (arith, p.2), omega arith)
 
 slice-write-palette : tie.Need-bounds-palette-i invariant-loop decreases-loop
 slice-write-palette c =
-    let l = c.before.before in
-    rw (l.loop-i.invariant.1, fill-length) (omega (arith, (st l).requires.3))
+    rw (c.loop-i.invariant.1, fill-length) (omega (arith, c.requires.3))
 
 add-i : tie.Need-overflow_add-i invariant-loop decreases-loop
 add-i c = omega arith
@@ -42,21 +37,20 @@ loop-less c = omega arith
 
 loop-again : tie.Need-loop-i-preserved invariant-loop decreases-loop
 loop-again c =
-    let l = c.before.before in
-    let a = (st l).args in (
+    let a = c.args in (
       omega arith,
-      rw (l.loop-i.invariant.1, c.group_level.ensures)
-          (fill_more l.loop-i.i (level_by_sums a.fixed a.sums.now a.coordinates.now) a.palette.now
-          (omega (arith, (st l).requires.3))),
+      rw (c.loop-i.invariant.1, c.group_level.ensures)
+          (fill_more c.loop-i.i (level_by_sums a.fixed a.sums.now a.coordinates.now) a.palette.now
+          (omega (arith, c.requires.3))),
     )
 
 same_length : tie.Need-shape_of-palette invariant-loop decreases-loop
-same_length c = ap length c.before.loop-i.invariant.1 ∙ fill-length _ _ _
+same_length c = ap length c.loop-i.invariant.1 ∙ fill-length _ _ _
 
 returns : tie.Need-returns invariant-loop decreases-loop
 returns c =
-    let e : c.before.loop-i.i ≡ length (st c.before).args.coordinates.now = omega arith in
-    rw e at c.before.loop-i.invariant.1
+    let e : c.loop-i.i ≡ length c.args.coordinates.now = omega arith in
+    rw e at c.loop-i.invariant.1
 
 pub fill_levels_spec : {M : Type 1} → statement M
 fill_levels_spec =

@@ -13,13 +13,11 @@ use Rattle.palette_means.proofs.fill.group_level.Tie as tie
 
 -- a group with a pixel: what its mean asks
 asked : (c : tie.After-level_sum)
-    → (let pixels = c.before.before.pixels_of-pixels.result in
+    → (let pixels = c.pixels_of-pixels.result in
     (0 < pixels) × (pixels ≤ most_pixels) × (c.level_sum.result ≤ most_level * pixels))
 asked c =
-    let p = c.before.before in
-    let s = p.before.before.before in
-    mean-asked s.requires.0 (s.args.i % 3) (s.args.i / 3) (omega arith) p.pixels_of-pixels.ensures
-    c.level_sum.ensures (λ z. omega (arith, z, c.before.if-pixels-eq0.false))
+    mean-asked c.requires.0 (c.args.i % 3) (c.args.i / 3) (omega arith) c.pixels_of-pixels.ensures
+    c.level_sum.ensures (λ z. omega (arith, z, c.if-pixels-eq0.false))
 
 mul-level-of : tie.Need-offset_bounds-coordinates-i
 mul-level-of c = search rules
@@ -28,10 +26,10 @@ shared-slice-read-level-of : tie.Need-bounds-coordinates-i
 shared-slice-read-level-of c = search rules
 
 level-of-requires : tie.Need-level_of-requires
-level-of-requires c κs = let s = c.before.before.before in s.requires.1 s.args.i
+level-of-requires c κs = c.requires.1 c.args.i
 
 returns : tie.Need-returns-then-q-fixed
-returns c = rw (lt-ltb _ _ c.before.before.if-q-fixed.true) c.level_of.ensures
+returns c = rw (lt-ltb _ _ c.if-q-fixed.true) c.level_of.ensures
 
 pixels-of-requires : tie.Need-pixels_of-pixels-requires
 pixels-of-requires c κs = search rules
@@ -43,13 +41,11 @@ shared-slice-read-level-of-2 : tie.Need-bounds-coordinates-i-then-pixels-eq0
 shared-slice-read-level-of-2 c = search rules
 
 level-of-requires-2 : tie.Need-level_of-requires-then-pixels-eq0
-level-of-requires-2 c κs = let s = c.before.before.before.before.before in s.requires.1 s.args.i
+level-of-requires-2 c κs = c.requires.1 c.args.i
 
 returns-2 : tie.Need-returns-then-pixels-eq0
 returns-2 c =
-    let t = c.before.before in
-    let p = t.before in
-    rw (le-ltb _ _ p.before.if-q-fixed.false, eq-eqb _ 0 (sym p.pixels_of-pixels.ensures ∙ t.if-pixels-eq0.true))
+    rw (le-ltb _ _ c.if-q-fixed.false, eq-eqb _ 0 (sym c.pixels_of-pixels.ensures ∙ c.if-pixels-eq0.true))
     c.level_of-then-pixels-eq0.ensures
 
 level-sum-requires : tie.Need-level_sum-requires
@@ -65,12 +61,9 @@ cast-result c =
 
 returns-3 : tie.Need-returns
 returns-3 c =
-    let e = c.before.before in
-    let p = e.before in
-    let s = p.before.before.before in
-    let pixels = group_pixels s.args.sums.now (s.args.i / 3) in
-    let some = ne_eqb pixels 0 (λ z. omega (arith, z, p.pixels_of-pixels.ensures, (asked c.before).0)) in
-    rw (le-ltb _ _ p.before.if-q-fixed.false, some, ← c.before.level_sum.ensures, ← p.pixels_of-pixels.ensures)
+    let pixels = group_pixels c.args.sums.now (c.args.i / 3) in
+    let some = ne_eqb pixels 0 (λ z. omega (arith, z, c.pixels_of-pixels.ensures, (asked c.before).0)) in
+    rw (le-ltb _ _ c.if-q-fixed.false, some, ← c.level_sum.ensures, ← c.pixels_of-pixels.ensures)
     c.rounded_mean.ensures.0
 
 pub group_level_spec : {M : Type 1} → statement M

@@ -17,10 +17,6 @@ invariant-loop keys weights used members sums₀ i₀ sums i = (i ≤ used) × S
 abbrev decreases-loop : tie.decreases-loop-i
 decreases-loop keys weights used members sums₀ i₀ sums i = used - i
 
--- where the function begins
-abbrev st : tie.At-loop-i invariant-loop decreases-loop → tie.Start invariant-loop decreases-loop
-st c = c.before.before.before.before
-
 -- where the first of what the entry gives is worked out
 abbrev first : tie.After-blue_pixels-second invariant-loop decreases-loop → tie.After-red_green-first invariant-loop decreases-loop
 first c = c.before
@@ -31,23 +27,23 @@ turn c = c.before.before.before
 
 -- the weight of its entry is that of some pixels of a table
 weight-low : (c : tie.In-loop-i invariant-loop decreases-loop)
-    → get_or (st c.before).args.weights.now c.before.loop-i.i 0 ≤ most_pixels
-weight-low c = weight-at-most _ _ _ (st c.before).pre.0 _ c.loop-i-test.true
+    → get_or c.args.weights.now c.loop-i.i 0 ≤ most_pixels
+weight-low c = weight-at-most _ _ _ c.requires.0 _ c.loop-i-test.true
 
 loop-holds : tie.Need-loop-i-init invariant-loop decreases-loop
-loop-holds c = (omega arith, rw c.before.before.before.requires.2 (summed-none _ _ _))
+loop-holds c = (omega arith, rw c.requires.2 (summed-none _ _ _))
 
 mul-weight : tie.Need-offset_bounds-weights-i invariant-loop decreases-loop
 mul-weight c = omega arith
 
 shared-slice-read-weight : tie.Need-bounds-weights-i invariant-loop decreases-loop
-shared-slice-read-weight c = omega (arith, (st c.before.before).pre.0.weights_room)
+shared-slice-read-weight c = omega (arith, c.requires.0.weights_room)
 
 mul-key : tie.Need-offset_bounds-keys-i invariant-loop decreases-loop
 mul-key c = omega arith
 
 shared-slice-read-key : tie.Need-bounds-keys-i invariant-loop decreases-loop
-shared-slice-read-key c = omega (arith, (st c.before.before.before).pre.0.keys_room)
+shared-slice-read-key c = omega (arith, c.requires.0.keys_room)
 
 red-green-requires : tie.Need-red_green-first-requires invariant-loop decreases-loop
 red-green-requires c κs = omega (arith, weight-low c.before.before)
@@ -59,22 +55,21 @@ mul-raise : tie.Need-offset_bounds-members-i invariant-loop decreases-loop
 mul-raise c = omega arith
 
 shared-slice-read-raise : tie.Need-bounds-members-i invariant-loop decreases-loop
-shared-slice-read-raise c = omega (arith, (st (turn (first c.before.before)).before).pre.1.room)
+shared-slice-read-raise c = omega (arith, c.requires.1.room)
 
 cast-raise : tie.Need-overflow_cast-members invariant-loop decreases-loop
 cast-raise c =
     let t = turn (first c.before.before) in
-    record { fits = omega (arith, (st t.before).pre.1.below t.before.loop-i.i t.loop-i-test.taken) }
+    record { fits = omega (arith, t.requires.1.below t.loop-i.i t.loop-i-test.taken) }
 
 raise-requires : tie.Need-raise-requires invariant-loop decreases-loop
 raise-requires c κs =
     let b = c.before.before in
     let t = turn (first b) in
-    let l = t.before in
-    let p = (st l).pre in
-    let few = p.1.below l.loop-i.i t.loop-i-test.taken in
-    let fit = raises-fit _ _ _ p.0 _ l.loop-i.i t.loop-i-test.taken few l.loop-i.inv.1 in
-    rw (b.blue_pixels-second.ensures, (first b).red_green-first.ensures) (few, fit.0, fit.1)
+    let p = t.requires in
+    let few = p.1.below t.loop-i.i t.loop-i-test.taken in
+    let fit = raises-fit _ _ _ p.0 _ t.loop-i.i t.loop-i-test.taken few t.loop-i.invariant.1 in
+    rw (b.blue_pixels-second.ensures, b.red_green-first.ensures) (few, fit.0, fit.1)
 
 add-i : tie.Need-overflow_add-i invariant-loop decreases-loop
 add-i c = omega arith
@@ -86,18 +81,16 @@ loop-again : tie.Need-loop-i-preserved invariant-loop decreases-loop
 loop-again c =
     let b = c.before.before.before in
     let t = turn (first b) in
-    let l = t.before in
-    let few = (st l).pre.1.below l.loop-i.i t.loop-i-test.taken in (
+    let few = t.requires.1.below t.loop-i.i t.loop-i-test.taken in (
       omega (arith, t.loop-i-test.taken),
-      rw (c.raise.ensures, b.blue_pixels-second.ensures, (first b).red_green-first.ensures)
-          (summed-more _ _ _ l.loop-i.i _ l.loop-i.inv.1 few),
+      rw (c.raise.ensures, b.blue_pixels-second.ensures, b.red_green-first.ensures)
+          (summed-more _ _ _ t.loop-i.i _ t.loop-i.invariant.1 few),
     )
 
 returns : tie.Need-returns invariant-loop decreases-loop
 returns c =
-    let l = c.before in
-    let e : l.loop-i.i ≡ (st l).args.used = omega (arith, l.loop-i.invariant.0, c.loop-i-test.false) in
-    rw e at l.loop-i.invariant.1
+    let e : c.loop-i.i ≡ c.args.used = omega (arith, c.loop-i.invariant.0, c.loop-i-test.false) in
+    rw e at c.loop-i.invariant.1
 
 pub sum_groups_spec : {M : Type 1} → statement M
 sum_groups_spec =

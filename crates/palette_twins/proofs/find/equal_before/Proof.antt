@@ -28,10 +28,9 @@ entry-key-requires-2 c κs = omega arith
 
 returns : tie.Need-returns-then-entry_key-key invariant-loop decreases-loop
 returns c =
-    let l = c.before.before.before in
-    equal-found (λ i. omega (arith, (told l).before.shared_slice_known-1.given i)) l.loop-i.invariant
-    c.before.before.loop-i-test.true
-    (sym c.before.entry_key.ensures ∙ c.if-entry_key-key.true ∙ (told l).entry_key-key.ensures)
+    equal-found (λ i. omega (arith, c.shared_slice_known-1.given i)) c.loop-i.invariant
+    c.loop-i-test.true
+    (sym c.entry_key.ensures ∙ c.if-entry_key-key.true ∙ c.entry_key-key.ensures)
 
 add-i : tie.Need-overflow_add-i invariant-loop decreases-loop
 add-i c = omega arith
@@ -41,9 +40,8 @@ loop-less c = omega arith
 
 loop-again : tie.Need-loop-i-preserved invariant-loop decreases-loop
 loop-again c =
-    let l = c.before.before.before in
-    unlike-step l.loop-i.invariant c.before.before.loop-i-test.true
-    (λ e. c.if-entry_key-key.false (c.before.entry_key.ensures ∙ e ∙ sym (told l).entry_key-key.ensures))
+    unlike-step c.loop-i.invariant c.loop-i-test.true
+    (λ e. c.if-entry_key-key.false (c.entry_key.ensures ∙ e ∙ sym c.entry_key-key.ensures))
 
 returns-2 : tie.Need-returns invariant-loop decreases-loop
 returns-2 c =

@@ -6,8 +6,7 @@ use Rattle.palette_twins.proofs.find.equal_if_marked.Tie as tie
 
 returns : tie.Need-returns-then-mark-eq0
 returns c =
-    let s = c.before.before in
-    own-number s.args.palette.now s.args.q (s.requires.1 c.if-mark-eq0.true)
+    own-number c.args.palette.now c.args.q (c.requires.1 c.if-mark-eq0.true)
 
 equal-before-requires : tie.Need-equal_before-requires
 equal-before-requires c κs = search rules

@@ -23,7 +23,7 @@ decreases-loop p n marks₀ q₀ marks q = length p / 3 - q
 
 -- within the loop there is an entry
 inside : (c : tie.In-loop-q invariant-loop decreases-loop)
-    → c.before.loop-q.q < length c.before.before.before.args.palette.now / 3
+    → c.loop-q.q < length c.args.palette.now / 3
 inside c = omega arith
 
 loop-holds : tie.Need-loop-q-init invariant-loop decreases-loop
@@ -39,16 +39,15 @@ array-read-equal-if-marked : tie.Need-bounds-marks-site invariant-loop decreases
 array-read-equal-if-marked c = omega arith
 
 equal-if-marked-requires : tie.Need-equal_if_marked-lower-requires invariant-loop decreases-loop
-equal-if-marked-requires c κs =
-    let l = c.before.before in (
+equal-if-marked-requires c κs = (
       inside c.before,
-      λ z. unmarked l.loop-q.invariant (ap (λ k. get_or l.loop-q.marks (k % sites) 0) (sym c.entry_key.ensures) ∙ z),
+      λ z. unmarked c.loop-q.invariant (ap (λ k. get_or c.loop-q.marks (k % sites) 0) (sym c.entry_key.ensures) ∙ z),
     )
 
 returns : tie.Need-returns-then-lower-q invariant-loop decreases-loop
 returns c =
     let turn = c.before.before.before in
-    passed-found turn.before.loop-q.invariant (inside turn) c.before.equal_if_marked-lower.ensures
+    passed-found turn.loop-q.invariant (inside turn) c.equal_if_marked-lower.ensures
     c.if-lower-q.true
 
 array-write-marks : tie.Need-bounds-marks-site-in-loop-q invariant-loop decreases-loop
@@ -63,16 +62,15 @@ loop-less c = omega arith
 loop-again : tie.Need-loop-q-preserved invariant-loop decreases-loop
 loop-again c =
     let turn = c.before.before.before in
-    rw c.before.before.entry_key.ensures
-    (passed-step turn.before.loop-q.invariant (inside turn) c.before.equal_if_marked-lower.ensures
+    rw c.entry_key.ensures
+    (passed-step turn.loop-q.invariant (inside turn) c.equal_if_marked-lower.ensures
     c.if-lower-q.false)
 
 returns-2 : tie.Need-returns invariant-loop decreases-loop
 returns-2 c =
-    let l = c.before in
-    let p = l.before.before.args.palette.now in
-    let all : l.loop-q.q ≡ length p / 3 = omega (arith, l.loop-q.invariant.within, c.loop-q-test.false) in
-    passed-all (rw all at l.loop-q.invariant)
+    let p = c.args.palette.now in
+    let all : c.loop-q.q ≡ length p / 3 = omega (arith, c.loop-q.invariant.within, c.loop-q-test.false) in
+    passed-all (rw all at c.loop-q.invariant)
 
 pub twin_of_spec : {M : Type 1} → statement M
 twin_of_spec =

@@ -10,22 +10,17 @@ use Rattle.rounds.proofs.Records.{mean-asked, mean-of-record}
 use Rattle.rounds.proofs.run.make_run.Statement.{statement}
 use Rattle.rounds.proofs.run.make_run.Tie as tie
 
--- where the call began, from the mean
-abbrev st : tie.After-mean_of-m → tie.Start
-st c = c.before.before.before.before.before.before
-
 mean-of-requires : tie.Need-mean_of-m-requires
 mean-of-requires c κs =
-    let p = c.before.before.before.before.before.requires in mean-asked p.1 p.0.pixels
+    let p = c.requires in mean-asked p.1 p.0.pixels
 
 slice-aggregate-run-from : tie.Need-slice_bounds-run_from-end
 slice-aggregate-run-from c = search rules
 
 run-from-requires : tie.Need-run_from-requires
 run-from-requires c κs =
-    let w = c.before.before.before.before in
-    let p = (st w).requires in
-    (p.0, flat-low w.mean_of-m.result w.mean_of-m.ensures.1, omega arith, omega arith, p.2)
+    let p = c.requires in
+    (p.0, flat-low c.mean_of-m.result c.mean_of-m.ensures.1, omega arith, omega arith, p.2)
 
 same_length : tie.Need-shape_of-shades
 same_length c = search rules
@@ -37,12 +32,10 @@ same-length-3 : tie.Need-shape_of-totals
 same-length-3 c = search rules
 
 returns : tie.Need-returns
-returns c =
-    let r = c.before.before.before.before.before.before in
-    let w = r.before.before.before.before.before in (
-      series-of-none-held (kind_of (st w).args.leaps)
-          (rw (w.mean_of-m.ensures.0 ∙ mean-of-record (st w).requires.1) at r.run_from.ensures.0),
-      r.run_from.ensures.1,
+returns c = (
+      series-of-none-held (kind_of c.args.leaps)
+          (rw (c.mean_of-m.ensures.0 ∙ mean-of-record c.requires.1) at c.run_from.ensures.0),
+      c.run_from.ensures.1,
     )
 
 pub make_run_spec : {M : Type 1} → statement M

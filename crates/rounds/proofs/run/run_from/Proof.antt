@@ -20,12 +20,12 @@ st c = c.before.before.before.before.before.before.before.before.before
 -- after the starting shades it has begun
 has-begun : (c : tie.After-fill_starts)
     → state_of c.fill_starts.new.shades c.fill_starts.new.members
-    ≡ begin_from (listed (st c).args.base.now)
-    (colours_of (st c).args.used (st c).args.keys.now (st c).args.weights.now) (st c).args.count
-    (st c).args.members-1.now
+    ≡ begin_from (listed c.args.base.now)
+    (colours_of c.args.used c.args.keys.now c.args.weights.now) c.args.count
+    c.args.members.now
 has-begun c =
-    begun (listed (st c).args.base.now) (st c).args.used (st c).args.keys.now (st c).args.weights.now
-    (st c).args.count (st c).args.members-1.now _ _ _ (st c).requires.4 c.fill_starts.ensures.0
+    begun (listed c.args.base.now) c.args.used c.args.keys.now c.args.weights.now
+    c.args.count c.args.members.now _ _ _ c.requires.4 c.fill_starts.ensures.0
     c.fill_starts.ensures.1
 
 -- the given shades are on the grid
@@ -38,19 +38,19 @@ starting c = c.before.before.before.before.before.before.before.before
 
 -- and are those of a run that begins there
 series : (c : tie.After-make_rounds-a)
-    → (let a = (st (starting c)).args in
+    → (let a = c.args in
     SeriesMeets (holding a.held (kind_of a.leaps)) (colours_of a.used a.keys.now a.weights.now)
     a.count a.limit
     (begin_from (listed a.base.now) (colours_of a.used a.keys.now a.weights.now) a.count
-    a.members-1.now)
+    a.members.now)
     (state_of c.make_rounds-a.new.shades c.make_rounds-a.new.members)
-    a.totals-1.now c.make_rounds-a.new.totals
+    a.totals.now c.make_rounds-a.new.totals
     c.make_rounds-a.result.rounds c.make_rounds-a.result.settled c.make_rounds-a.result.distances)
 series c = rw (has-begun (starting c)) at c.make_rounds-a.ensures
 
 fill-starts-requires : tie.Need-fill_starts-requires
 fill-starts-requires c κs =
-    let p = c.before.before.before.before.before.before.before.before.requires in (
+    let p = c.requires in (
       record { some = p.0.colours; room = p.0.table.keys_room },
       p.1,
       p.2,
@@ -62,9 +62,9 @@ fill-starts-requires c κs =
 make-rounds-requires : tie.Need-make_rounds-a-requires
 make-rounds-requires c κs =
     let f = c.before.before.before.before.before.before.before in
-    let p = (st f).requires.0 in (
+    let p = f.requires.0 in (
       rw (has-begun f) (begin-walkable p _ (given-low (st f))),
-      (st f).requires.3,
+      f.requires.3,
       p.limit_some,
       p.limit_most,
       p.totals_room,
@@ -74,7 +74,7 @@ final-total-requires : tie.Need-final_total-total-requires
 final-total-requires c κs =
     let r = c.before.before.before.before.before.before.before.before in
     let s = st (starting r) in
-    series-walkable s.pre.0 _ (given-low s) (holding s.args.held (kind_of s.args.leaps))
+    series-walkable s.requires.0 _ (given-low s) (holding s.args.held (kind_of s.args.leaps))
     (holding-good s.args.held (kind-good s.args.leaps)) (series r)
 
 same_length : tie.Need-shape_of-shades

@@ -17,7 +17,7 @@ shared-slice-read-p : tie.Need-bounds-members-i
 shared-slice-read-p c = search rules
 
 cast-p : tie.Need-overflow_cast-p
-cast-p c = omega (arith, c.shared_slice_known-5-1.given c.before.before.before.before.before.args.i)
+cast-p c = omega (arith, c.shared_slice_known-5-1.given c.args.i)
 
 mul-cost : tie.Need-offset_bounds-weights-i
 mul-cost c = search rules
@@ -36,7 +36,7 @@ colour-of-requires c κs = search rules
 
 distance-to-requires : tie.Need-distance_to-requires
 distance-to-requires c κs =
-    let p = (st c).requires in
+    let p = c.requires in
     let s = p.0.steppable.fit.shades in
     (omega (arith, p.0.joined _ p.1, s.room), s.low, c.colour_of.ensures.1)
 
@@ -45,12 +45,12 @@ cost-requires c κs =
     let s = st c.before in
     let a = s.args in (
       weight-at-most (colours_of a.used a.keys.now a.weights.now)
-          (fair-of-table s.pre.0.steppable.table) a.i s.pre.1,
+          (fair-of-table s.requires.0.steppable.table) a.i s.requires.1,
       c.distance_to.ensures.1,
     )
 
 returns : tie.Need-returns
-returns c = rw (c.cost.ensures, c.before.distance_to.ensures.0, c.before.before.colour_of.ensures.0)
+returns c = rw (c.cost.ensures, c.distance_to.ensures.0, c.colour_of.ensures.0)
 
 pub entry_cost_spec : {M : Type 1} → statement M
 entry_cost_spec =

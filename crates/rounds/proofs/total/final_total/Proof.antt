@@ -18,21 +18,17 @@ invariant-loop keys weights used shades count members total₀ i₀ total i =
 abbrev decreases-loop : tie.decreases-loop-i
 decreases-loop keys weights used shades count members total₀ i₀ total i = used - i
 
--- where the call began, from an entry's cost
-abbrev st : tie.After-entry_cost-total invariant-loop decreases-loop → tie.Start invariant-loop decreases-loop
-st c = c.before.before.before.before.before.before.before
-
 loop-holds : tie.Need-loop-i-init invariant-loop decreases-loop
 unfolding sum
 loop-holds c = (omega arith, refl)
 
 entry-cost-requires : tie.Need-entry_cost-total-requires invariant-loop decreases-loop
-entry-cost-requires c κs = (c.before.before.before.before.before.before.requires, c.loop-i-test.true)
+entry-cost-requires c κs = (c.requires, c.loop-i-test.true)
 
 add_total : tie.Need-overflow_add-total invariant-loop decreases-loop
 add_total c =
-    let a = (st c).args in
-    let l = c.before.before.loop-i in
+    let a = c.args in
+    let l = c.loop-i in
     let C = colours_of a.used a.keys.now a.weights.now in
     rw (
       l.invariant.1,
@@ -41,8 +37,8 @@ add_total c =
     )
     (omega (
       arith,
-      spent-at-most C (fair-of-table (st c).requires.steppable.table) a.shades.now
-          (st c).requires.steppable.fit.shades.low
+      spent-at-most C (fair-of-table c.requires.steppable.table) a.shades.now
+          c.requires.steppable.fit.shades.low
           (λ j. get_or a.members.now j 0) (l.i + 1) (omega arith),
     ))
 
@@ -53,12 +49,12 @@ loop-less : tie.Need-loop-i-smaller invariant-loop decreases-loop
 loop-less c = omega arith
 
 loop-again : tie.Need-loop-i-preserved invariant-loop decreases-loop
-loop-again c = (omega arith, rw (c.before.before.loop-i.invariant.1, c.entry_cost-total.ensures, sum_more))
+loop-again c = (omega arith, rw (c.loop-i.invariant.1, c.entry_cost-total.ensures, sum_more))
 
 returns : tie.Need-returns invariant-loop decreases-loop
 returns c =
-    let e : c.before.loop-i.i ≡ c.before.before.before.before.before.before.args.used = omega arith in
-    rw e at c.before.loop-i.invariant.1
+    let e : c.loop-i.i ≡ c.args.used = omega arith in
+    rw e at c.loop-i.invariant.1
 
 pub final_total_spec : {M : Type 1} → statement M
 final_total_spec =

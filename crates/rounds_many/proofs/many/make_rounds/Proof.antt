@@ -37,24 +37,17 @@ decreases-loop keys weights used shades₀ held count leaps limit members₀ tot
     members totals rows sums anew r go moved distances =
     limit - r
 
--- where the rounds begin
-abbrev st : tie.At-loop-r invariant-loop decreases-loop → tie.Start invariant-loop decreases-loop
-st c = c.before.before.before.before.before.before
-
 -- the turn that a round is made in, and the state of the loop before it
 abbrev turn : tie.After-next_step-a invariant-loop decreases-loop → tie.In-loop-r invariant-loop decreases-loop
 turn c = c.before.before.before.before.before
 
-abbrev at : tie.In-loop-r invariant-loop decreases-loop → tie.At-loop-r invariant-loop decreases-loop
-at c = c.before
-
 -- the round is below the limit
-below : (c : tie.In-loop-r invariant-loop decreases-loop) → (at c).loop-r.r < (st (at c)).args.limit
-below c = going-below _ _ _ _ _ (at c).loop-r.invariant.0 c.loop-r-test.true
+below : (c : tie.In-loop-r invariant-loop decreases-loop) → c.loop-r.r < c.args.limit
+below c = going-below _ _ _ _ _ c.loop-r.invariant.0 c.loop-r-test.true
 
 loop-holds : tie.Need-loop-r-init invariant-loop decreases-loop
 loop-holds c = (
-  going_start _ _ _ _ _ _ c.before.before.before.before.before.requires.2,
+  going_start _ _ _ _ _ _ c.requires.2,
   refl,
   refl,
   refl,
@@ -66,34 +59,33 @@ slice-aggregate-next-step c = search rules
 
 next-step-requires : tie.Need-next_step-a-requires invariant-loop decreases-loop
 next-step-requires c κs =
-    let l = c.before.before.before.before.before in
-    let a = (st l).args in
+    let a = c.args in
     let good = holding-good a.held (kind-good a.leaps) in (
-      rw l.loop-r.invariant.0.state (after-walkable (holding a.held (kind_of a.leaps)) good (st l).requires.0 _),
-      (st l).requires.1,
-      omega (arith, l.loop-r.invariant.3, (st l).requires.0.steppable.fit.shades-1.few),
-      l.loop-r.invariant.4,
+      rw c.loop-r.invariant.0.state (after-walkable (holding a.held (kind_of a.leaps)) good c.requires.0 _),
+      c.requires.1,
+      omega (arith, c.loop-r.invariant.3, c.requires.0.steppable.fit.shades.few),
+      c.loop-r.invariant.4,
     )
 
 mul-totals : tie.Need-offset_bounds-totals-r invariant-loop decreases-loop
 mul-totals c =
     let i = turn c.before.before.before.before.before in
-    omega (arith, (st (at i)).good, (st (at i)).pre.3, below i)
+    omega (arith, i.good, i.requires.3, below i)
 
 slice-write-totals : tie.Need-bounds-totals-r invariant-loop decreases-loop
 slice-write-totals c =
     let i = turn c.before.before.before.before.before in
-    rw (going-length _ _ _ _ _ (at i).loop-r.inv.0) (omega (arith, (st (at i)).pre.4, below i))
+    rw (going-length _ _ _ _ _ i.loop-r.invariant.0) (omega (arith, i.requires.4, below i))
 
 add-distances : tie.Need-overflow_add-distances invariant-loop decreases-loop
 add-distances c =
     let n = c.before.before.before.before.before.before in
     let i = turn n in
-    let p = (st (at i)).pre.0.steppable in
+    let p = i.requires.0.steppable in
     omega (
       arith,
-      going-counted _ _ _ _ _ (at i).loop-r.inv.0 i.loop-r-test.taken (fair-of-table p.table)
-          p.fit.shades-1.few (st (at i)).pre.3 _ n.next_step-a.ensures.0.distances_is,
+      going-counted _ _ _ _ _ i.loop-r.invariant.0 i.loop-r-test.taken (fair-of-table p.table)
+          p.fit.shades.few i.requires.3 _ n.next_step-a.ensures.0.distances_is,
     )
 
 add_r : tie.Need-overflow_add-r invariant-loop decreases-loop
@@ -111,7 +103,7 @@ loop-again c =
     let i = turn n in
     let e = n.next_step-a.ensures in
     let b = below i in (
-      going_next _ _ _ _ _ (at i).loop-r.inv.0 i.loop-r-test.taken (omega (arith, (st (at i)).pre.4)) e.0
+      going_next _ _ _ _ _ i.loop-r.invariant.0 i.loop-r-test.taken (omega (arith, i.requires.4)) e.0
           c.bound-go.ensures,
       omega arith,
       omega arith,
@@ -123,18 +115,17 @@ none-requires : tie.Need-none-requires invariant-loop decreases-loop
 none-requires c κs = search rules
 
 same_length : tie.Need-shape_of-shades invariant-loop decreases-loop
-same_length c = c.before.before.loop-r.invariant.1
+same_length c = c.loop-r.invariant.1
 
 same-length-2 : tie.Need-shape_of-members invariant-loop decreases-loop
-same-length-2 c = c.before.before.loop-r.invariant.2
+same-length-2 c = c.loop-r.invariant.2
 
 same-length-3 : tie.Need-shape_of-totals invariant-loop decreases-loop
-same-length-3 c = going-length _ _ _ _ _ c.before.before.loop-r.invariant.0
+same-length-3 c = going-length _ _ _ _ _ c.loop-r.invariant.0
 
 returns : tie.Need-returns invariant-loop decreases-loop
 returns c =
-    let l = c.before.before in
-    going_done _ _ _ _ _ l.loop-r.invariant.0 (omega (arith, c.before.loop-r-test.false)) (st l).requires.2 _
+    going_done _ _ _ _ _ c.loop-r.invariant.0 (omega (arith, c.loop-r-test.false)) c.requires.2 _
     c.none.ensures
 
 pub make_rounds_spec : {M : Type 1} → statement M

@@ -4,21 +4,16 @@ use Rattle.rounds_step.proofs.Stepping.{move-asked, step-meets, step-sums}
 use Rattle.rounds_step.proofs.round.next_step.Statement.{statement}
 use Rattle.rounds_step.proofs.round.next_step.Tie as tie
 
--- where the call began, from the grouping
-abbrev st : tie.After-regroup-a → tie.Start
-st c = c.before.before.before.before.before.before.before.before.before.before
-
 -- the grouping, from the move
 abbrev regrouped : tie.After-move_shades-moved → tie.After-regroup-a
-regrouped c = c.before.before.before.before.before.before.before
+regrouped c = c.before.before.before.before.before.before
 
 regroup-requires : tie.Need-regroup-a-requires
 regroup-requires c κs = search rules
 
 move-shades-requires : tie.Need-move_shades-moved-requires
 move-shades-requires c κs =
-    let g = c.before.before.before.before.before.before in
-    move-asked (st g).requires.0.steppable g.regroup-a.ensures.0 (st g).args.held (st g).requires.1
+    move-asked c.requires.0.steppable c.regroup-a.ensures.0 c.args.held c.requires.1
 
 same_length : tie.Need-shape_of-shades
 same_length c = search rules
@@ -33,10 +28,10 @@ returns : tie.Need-returns
 returns c =
     let m = c.before.before in
     let g = regrouped m in
-    let p = (st g).pre.0.steppable in
+    let p = g.requires.0.steppable in
     let e = g.regroup-a.ensures in
     let moved = m.move_shades-moved.ensures in (
-      step-meets p e.0 (st g).args.held (st g).args.leaps _ _ _ _ moved.0 moved.1 e.1,
+      step-meets p e.0 g.args.held g.args.leaps _ _ _ _ moved.0 moved.1 e.1,
       step-sums p e.0,
     )
 

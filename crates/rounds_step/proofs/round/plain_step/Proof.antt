@@ -7,10 +7,6 @@ use Rattle.rounds_step.proofs.Stepping.{move-asked, step-meets, step-of-none-hel
 use Rattle.rounds_step.proofs.round.plain_step.Statement.{statement}
 use Rattle.rounds_step.proofs.round.plain_step.Tie as tie
 
--- where the call began, from the grouping
-abbrev st : tie.After-group_plain-a → tie.Start
-st c = c.before.before.before.before.before.before.before.before
-
 -- the grouping, from the move
 abbrev grouped : tie.After-move_shades-moved → tie.After-group_plain-a
 grouped c = c.before.before.before.before.before
@@ -20,8 +16,7 @@ group-plain-requires c κs = search rules
 
 move-shades-requires : tie.Need-move_shades-moved-requires
 move-shades-requires c κs =
-    let g = c.before.before.before.before in
-    move-asked (st g).requires g.group_plain-a.ensures.0 0 (omega arith)
+    move-asked c.requires c.group_plain-a.ensures.0 0 (omega arith)
 
 same_length : tie.Need-shape_of-shades
 same_length c = search rules
@@ -35,7 +30,7 @@ returns c =
     let g = grouped m in
     let e = g.group_plain-a.ensures in
     let moved = m.move_shades-moved.ensures in
-    step-of-none-held to_mean (step-meets (st g).pre e.0 0 false _ _ _ _ moved.0 moved.1 e.1)
+    step-of-none-held to_mean (step-meets g.requires e.0 0 false _ _ _ _ moved.0 moved.1 e.1)
 
 pub plain_step_spec : {M : Type 1} → statement M
 plain_step_spec =

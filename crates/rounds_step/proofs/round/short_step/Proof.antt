@@ -12,8 +12,8 @@ slice-aggregate-next-step c = search rules
 
 next-step-requires : tie.Need-next_step-requires
 next-step-requires c κs =
-    let p = c.before.before.before.before.before.before.before.before.requires in
-    (p, omega arith, omega (arith, p.steppable.fit.shades-1.few), summed-none _ _ _)
+    let p = c.requires in
+    (p, omega arith, omega (arith, p.steppable.fit.shades.few), summed-none _ _ _)
 
 same_length : tie.Need-shape_of-shades
 same_length c = search rules
@@ -22,7 +22,7 @@ same-length-2 : tie.Need-shape_of-members
 same-length-2 c = search rules
 
 returns : tie.Need-returns
-returns c = step-of-none-held to_mean c.before.before.before.before.before.next_step.ensures.0
+returns c = step-of-none-held to_mean c.next_step.ensures.0
 
 pub short_step_spec : {M : Type 1} → statement M
 short_step_spec =

@@ -19,13 +19,9 @@ decreases-loop keys reds₀ greens₀ blues₀ n i₀ reds greens blues i = leng
 
 loop-holds : tie.Need-loop-i-init invariant-loop decreases-loop
 loop-holds c =
-    let a = c.before.before.before.before.args in
+    let a = c.args in
     let ks = a.keys.now in
     fronts-start (colour_at ks) (length ks) a.reds.now a.greens.now a.blues.now
-
--- where the function begins
-abbrev st : tie.At-loop-i invariant-loop decreases-loop → tie.Start invariant-loop decreases-loop
-st c = c.before.before.before.before.before
 
 -- the turn, from its colour
 abbrev turn : tie.After-colour_of-c invariant-loop decreases-loop → tie.At-loop-i invariant-loop decreases-loop
@@ -34,8 +30,8 @@ turn c = c.before.before.before
 -- the turn has room in the three lists
 room : (c : tie.After-colour_of-c invariant-loop decreases-loop)
     → let l = turn c in
-    RoomFor (length (st l).args.keys.now) l.loop-i.reds l.loop-i.greens l.loop-i.blues
-room c = fronts-room (turn c).loop-i.invariant (st (turn c)).pre
+    RoomFor (length l.args.keys.now) l.loop-i.reds l.loop-i.greens l.loop-i.blues
+room c = fronts-room c.loop-i.invariant c.requires
 
 mul-colour-of : tie.Need-offset_bounds-keys-i invariant-loop decreases-loop
 mul-colour-of c = omega arith
@@ -81,27 +77,26 @@ loop-less c = omega arith
 
 loop-again : tie.Need-loop-i-preserved invariant-loop decreases-loop
 loop-again c =
-    let at = c.before.before.before in
-    let red = c.before.before.short_of in
-    let green = c.before.short_of-in-loop-i in
+    let red = c.short_of in
+    let green = c.short_of-in-loop-i in
     let blue = c.short_of-in-loop-i-2 in
-    fronts-step (turn at).loop-i.invariant (omega arith) (st (turn at)).pre
+    fronts-step c.loop-i.invariant (omega arith) c.requires
     (record { r = red.result; g = green.result; b = blue.result })
-    (rw (red.ensures.0, green.ensures.0, blue.ensures.0) at.colour_of-c.ensures.0)
+    (rw (red.ensures.0, green.ensures.0, blue.ensures.0) c.colour_of-c.ensures.0)
 
 same_length : tie.Need-shape_of-reds invariant-loop decreases-loop
-same_length c = (fronts-long c.before.loop-i.invariant).0
+same_length c = (fronts-long c.loop-i.invariant).0
 
 same-length-2 : tie.Need-shape_of-greens invariant-loop decreases-loop
-same-length-2 c = (fronts-long c.before.loop-i.invariant).1
+same-length-2 c = (fronts-long c.loop-i.invariant).1
 
 same-length-3 : tie.Need-shape_of-blues invariant-loop decreases-loop
-same-length-3 c = (fronts-long c.before.loop-i.invariant).2
+same-length-3 c = (fronts-long c.loop-i.invariant).2
 
 returns : tie.Need-returns invariant-loop decreases-loop
 returns c =
-    let l = c.before.loop-i in
-    let e : l.i ≡ length (st c.before).args.keys.now = omega (arith, l.invariant.within) in
+    let l = c.loop-i in
+    let e : l.i ≡ length c.args.keys.now = omega (arith, l.invariant.within) in
     (rw e at l.invariant.red, (rw e at l.invariant.green, rw e at l.invariant.blue))
 
 pub lay_out_spec : {M : Type 1} → statement M

@@ -18,10 +18,6 @@ invariant-loop reds greens blues p q best₀ n number i₀ best i =
 abbrev decreases-loop : tie.decreases-loop-i
 decreases-loop reds greens blues p q best₀ n number i₀ best i = length best₀ - i
 
--- where the function begins
-abbrev st : tie.At-loop-i invariant-loop decreases-loop → tie.Start invariant-loop decreases-loop
-st c = c.before.before.before.before.before
-
 -- the turn, from its distance
 abbrev turn : tie.After-distance_from-d invariant-loop decreases-loop → tie.At-loop-i invariant-loop decreases-loop
 turn c = c.before.before.before.before.before
@@ -37,30 +33,29 @@ mul-distance-from : tie.Need-offset_bounds-reds-i invariant-loop decreases-loop
 mul-distance-from c = omega arith
 
 shared-slice-read-distance-from : tie.Need-bounds-reds-i invariant-loop decreases-loop
-shared-slice-read-distance-from c = omega (arith, (st c.before.before).pre.0.red)
+shared-slice-read-distance-from c = omega (arith, c.requires.0.red)
 
 mul-distance-from-2 : tie.Need-offset_bounds-greens-i invariant-loop decreases-loop
 mul-distance-from-2 c = omega arith
 
 shared-slice-read-distance-from-2 : tie.Need-bounds-greens-i invariant-loop decreases-loop
-shared-slice-read-distance-from-2 c = omega (arith, (st c.before.before.before).pre.0.green)
+shared-slice-read-distance-from-2 c = omega (arith, c.requires.0.green)
 
 mul-distance-from-3 : tie.Need-offset_bounds-blues-i invariant-loop decreases-loop
 mul-distance-from-3 c = omega arith
 
 shared-slice-read-distance-from-3 : tie.Need-bounds-blues-i invariant-loop decreases-loop
-shared-slice-read-distance-from-3 c = omega (arith, (st c.before.before.before.before).pre.0.blue)
+shared-slice-read-distance-from-3 c = omega (arith, c.requires.0.blue)
 
 distance-from-requires : tie.Need-distance_from-d-requires invariant-loop decreases-loop
 distance-from-requires c κs =
-    let l = c.before.before.before.before in
-    ((st l).requires.1 l.loop-i.i (omega arith), (st l).requires.2)
+    (c.requires.1 c.loop-i.i (omega arith), c.requires.2)
 
 mul-lesser : tie.Need-offset_bounds-best-i invariant-loop decreases-loop
 mul-lesser c = omega arith
 
 slice-read-lesser : tie.Need-bounds-best-i invariant-loop decreases-loop
-slice-read-lesser c = rw ((turn c.before).loop-i.inv.1, fill-length) (omega arith)
+slice-read-lesser c = rw (c.loop-i.invariant.1, fill-length) (omega arith)
 
 mul-lesser-2 : tie.Need-overflow_mul-d invariant-loop decreases-loop
 mul-lesser-2 c = omega arith
@@ -75,7 +70,7 @@ mul-best : tie.Need-offset_bounds-best-i-in-loop-i invariant-loop decreases-loop
 mul-best c = omega arith
 
 slice-write-best : tie.Need-bounds-best-i-in-loop-i invariant-loop decreases-loop
-slice-write-best c = rw ((turn c.before.before).loop-i.inv.1, fill-length) (omega arith)
+slice-write-best c = rw (c.loop-i.invariant.1, fill-length) (omega arith)
 
 add-i : tie.Need-overflow_add-i invariant-loop decreases-loop
 add-i c = omega arith
@@ -85,22 +80,21 @@ loop-less c = omega arith
 
 loop-again : tie.Need-loop-i-preserved invariant-loop decreases-loop
 loop-again c =
-    let at = c.before.before in
-    let l = (turn at).loop-i in
-    let a = (st (turn at)).args in
-    let far = at.distance_from-d in (
+    let l = c.loop-i in
+    let a = c.args in
+    let far = c.distance_from-d in (
       omega arith,
       look-more (point_at a.reds.now a.greens.now a.blues.now) a.p a.q l.i a.best.now
-          l.inv.1 (omega arith) far.result c.lesser.result far.ensures.0 c.lesser.ensures,
+          l.invariant.1 (omega arith) far.result c.lesser.result far.ensures.0 c.lesser.ensures,
     )
 
 same_length : tie.Need-shape_of-best invariant-loop decreases-loop
-same_length c = ap length c.before.loop-i.invariant.1 ∙ fill-length _ _ _
+same_length c = ap length c.loop-i.invariant.1 ∙ fill-length _ _ _
 
 returns : tie.Need-returns invariant-loop decreases-loop
 returns c =
-    let e : c.before.loop-i.i ≡ length (st c.before).args.best.now = omega arith in
-    rw e at c.before.loop-i.invariant.1
+    let e : c.loop-i.i ≡ length c.args.best.now = omega arith in
+    rw e at c.loop-i.invariant.1
 
 pub look_spec : {M : Type 1} → statement M
 look_spec =

@@ -14,10 +14,6 @@ invariant-loop keys used s k members₀ reds₀ greens₀ blues₀ i₀ members 
 abbrev decreases-loop : tie.decreases-loop-i
 decreases-loop keys used s k members₀ reds₀ greens₀ blues₀ i₀ members reds greens blues i = used - i
 
--- where the function begins
-abbrev st : tie.At-loop-i invariant-loop decreases-loop → tie.Start invariant-loop decreases-loop
-st c = c.before.before.before.before
-
 -- the turn, from where the three lists are lent
 abbrev turn : tie.After-blues-1 invariant-loop decreases-loop → tie.At-loop-i invariant-loop decreases-loop
 turn c = c.before.before.before.before.before
@@ -36,8 +32,8 @@ last c = c.before.before.before.before.before
 
 loop-holds : tie.Need-loop-i-init invariant-loop decreases-loop
 loop-holds c =
-    let a = c.before.before.before.args in (
-      searched-start a.shades.now a.count a.keys.now a.used a.members-1.now,
+    let a = c.args in (
+      searched-start a.shades.now a.count a.keys.now a.used a.members.now,
       record { red = refl; green = refl; blue = refl },
     )
 
@@ -60,13 +56,13 @@ part-search-block-end : tie.Need-slice_bounds-search_block-end invariant-loop de
 part-search-block-end c = omega arith
 
 slice-aggregate-search-block : tie.Need-slice_bounds-search_block-end-in-loop-i invariant-loop decreases-loop
-slice-aggregate-search-block c = omega (arith, c.before.before.before.loop-i.invariant.1.red)
+slice-aggregate-search-block c = omega (arith, c.loop-i.invariant.1.red)
 
 slice-aggregate-search-block-2 : tie.Need-slice_bounds-search_block-end-in-loop-i-2 invariant-loop decreases-loop
-slice-aggregate-search-block-2 c = omega (arith, c.before.before.before.before.loop-i.invariant.1.green)
+slice-aggregate-search-block-2 c = omega (arith, c.loop-i.invariant.1.green)
 
 slice-aggregate-search-block-3 : tie.Need-slice_bounds-search_block-end-in-loop-i-3 invariant-loop decreases-loop
-slice-aggregate-search-block-3 c = omega (arith, (turn c).loop-i.invariant.1.blue)
+slice-aggregate-search-block-3 c = omega (arith, c.loop-i.invariant.1.blue)
 
 mul-search-block-2 : tie.Need-offset_bounds-members-i invariant-loop decreases-loop
 mul-search-block-2 c = omega arith
@@ -78,17 +74,17 @@ part-search-block-start-2 : tie.Need-slice_bounds-search_block-start-in-loop-i i
 part-search-block-start-2 c = omega arith
 
 part-search-block-end-2 : tie.Need-slice_bounds-search_block-end-in-loop-i-4 invariant-loop decreases-loop
-part-search-block-end-2 c = omega (arith, (turn c).loop-i.invariant.0.long)
+part-search-block-end-2 c = omega (arith, c.loop-i.invariant.0.long)
 
 search-block-requires : tie.Need-search_block-requires invariant-loop decreases-loop
 search-block-requires c κs =
     let l = turn c.before in
-    let p = (st l).pre in
+    let p = l.requires in
     let i = l.loop-i.i in (
-      block-keys l.loop-i.inv.0 (i + 256) (omega arith) p.1 p.0,
+      block-keys l.loop-i.invariant.0 (i + 256) (omega arith) p.1 p.0,
       p.2,
       p.3,
-      block_room l.loop-i.inv.1 (st l).args.keys.now i (i + 256) (omega arith) (omega arith),
+      block_room l.loop-i.invariant.1 l.args.keys.now i (i + 256) (omega arith) (omega arith),
     )
 
 loop-less : tie.Need-loop-i-smaller invariant-loop decreases-loop
@@ -99,8 +95,8 @@ loop-again c =
     let at = searched c in
     let l = turn at.before.before in
     let b = at.search_block in
-    let w = l.loop-i.inv.1 in (
-      searched-step l.loop-i.inv.0 (l.loop-i.i + 256) (omega arith) (omega arith) (st l).pre.1 b.ensures,
+    let w = l.loop-i.invariant.1 in (
+      searched-step l.loop-i.invariant.0 (l.loop-i.i + 256) (omega arith) (omega arith) l.requires.1 b.ensures,
       record {
         red = b.kept.1.1.1.0 ∙ w.red;
         green = b.kept.1.1.1.1.0 ∙ w.green;
@@ -121,13 +117,13 @@ part-search-block-end-3 : tie.Need-slice_bounds-search_block-end-2 invariant-loo
 part-search-block-end-3 c = omega arith
 
 slice-aggregate-search-block-4 : tie.Need-slice_bounds-search_block-end-3 invariant-loop decreases-loop
-slice-aggregate-search-block-4 c = omega (arith, c.before.before.before.loop-i.invariant.1.red)
+slice-aggregate-search-block-4 c = omega (arith, c.loop-i.invariant.1.red)
 
 slice-aggregate-search-block-5 : tie.Need-slice_bounds-search_block-end-4 invariant-loop decreases-loop
-slice-aggregate-search-block-5 c = omega (arith, c.before.before.before.before.loop-i.invariant.1.green)
+slice-aggregate-search-block-5 c = omega (arith, c.loop-i.invariant.1.green)
 
 slice-aggregate-search-block-6 : tie.Need-slice_bounds-search_block-end-5 invariant-loop decreases-loop
-slice-aggregate-search-block-6 c = omega (arith, (end c).loop-i.invariant.1.blue)
+slice-aggregate-search-block-6 c = omega (arith, c.loop-i.invariant.1.blue)
 
 mul-search-block-4 : tie.Need-offset_bounds-members-i-2 invariant-loop decreases-loop
 mul-search-block-4 c = omega arith
@@ -139,27 +135,27 @@ part-search-block-start-4 : tie.Need-slice_bounds-search_block-start-3 invariant
 part-search-block-start-4 c = omega arith
 
 part-search-block-end-4 : tie.Need-slice_bounds-search_block-end-6 invariant-loop decreases-loop
-part-search-block-end-4 c = omega (arith, (end c).loop-i.invariant.0.long)
+part-search-block-end-4 c = omega (arith, c.loop-i.invariant.0.long)
 
 search-block-requires-2 : tie.Need-search_block-requires-2 invariant-loop decreases-loop
 search-block-requires-2 c κs =
     let l = end c.before in
-    let p = (st l).pre in
-    let used = (st l).args.used in (
-      block-keys l.loop-i.inv.0 used (omega arith) p.1 p.0,
+    let p = l.requires in
+    let used = l.args.used in (
+      block-keys l.loop-i.invariant.0 used (omega arith) p.1 p.0,
       p.2,
       p.3,
-      block_room l.loop-i.inv.1 (st l).args.keys.now l.loop-i.i used (omega arith) (omega arith),
+      block_room l.loop-i.invariant.1 l.args.keys.now l.loop-i.i used (omega arith) (omega arith),
     )
 
 same_length : tie.Need-shape_of-members invariant-loop decreases-loop
-same_length c = omega (arith, (end (last c).before.before).loop-i.inv.0.long)
+same_length c = omega (arith, c.loop-i.invariant.0.long)
 
 returns : tie.Need-returns invariant-loop decreases-loop
 returns c =
     let l = end (last c).before.before in
-    (searched-step l.loop-i.inv.0 (st l).args.used (omega arith) (omega arith) (st l).pre.1
-    (last c).search_block-2.ensures).is
+    (searched-step l.loop-i.invariant.0 l.args.used (omega arith) (omega arith) l.requires.1
+    c.search_block-2.ensures).is
 
 pub search_all_spec : {M : Type 1} → statement M
 search_all_spec =

@@ -17,11 +17,11 @@ abbrev st : tie.After-lay_out → tie.Start
 st c = (known c).before.before.before.before.before
 
 -- where the three lists have come back
-abbrev back : tie.After-search-points-arg4 → tie.After-blues-1
-back c = c.before.before.before.before.before
+abbrev back : tie.After-search_points-arg-1 → tie.After-blues-1
+back c = c.before.before
 
 -- where the colours are laid out
-abbrev laid : tie.After-search-points-arg4 → tie.After-lay_out
+abbrev laid : tie.After-search_points-arg-1 → tie.After-lay_out
 laid c = (back c).before.before.before.before.before
 
 -- the colours are laid out
@@ -38,9 +38,9 @@ lay-out-requires c κs = search rules
 search-points-requires : tie.Need-search_points-requires
 search-points-requires c κs =
     let start = st (laid c) in
-    let p = start.pre in
+    let p = start.requires in
     let ready =
-    laid-out-ready (done (laid c)) (λ i l. colour-within _) (length start.args.best-1.now) p.0 in
+    laid-out-ready (done (laid c)) (λ i l. colour-within _) (length start.args.best.now) p.0 in
     (ready.0, ready.1, p.1, p.2)
 
 same_length : tie.Need-shape_of-reds
@@ -59,9 +59,9 @@ returns : tie.Need-returns
 returns c =
     let before = laid c.before.before.before in
     let a = (st before).args in
-    let best = a.best-1.now in
-    laid-out-filled (done before) (packed_nearest a.shades.now a.count) (length best) (st before).pre.0 best
-    c.before.before.search_points.ensures
+    let best = a.best.now in
+    laid-out-filled (done before) (packed_nearest a.shades.now a.count) (length best) (st before).requires.0 best
+    c.search_points.ensures
 
 pub search_block_spec : {M : Type 1} → statement M
 search_block_spec =

@@ -28,22 +28,18 @@ begin c = (known c).before.before.before.before
 abbrev st : tie.At-loop-q invariant-loop decreases-loop → tie.Start invariant-loop decreases-loop
 st c = begin c.before
 
--- where every place holds the greatest number
-abbrev filled : tie.At-loop-q invariant-loop decreases-loop → tie.After-set_all invariant-loop decreases-loop
-filled c = c.before.before.before
-
 -- as many places as at the start
-long : (c : tie.At-loop-q invariant-loop decreases-loop) → length c.loop-q.best-1 ≡ length (st c).args.best-1.now
-long c = looked-long c.loop-q.invariant ∙ (filled c).set_all.auto.0
+long : (c : tie.At-loop-q invariant-loop decreases-loop) → length c.loop-q.best ≡ length (st c).args.best.now
+long c = looked-long c.loop-q.invariant ∙ c.set_all.auto.0
 
 set-all-requires : tie.Need-set_all-requires invariant-loop decreases-loop
 set-all-requires c κs = search rules
 
 loop-holds : tie.Need-loop-q-init invariant-loop decreases-loop
-loop-holds c = looked-start (begin c).args.best-1.now c.before.before.set_all.ensures
+loop-holds c = looked-start (begin c).args.best.now c.set_all.ensures
 
 shade-at-requires : tie.Need-shade_at-requires invariant-loop decreases-loop
-shade-at-requires c κs = omega (arith, (st c.before).pre.2.room)
+shade-at-requires c κs = omega (arith, (st c.before).requires.2.room)
 
 look-requires : tie.Need-look-requires invariant-loop decreases-loop
 look-requires c κs =
@@ -51,23 +47,21 @@ look-requires c κs =
     let p = (st l).requires in (
       rw (long l) p.0,
       rw (long l) p.1,
-      rw c.before.shade_at.ensures (shade-within (st l).args.shades.now l.loop-q.q p.2.low),
+      rw c.shade_at.ensures (shade-within (st l).args.shades.now l.loop-q.q p.2.low),
       omega (arith, p.2.few),
     )
 
 add-q : tie.Need-overflow_add-q invariant-loop decreases-loop
 add-q c =
-    let turn = c.before.before.before.before.before in
-    omega (arith, turn.loop-q-test.true, (st turn.before).pre.2.few)
+    omega (arith, c.loop-q-test.true, (st c.before.before.before.before.before.before).requires.2.few)
 
 loop-less : tie.Need-loop-q-smaller invariant-loop decreases-loop
 loop-less c = omega arith
 
 loop-again : tie.Need-loop-q-preserved invariant-loop decreases-loop
 loop-again c =
-    let turn = c.before.before.before.before.before in
-    looked-step turn.before.loop-q.invariant turn.loop-q-test.true
-    (rw c.before.before.before.before.shade_at.ensures at c.before.before.look.ensures)
+    looked-step c.loop-q.invariant c.loop-q-test.true
+    (rw c.shade_at.ensures at c.look.ensures)
 
 same_length : tie.Need-shape_of-best invariant-loop decreases-loop
 same_length c = long c.before
@@ -76,7 +70,7 @@ returns : tie.Need-returns invariant-loop decreases-loop
 returns c =
     let l = c.before in
     let p = (st l).requires in
-    looked-done l.loop-q.invariant c.loop-q-test.false p.2 p.3 (st l).args.best-1.now (filled l).set_all.ensures
+    looked-done l.loop-q.invariant c.loop-q-test.false p.2 p.3 (st l).args.best.now l.set_all.ensures
     p.1
 
 pub search_points_spec : {M : Type 1} → statement M

@@ -25,20 +25,20 @@ turn c = c.before.before.before
 
 loop-holds : tie.Need-loop-p-init invariant-loop decreases-loop
 loop-holds c =
-    let a = c.before.before.args in
-    filling-start a.count (GapRow a.shades.now a.count) a.gaps-1.now
+    let a = c.args in
+    filling-start a.count (GapRow a.shades.now a.count) a.gaps.now
 
 mul-a : tie.Need-overflow_mul-a invariant-loop decreases-loop
-mul-a c = omega (arith, (st c.before).pre.0.few)
+mul-a c = omega (arith, c.requires.0.few)
 
 add-e : tie.Need-overflow_add-e invariant-loop decreases-loop
-add-e c = omega (arith, (st c.before).pre.0.few)
+add-e c = omega (arith, c.requires.0.few)
 
 shade-at-requires : tie.Need-shade_at-requires invariant-loop decreases-loop
-shade-at-requires c κs = omega (arith, (st c.before).pre.0.room)
+shade-at-requires c κs = omega (arith, c.requires.0.room)
 
 mul-gap-row : tie.Need-offset_bounds-gaps-a invariant-loop decreases-loop
-mul-gap-row c = omega (arith, (st c.before.before).pre.0.few)
+mul-gap-row c = omega (arith, c.requires.0.few)
 
 sub-gap-row : tie.Need-slice_bounds-gap_row-count invariant-loop decreases-loop
 sub-gap-row c = omega arith
@@ -47,16 +47,16 @@ part-gap-row-start : tie.Need-slice_bounds-gap_row-start invariant-loop decrease
 part-gap-row-start c = omega arith
 
 part-gap-row-end : tie.Need-slice_bounds-gap_row-end invariant-loop decreases-loop
-part-gap-row-end c = omega (arith, c.before.before.loop-p.invariant.long)
+part-gap-row-end c = omega (arith, c.loop-p.invariant.long)
 
 gap-row-requires : tie.Need-gap_row-requires invariant-loop decreases-loop
 gap-row-requires c κs =
     let start = st c.before.before.before in
-    let l = c.before.before.before.loop-p in (
-      start.pre.0,
-      rw c.before.shade_at.ensures (shade-within start.args.shades.now l.p start.pre.0.low),
-      rw (mid_len (64 * l.p) (64 * l.p + 64) l.gaps-1 (omega (arith, l.invariant.long)))
-          (omega (arith, start.pre.0.few)),
+    let l = c.loop-p in (
+      start.requires.0,
+      rw c.shade_at.ensures (shade-within start.args.shades.now l.p start.requires.0.low),
+      rw (mid_len (64 * l.p) (64 * l.p + 64) l.gaps (omega (arith, l.invariant.long)))
+          (omega (arith, start.requires.0.few)),
     )
 
 add-p : tie.Need-overflow_add-p invariant-loop decreases-loop
@@ -70,16 +70,16 @@ loop-again c =
     let at = c.before.before in
     let l = (turn at).before in
     let start = st l in
-    gapping-step start.args.shades.now l.loop-p.inv (turn at).loop-p-test.true start.pre.0.few
-    start.pre.1 refl (rw at.before.before.shade_at.ensures at at.gap_row.ensures)
+    gapping-step start.args.shades.now l.loop-p.invariant at.loop-p-test.true start.requires.0.few
+    start.requires.1 refl (rw at.shade_at.ensures at at.gap_row.ensures)
 
 same_length : tie.Need-shape_of-gaps invariant-loop decreases-loop
-same_length c = c.before.loop-p.invariant.long
+same_length c = c.loop-p.invariant.long
 
 returns : tie.Need-returns invariant-loop decreases-loop
 returns c =
     let start = st c.before in
-    gapping-done start.args.shades.now c.before.loop-p.invariant c.loop-p-test.false start.pre.1
+    gapping-done start.args.shades.now c.loop-p.invariant c.loop-p-test.false start.requires.1
 
 pub fill_gaps_spec : {M : Type 1} → statement M
 fill_gaps_spec =

@@ -21,7 +21,7 @@ shared-slice-read-result : tie.Need-bounds-gaps-p
 shared-slice-read-result c = search rules
 
 returns-2 : tie.Need-returns
-returns-2 c = simp (ne_eqb _ _ c.before.if-q-p.false)
+returns-2 c = simp (ne_eqb _ _ c.if-q-p.false)
 
 pub tries_spec : {M : Type 1} → statement M
 tries_spec = tie.close (tie.spec returns mul-result add-result mul-result-2 shared-slice-read-result returns-2)

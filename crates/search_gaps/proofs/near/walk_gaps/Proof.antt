@@ -21,13 +21,9 @@ invariant-loop s k g c p d limit best₀ others₀ q₀ best others q = Sought s
 abbrev decreases-loop : tie.decreases-loop-q
 decreases-loop s k g c p d limit best₀ others₀ q₀ best others q = k - q
 
--- where the function begins
-abbrev st : tie.At-loop-q invariant-loop decreases-loop → tie.Start invariant-loop decreases-loop
-st c = c.before.before.before.before
-
 distance-to-requires : tie.Need-distance_to-d-requires invariant-loop decreases-loop
 distance-to-requires c κs =
-    let y = c.before.before.requires in
+    let y = c.requires in
     (omega (arith, y.former, y.shades.room), y.shades.low, y.inside)
 
 mul-limit : tie.Need-overflow_mul-limit invariant-loop decreases-loop
@@ -37,29 +33,29 @@ mul-best : tie.Need-overflow_mul-best invariant-loop decreases-loop
 mul-best c = omega arith
 
 cast-best : tie.Need-overflow_cast-best invariant-loop decreases-loop
-cast-best c = let y = c.before.before.before.requires in omega (arith, y.former, y.shades.few)
+cast-best c = let y = c.requires in omega (arith, y.former, y.shades.few)
 
 add-best : tie.Need-overflow_add-best invariant-loop decreases-loop
-add-best c = let y = c.before.before.before.requires in omega (arith, y.former, y.shades.few)
+add-best c = let y = c.requires in omega (arith, y.former, y.shades.few)
 
 loop-holds : tie.Need-loop-q-init invariant-loop decreases-loop
-loop-holds c = rw c.distance_to-d.ensures.0 (sought-start c.before.before.before.requires)
+loop-holds c = rw c.distance_to-d.ensures.0 (sought-start c.requires)
 
 tries-requires : tie.Need-tries-requires invariant-loop decreases-loop
 tries-requires c κs =
-    let y = (st c.before).pre in
+    let y = c.requires in
     omega (arith, y.former, y.shades.few, y.gaps.room)
 
 packed-requires : tie.Need-packed-requires invariant-loop decreases-loop
 packed-requires c κs =
-    let y = (st c.before.before.before).pre in
+    let y = c.requires in
     (omega (arith, y.shades.room), y.shades.low, y.inside, omega (arith, y.shades.few))
 
 lesser-requires : tie.Need-lesser-best-requires invariant-loop decreases-loop
 lesser-requires c κs = search rules
 
 add-others : tie.Need-overflow_add-others invariant-loop decreases-loop
-add-others c = omega (arith, c.before.before.before.before.before.loop-q.invariant.counted.few)
+add-others c = omega (arith, c.loop-q.invariant.counted.few)
 
 add-q : tie.Need-overflow_add-q invariant-loop decreases-loop
 add-q c = omega arith
@@ -69,24 +65,23 @@ loop-less c = omega arith
 
 loop-again : tie.Need-loop-q-preserved invariant-loop decreases-loop
 loop-again c =
-    let l = c.before.before.before in
-    let y = (st l).requires in
-    let h = c.before.before.loop-q-test.true in
+    let y = c.requires in
+    let h = c.loop-q-test.true in
     let asked =
-    sym (gap-tried y l.loop-q.q h) ∙ sym (rw l.before.distance_to-d.ensures.0 at c.before.tries.ensures) in
+    sym (gap-tried y c.loop-q.q h) ∙ sym (rw c.distance_to-d.ensures.0 at c.tries.ensures) in
     ⊎_elim
     (λ w. rw (w.3, w.4, w.2.ensures, w.1.ensures.0)
-    (sought-tried y l.loop-q.invariant h (asked ∙ w.0.taken)))
-    (λ w. rw (w.1, w.2) (sought-left y l.loop-q.invariant h (asked ∙ w.0.left)))
+    (sought-tried y c.loop-q.invariant h (asked ∙ w.0.taken)))
+    (λ w. rw (w.1, w.2) (sought-left y c.loop-q.invariant h (asked ∙ w.0.left)))
     c.if-tries.branch
 
 add-t16 : tie.Need-overflow_add-result invariant-loop decreases-loop
 add-t16 c =
-    let counted = c.before.loop-q.invariant.counted in
-    record { fits = omega (arith, counted.few, counted.within, (st c.before).pre.shades.few) }
+    let counted = c.loop-q.invariant.counted in
+    record { fits = omega (arith, counted.few, counted.within, c.requires.shades.few) }
 
 returns : tie.Need-returns invariant-loop decreases-loop
-returns c = sought-done (st c.before).pre c.before.loop-q.invariant c.loop-q-test.false
+returns c = sought-done c.requires c.loop-q.invariant c.loop-q-test.false
 
 pub walk_gaps_spec : {M : Type 1} → statement M
 walk_gaps_spec =

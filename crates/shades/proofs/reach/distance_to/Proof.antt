@@ -10,8 +10,7 @@ shade-at-requires c κs = search rules
 
 distance-requires : tie.Need-distance-requires
 distance-requires c κs =
-    let s = c.before.before in
-    (s.requires.2, rw c.shade_at.ensures (shade-within s.args.shades.now s.args.q s.requires.1))
+    (c.requires.2, rw c.shade_at.ensures (shade-within c.args.shades.now c.args.q c.requires.1))
 
 returns : tie.Need-returns
 returns c = (cc, omega arith)

@@ -22,7 +22,7 @@ mul-d : tie.Need-offset_bounds-d-i invariant-loop decreases-loop
 mul-d c = omega arith
 
 slice-write-d : tie.Need-bounds-d-i invariant-loop decreases-loop
-slice-write-d c = rw (c.before.loop-i.invariant.1, fill-length) (omega arith)
+slice-write-d c = rw (c.loop-i.invariant.1, fill-length) (omega arith)
 
 add-i : tie.Need-overflow_add-i invariant-loop decreases-loop
 add-i c = omega arith
@@ -32,16 +32,16 @@ loop-less c = omega arith
 
 loop-again : tie.Need-loop-i-preserved invariant-loop decreases-loop
 loop-again c =
-    let l = c.before.loop-i in
-    (omega arith, rw l.invariant.1 (fill_more l.i (λ j. c.before.before.args.value) _ (omega arith)))
+    let l = c.loop-i in
+    (omega arith, rw l.invariant.1 (fill_more l.i (λ j. c.args.value) _ (omega arith)))
 
 same_length : tie.Need-shape_of-d invariant-loop decreases-loop
-same_length c = ap length c.before.loop-i.invariant.1 ∙ fill-length _ _ _
+same_length c = ap length c.loop-i.invariant.1 ∙ fill-length _ _ _
 
 returns : tie.Need-returns invariant-loop decreases-loop
 returns c =
-    let e : c.before.loop-i.i ≡ c.before.before.args.count = omega arith in
-    rw e at c.before.loop-i.invariant.1
+    let e : c.loop-i.i ≡ c.args.count = omega arith in
+    rw e at c.loop-i.invariant.1
 
 pub set_all_spec : {M : Type 1} → statement M
 set_all_spec =

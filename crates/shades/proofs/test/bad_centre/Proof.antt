@@ -16,7 +16,7 @@ abbrev decreases-loop : tie.decreases-loop-i
 decreases-loop s n count₀ i₀ count i = n - i
 
 loop-holds : tie.Need-loop-i-init invariant-loop decreases-loop
-loop-holds c = counting-start _ (off_grid c.before.args.shades.now)
+loop-holds c = counting-start _ (off_grid c.args.shades.now)
 
 mul-bit : tie.Need-offset_bounds-shades-i invariant-loop decreases-loop
 mul-bit c = omega arith
@@ -38,10 +38,10 @@ loop-less c = omega arith
 
 loop-again : tie.Need-loop-i-preserved invariant-loop decreases-loop
 loop-again c =
-    counting-step c.before.before.before.loop-i.invariant (omega arith) c.bit-count.result c.bit-count.ensures.0
+    counting-step c.loop-i.invariant (omega arith) c.bit-count.result c.bit-count.ensures.0
 
 returns : tie.Need-returns invariant-loop decreases-loop
-returns c = ap (ltb 0) (counting-done c.before.loop-i.invariant c.loop-i-test.false)
+returns c = ap (ltb 0) (counting-done c.loop-i.invariant c.loop-i-test.false)
 
 pub bad_centre_spec : {M : Type 1} → statement M
 bad_centre_spec =

@@ -37,30 +37,29 @@ abbrev chosen : tie.After-put_shade-arg-1 invariant-loop decreases-loop → tie.
 chosen c = c.before.before.before
 
 set-all-requires : tie.Need-set_all-requires invariant-loop decreases-loop
-set-all-requires c κs = (called c).requires.5
+set-all-requires c κs = c.requires.5
 
 shade-at-requires : tie.Need-shade_at-p-requires invariant-loop decreases-loop
-shade-at-requires c κs = omega (arith, (start c.before.before).pre.2)
+shade-at-requires c κs = omega (arith, (start c.before.before).requires.2)
 
 loop-holds : tie.Need-loop-q-init invariant-loop decreases-loop
 loop-holds c =
     let set = c.before.before.before in
     let s = start set in
     let a = s.args in
-    storing-start a.keys.now a.used (listed a.base.now) a.count a.shades-1.now _ a.members-1.now
-    c.shade_at-p.result set.set_all.ensures s.pre.5 (omega (arith, s.pre.2)) c.shade_at-p.ensures
+    storing-start a.keys.now a.used (listed a.base.now) a.count a.shades.now _ a.members.now
+    c.shade_at-p.result set.set_all.ensures s.requires.5 (omega (arith, s.requires.2)) c.shade_at-p.ensures
 
 turn-requires : tie.Need-turn-p-requires invariant-loop decreases-loop
 turn-requires c κs =
-    let l = c.before.before in
-    let p = (start l.before.before.before.before).pre in
-    (p.0, p.1, p.2, storing-room l.loop-q.invariant, l.loop-q.invariant.last, storing-same l.loop-q.invariant)
+    let p = (start c.before.before.before.before.before.before).requires in
+    (p.0, p.1, p.2, storing-room c.loop-q.invariant, c.loop-q.invariant.last, storing-same c.loop-q.invariant)
 
 put-shade-requires : tie.Need-put_shade-requires invariant-loop decreases-loop
 put-shade-requires c κs =
     let l = (chosen c).before.before.before in
-    let p = (start l.before.before.before.before).pre in
-    rw (storing-coordinates l.loop-q.inv) (omega (arith, p.4))
+    let p = (start l.before.before.before.before).requires in
+    rw (storing-coordinates l.loop-q.invariant) (omega (arith, p.4))
 
 add-q : tie.Need-overflow_add-q invariant-loop decreases-loop
 add-q c = omega arith
@@ -70,36 +69,30 @@ loop-less c = omega arith
 
 loop-again : tie.Need-loop-q-preserved invariant-loop decreases-loop
 loop-again c =
-    let put = c.before.before in
-    let turned = chosen put.before in
-    let l = turned.before.before.before in
-    let p = (start l.before.before.before.before).pre in
-    storing-step l.loop-q.inv turned.before.before.loop-q-test.taken p.4 _ _ turned.turn-p.result
-    turned.turn-p.ensures.0 put.put_shade.ensures turned.turn-p.ensures.1
+    let turned = chosen c.before.before.before in
+    let p = (start turned.before.before.before.before.before.before.before).requires in
+    storing-step turned.loop-q.invariant turned.loop-q-test.taken p.4 _ _ turned.turn-p.result
+    turned.turn-p.ensures.0 c.put_shade.ensures turned.turn-p.ensures.1
 
 set-all-requires-2 : tie.Need-set_all-requires-2 invariant-loop decreases-loop
-set-all-requires-2 c κs = storing-room c.before.before.loop-q.invariant
+set-all-requires-2 c κs = storing-room c.loop-q.invariant
 
 same_length : tie.Need-shape_of-shades invariant-loop decreases-loop
-same_length c = storing-coordinates c.before.before.before.before.before.loop-q.invariant
+same_length c = storing-coordinates c.loop-q.invariant
 
 same-length-2 : tie.Need-shape_of-members invariant-loop decreases-loop
 same-length-2 c =
-    let set = c.before.before in
-    let l = set.before.before.before in
-    let first = l.before.before.before.before in
-    let before = (start first).args.members-1.now in
-    ap length (storing-set l.loop-q.invariant _ _ before first.set_all.ensures set.set_all-2.ensures)
+    let first = c.before.before.before.before.before.before.before.before.before in
+    let before = (start first).args.members.now in
+    ap length (storing-set c.loop-q.invariant _ _ before first.set_all.ensures c.set_all-2.ensures)
     ∙ fill-length _ _ before
 
 returns : tie.Need-returns invariant-loop decreases-loop
 returns c =
-    let set = c.before.before in
-    let l = set.before.before.before in
-    let first = l.before.before.before.before in
-    let before = (start first).args.members-1.now in (
-      storing-done l.loop-q.invariant set.before.before.loop-q-test.false,
-      storing-set l.loop-q.invariant 0 _ before first.set_all.ensures set.set_all-2.ensures,
+    let first = c.before.before.before.before.before.before.before.before.before in
+    let before = (start first).args.members.now in (
+      storing-done c.loop-q.invariant c.loop-q-test.false,
+      storing-set c.loop-q.invariant 0 _ before first.set_all.ensures c.set_all-2.ensures,
     )
 
 pub fill_starts_spec : {M : Type 1} → statement M

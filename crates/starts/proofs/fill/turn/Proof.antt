@@ -23,7 +23,7 @@ use Rattle.starts.proofs.fill.turn.Tie as tie
 
 -- what the call is given
 given : (s : tie.Start)
-    → let a = s.args in Choosing a.keys.now a.used (listed a.base.now) a.q a.p a.d-1.now
+    → let a = s.args in Choosing a.keys.now a.used (listed a.base.now) a.q a.p a.d.now
 given s = record {
   low = listed-within s.args.base.now s.requires.1;
   room = s.requires.3;
@@ -46,17 +46,16 @@ lowered c = c.before.before.before.before
 found_below : (c : tie.After-first_of-at) → c.first_of-at.result < (st (lowered c.before)).args.used
 found_below c =
     let s = st (lowered c.before) in
-    rw c.first_of-at.ensures (first_below (λ a b. ltb b a) s.args.used _ s.pre.0.some)
+    rw c.first_of-at.ensures (first_below (λ a b. ltb b a) s.args.used _ s.requires.0.some)
 
 shade-at-requires : tie.Need-shade_at-requires
 shade-at-requires c κs =
-    let s = c.before.before.before.before in
-    omega (arith, s.requires.2, c.if-q-eq0.true)
+    omega (arith, c.requires.2, c.if-q-eq0.true)
 
 returns : tie.Need-returns-then-q-eq0
 returns c =
     let s = c.before.before.before.before.before in
-    let first = c.before.if-q-eq0.true in (
+    let first = c.if-q-eq0.true in (
       c.shade_at.ensures ∙ choosing-given (given s) (omega (arith, first, s.requires.2)),
       choosing-first (given s) first,
     )
@@ -64,7 +63,7 @@ returns c =
 lower-kept-requires : tie.Need-lower_kept-far-requires
 lower-kept-requires c κs =
     let s = called c in
-    (s.pre.0, choosing-within (given s), s.pre.3)
+    (s.requires.0, choosing-within (given s), s.requires.3)
 
 shade-at-requires-2 : tie.Need-shade_at-requires-then-q-base
 shade-at-requires-2 c κs = omega (arith, c.if-q-base.true)
@@ -76,8 +75,8 @@ returns-2 : tie.Need-returns-then-q-base
 returns-2 c =
     let l = c.before.before.before.before in
     let s = st l in (
-      c.shade_at-then-q-base.ensures ∙ choosing-given (given s) c.before.if-q-base.true,
-      choosing-distances (given s) _ l.lower_kept-far.ensures.0 l.before.before.if-q-eq0.false,
+      c.shade_at-then-q-base.ensures ∙ choosing-given (given s) c.if-q-base.true,
+      choosing-distances (given s) _ l.lower_kept-far.ensures.0 l.if-q-eq0.false,
     )
 
 first-of-requires : tie.Need-first_of-at-requires
@@ -85,7 +84,7 @@ first-of-requires c κs =
     let l = lowered c in
     let s = st l in
     let e = l.lower_kept-far.ensures.0 in (
-      s.pre.0.some,
+      s.requires.0.some,
       choosing-room (given s) _ e,
       l.lower_kept-far.ensures.1 ∙ choosing-greatest (given s) _ e,
     )
@@ -93,12 +92,12 @@ first-of-requires c κs =
 mul-colour-of : tie.Need-offset_bounds-keys-at
 mul-colour-of c =
     let s = st (lowered c.before) in
-    omega (arith, s.good, s.pre.0.room, found_below c)
+    omega (arith, s.good, s.requires.0.room, found_below c)
 
 shared-slice-read-colour-of : tie.Need-bounds-keys-at
 shared-slice-read-colour-of c =
     let s = st (lowered c.before.before) in
-    omega (arith, s.pre.0.room, found_below c.before)
+    omega (arith, s.requires.0.room, found_below c.before)
 
 colour-of-requires : tie.Need-colour_of-requires
 colour-of-requires c κs = search rules
@@ -108,13 +107,12 @@ same-length-2 c = search rules
 
 returns-3 : tie.Need-returns
 returns-3 c =
-    let f = c.before.before in
-    let l = lowered f.before in
-    let some = l.before.before.if-q-eq0.left in
+    let l = lowered c.before.before.before in
+    let some = l.if-q-eq0.left in
     let s = st l in
     let e = l.lower_kept-far.ensures.0 in (
-      c.colour_of.ensures.0 ∙ ap (colour_at s.args.keys.now) f.first_of-at.ensures
-          ∙ choosing-shade (given s) _ e some f.before.before.if-q-base.false,
+      c.colour_of.ensures.0 ∙ ap (colour_at s.args.keys.now) c.first_of-at.ensures
+          ∙ choosing-shade (given s) _ e some c.if-q-base.false,
       choosing-distances (given s) _ e some,
     )
 

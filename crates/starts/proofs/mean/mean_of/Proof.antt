@@ -10,25 +10,23 @@ rounded-mean-requires : tie.Need-rounded_mean-requires
 rounded-mean-requires c κs = omega (arith, c.requires)
 
 mul-rounded-mean-2 : tie.Need-overflow_mul-green
-mul-rounded-mean-2 c = omega (arith, c.before.requires)
+mul-rounded-mean-2 c = omega (arith, c.requires)
 
 rounded-mean-requires-2 : tie.Need-rounded_mean-requires-2
-rounded-mean-requires-2 c κs = omega (arith, c.before.requires)
+rounded-mean-requires-2 c κs = omega (arith, c.requires)
 
 mul-rounded-mean-3 : tie.Need-overflow_mul-blue
-mul-rounded-mean-3 c = omega (arith, c.before.before.requires)
+mul-rounded-mean-3 c = omega (arith, c.requires)
 
 rounded-mean-requires-3 : tie.Need-rounded_mean-requires-3
-rounded-mean-requires-3 c κs = omega (arith, c.before.before.requires)
+rounded-mean-requires-3 c κs = omega (arith, c.requires)
 
 returns : tie.Need-returns
-returns c =
-    let second = c.before in
-    let first = second.before in (
-      rw (first.rounded_mean.ensures.0, second.rounded_mean-2.ensures.0, c.rounded_mean-3.ensures.0),
+returns c = (
+      rw (c.rounded_mean.ensures.0, c.rounded_mean-2.ensures.0, c.rounded_mean-3.ensures.0),
       record {
-        r_low = first.rounded_mean.ensures.1;
-        g_low = second.rounded_mean-2.ensures.1;
+        r_low = c.rounded_mean.ensures.1;
+        g_low = c.rounded_mean-2.ensures.1;
         b_low = c.rounded_mean-3.ensures.1;
       },
     )

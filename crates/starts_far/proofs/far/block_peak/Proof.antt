@@ -13,7 +13,7 @@ abbrev decreases-loop : tie.decreases-loop-i
 decreases-loop d from end far₀ i₀ far i = end - i
 
 loop-holds : tie.Need-loop-i-init invariant-loop decreases-loop
-loop-holds c = let s = c.before in bounding-start s.args.d.now s.args.from s.args.end s.requires.0
+loop-holds c = bounding-start c.args.d.now c.args.from c.args.end c.requires.0
 
 mul-greater : tie.Need-offset_bounds-d-i invariant-loop decreases-loop
 mul-greater c = omega arith
@@ -32,11 +32,11 @@ loop-less c = omega arith
 
 loop-again : tie.Need-loop-i-preserved invariant-loop decreases-loop
 loop-again c =
-    bounding-step c.before.before.before.loop-i.invariant c.before.before.loop-i-test.true c.greater-far.result
+    bounding-step c.loop-i.invariant c.loop-i-test.true c.greater-far.result
     c.greater-far.ensures
 
 returns : tie.Need-returns invariant-loop decreases-loop
-returns c = bounding-done c.before.loop-i.invariant c.loop-i-test.false
+returns c = bounding-done c.loop-i.invariant c.loop-i-test.false
 
 pub block_peak_spec : {M : Type 1} → statement M
 block_peak_spec =

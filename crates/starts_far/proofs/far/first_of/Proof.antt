@@ -32,12 +32,10 @@ shared-slice-read-if1 c = omega arith
 
 returns : tie.Need-returns-then-d-i invariant-loop decreases-loop
 returns c =
-    let l = c.before.before.before in
-    let s = l.before.before.before in
-    let f : ℕ → ℕ = λ i. get_or s.args.d.now i 0 in
-    let e = s.requires.2 in
-    first-peak-is-most _ _ f c.before.before.loop-i-test.true (c.if-d-i.true ∙ e)
-    (λ j h. rw e at (l.loop-i.invariant.1 j h))
+    let f : ℕ → ℕ = λ i. get_or c.args.d.now i 0 in
+    let e = c.requires.2 in
+    first-peak-is-most _ _ f c.loop-i-test.true (c.if-d-i.true ∙ e)
+    (λ j h. rw e at (c.loop-i.invariant.1 j h))
 
 add-i : tie.Need-overflow_add-i invariant-loop decreases-loop
 add-i c = omega arith
@@ -47,24 +45,21 @@ loop-less c = omega arith
 
 loop-again : tie.Need-loop-i-preserved invariant-loop decreases-loop
 loop-again c =
-    let l = c.before.before.before in
-    let s = l.before.before.before in
-    let f : ℕ → ℕ = λ i. get_or s.args.d.now i 0 in
-    let i = l.loop-i.i in
-    let low = peak-at-least s.args.used i f c.before.before.loop-i-test.true in
-    let h : f i ≤ s.args.far = rw s.requires.2 low in (
+    let f : ℕ → ℕ = λ i. get_or c.args.d.now i 0 in
+    let i = c.loop-i.i in
+    let low = peak-at-least c.args.used i f c.loop-i-test.true in
+    let h : f i ≤ c.args.far = rw c.requires.2 low in (
       omega arith,
-      λ j k. ⊎_elim (λ o. l.loop-i.invariant.1 j o) (λ z. rw z (omega (arith, c.if-d-i.false))) (below-or-last i j k),
+      λ j k. ⊎_elim (λ o. c.loop-i.invariant.1 j o) (λ z. rw z (omega (arith, c.if-d-i.false))) (below-or-last i j k),
     )
 
 returns-2 : tie.Need-returns invariant-loop decreases-loop
 returns-2 c =
-    let s = c.before.before.before.before in
-    let f : ℕ → ℕ = λ i. get_or s.args.d.now i 0 in
-    let n = s.args.used in
-    let low = first_below (λ a b. ltb b a) n f s.requires.0 in
-    let less = c.before.loop-i.invariant.1 (most n f) (omega arith) in
-    absurd (omega (arith, most-is-peak n f s.requires.0, s.requires.2))
+    let f : ℕ → ℕ = λ i. get_or c.args.d.now i 0 in
+    let n = c.args.used in
+    let low = first_below (λ a b. ltb b a) n f c.requires.0 in
+    let less = c.loop-i.invariant.1 (most n f) (omega arith) in
+    absurd (omega (arith, most-is-peak n f c.requires.0, c.requires.2))
 
 pub first_of_spec : {M : Type 1} → statement M
 first_of_spec =

@@ -14,10 +14,6 @@ invariant-loop keys used p d₀ far₀ i₀ d far i = Lowering keys used p d₀ 
 abbrev decreases-loop : tie.decreases-loop-i
 decreases-loop keys used p d₀ far₀ i₀ d far i = used - i
 
--- where the function begins, from where the loop is
-abbrev st : tie.At-loop-i invariant-loop decreases-loop → tie.Start invariant-loop decreases-loop
-st c = c.before.before.before
-
 -- the loop, from where the entry's distance is worked out
 abbrev turn : tie.After-distance-x invariant-loop decreases-loop → tie.At-loop-i invariant-loop decreases-loop
 turn c = c.before.before.before.before
@@ -27,7 +23,7 @@ abbrev measured : tie.After-lesser-y invariant-loop decreases-loop → tie.After
 measured c = c.before.before
 
 loop-holds : tie.Need-loop-i-init invariant-loop decreases-loop
-loop-holds c = let a = c.before.before.args in lowering-start a.keys.now a.used a.p a.d.now
+loop-holds c = let a = c.args in lowering-start a.keys.now a.used a.p a.d.now
 
 mul-colour-of : tie.Need-offset_bounds-keys-i invariant-loop decreases-loop
 mul-colour-of c = omega arith
@@ -39,13 +35,13 @@ colour-of-requires : tie.Need-colour_of-requires invariant-loop decreases-loop
 colour-of-requires c κs = search rules
 
 distance-requires : tie.Need-distance-x-requires invariant-loop decreases-loop
-distance-requires c κs = (c.colour_of.ensures.1, (st c.before.before.before).pre.1)
+distance-requires c κs = (c.colour_of.ensures.1, c.requires.1)
 
 mul-lesser : tie.Need-offset_bounds-d-i invariant-loop decreases-loop
 mul-lesser c = omega arith
 
 slice-read-lesser : tie.Need-bounds-d-i invariant-loop decreases-loop
-slice-read-lesser c = rw (lowering-room (turn c.before).loop-i.inv) (omega arith)
+slice-read-lesser c = rw (lowering-room c.loop-i.invariant) (omega arith)
 
 lesser-requires : tie.Need-lesser-y-requires invariant-loop decreases-loop
 lesser-requires c κs = search rules
@@ -54,7 +50,7 @@ mul-d : tie.Need-offset_bounds-d-i-in-loop-i invariant-loop decreases-loop
 mul-d c = omega arith
 
 slice-write-d : tie.Need-bounds-d-i-in-loop-i invariant-loop decreases-loop
-slice-write-d c = rw (lowering-room (turn (measured c)).loop-i.inv) (omega arith)
+slice-write-d c = rw (lowering-room c.loop-i.invariant) (omega arith)
 
 greater-requires : tie.Need-greater-far-requires invariant-loop decreases-loop
 greater-requires c κs = search rules
@@ -70,17 +66,17 @@ loop-again c =
     let y = c.before in
     let x = measured y in
     let l = turn x in
-    lowering-step l.loop-i.inv (omega arith) (omega arith) x.distance-x.result y.lesser-y.result
+    lowering-step l.loop-i.invariant (omega arith) (omega arith) x.distance-x.result y.lesser-y.result
     c.greater-far.result
     (x.distance-x.ensures.0
-    ∙ ap (λ q. distance q (st l).args.p) x.before.colour_of.ensures.0)
+    ∙ ap (λ q. distance q l.args.p) x.colour_of.ensures.0)
     y.lesser-y.ensures c.greater-far.ensures
 
 same_length : tie.Need-shape_of-d invariant-loop decreases-loop
-same_length c = lowering-room c.before.loop-i.invariant
+same_length c = lowering-room c.loop-i.invariant
 
 returns : tie.Need-returns invariant-loop decreases-loop
-returns c = lowering-done c.before.loop-i.invariant c.loop-i-test.false
+returns c = lowering-done c.loop-i.invariant c.loop-i-test.false
 
 pub lower_kept_spec : {M : Type 1} → statement M
 lower_kept_spec =

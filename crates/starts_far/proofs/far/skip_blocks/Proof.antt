@@ -25,23 +25,23 @@ block-peak-requires : tie.Need-block_peak-requires invariant-loop decreases-loop
 block-peak-requires c κs = (omega arith, omega arith)
 
 returns : tie.Need-returns-then-far-block_peak invariant-loop decreases-loop
-returns c = c.before.before.before.loop-i.invariant
+returns c = c.loop-i.invariant
 
 loop-less : tie.Need-loop-i-smaller invariant-loop decreases-loop
 loop-less c = omega arith
 
 loop-again : tie.Need-loop-i-preserved invariant-loop decreases-loop
 loop-again c =
-    let l = c.before.before.before.loop-i in (
+    let l = c.loop-i in (
       omega arith,
       λ j h. elim (dec_lt j l.i) [
         | yes o ↦ l.invariant.1 j o
-        | no o ↦ omega (arith, c.before.block_peak.ensures j (omega arith) h, c.if-far-block_peak.false)
+        | no o ↦ omega (arith, c.block_peak.ensures j (omega arith) h, c.if-far-block_peak.false)
       ],
     )
 
 returns-2 : tie.Need-returns invariant-loop decreases-loop
-returns-2 c = c.before.loop-i.invariant
+returns-2 c = c.loop-i.invariant
 
 pub skip_blocks_spec : {M : Type 1} → statement M
 skip_blocks_spec =

@@ -25,7 +25,7 @@ use Rattle.table.proofs.add.add_strip.Tie as tie
 
 -- past the test of the strip, once the table is tested
 abbrev past : tie.After-bad_table → tie.Else-strip-ne0
-past c = c.before.before.before
+past c = c.before
 
 -- after the test of the table: the entry, the record, the slices, and what the strip's test said
 abbrev st : tie.After-bad_table → tie.Start
@@ -35,20 +35,20 @@ abbrev rec' : tie.After-bad_table → Record
 rec' c = (st c).args.rec
 
 abbrev ks : tie.After-bad_table → List ℕ
-ks c = (st c).args.keys-1.now
+ks c = (st c).args.keys.now
 
 abbrev ws : tie.After-bad_table → List ℕ
-ws c = (st c).args.weights-1.now
+ws c = (st c).args.weights.now
 
 abbrev s : tie.After-bad_table → List ℕ
 s c = (st c).args.strip.now
 
 whole : (c : tie.After-bad_table) → length (s c) % 3 ≡ 0
-whole c = (past c).if-strip-ne0.false
+whole c = c.if-strip-ne0.false
 
 -- the table is good
 is-good : (c : tie.Else-bad_table) → bad_table (rec' c.before) (ks c.before) (ws c.before) ≡ false
-is-good c = sym c.before.bad_table.ensures ∙ c.if-bad_table.false
+is-good c = sym c.bad_table.ensures ∙ c.if-bad_table.false
 
 table : (c : tie.Else-bad_table) → Good (rec' c.before) (ks c.before) (ws c.before)
 table c = good-of-test _ _ _ (is-good c)
@@ -88,9 +88,7 @@ refused-requires c κs = search rules
 
 returns : tie.Need-returns-then-strip-ne0
 returns c =
-    let i = c.before in
-    let t = i.before.before.before.before in
-    meets-bad-strip t.args.rec t.args.keys-1.now t.args.weights-1.now t.args.strip.now i.if-strip-ne0.true
+    meets-bad-strip c.args.rec c.args.keys.now c.args.weights.now c.args.strip.now c.if-strip-ne0.true
     c.refused.ensures
 
 bad-table-requires : tie.Need-bad_table-requires
@@ -107,9 +105,8 @@ same-length-2 c = search rules
 
 returns-2 : tie.Need-returns-then-bad_table
 returns-2 c =
-    let i = c.before in
-    let g = i.before in
-    meets-bad-table (rec' g) (ks g) (ws g) (s g) (whole g) (sym g.bad_table.ensures ∙ i.if-bad_table.true)
+    let g = c.before.before in
+    meets-bad-table (rec' g) (ks g) (ws g) (s g) (whole g) (sym g.bad_table.ensures ∙ c.if-bad_table.true)
     c.refused-then-bad_table.ensures
 
 room-of-requires : tie.Need-room_of-room-requires

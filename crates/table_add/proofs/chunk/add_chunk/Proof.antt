@@ -50,7 +50,7 @@ abbrev list : tie.After-streak-sums-arg → List ℕ
 list c = (sorted' c).sort_streaks.new.streaks
 
 abbrev T : tie.After-streak-sums-arg → List Entry
-T c = entries (st c).args.used (st c).args.keys-1.now (st c).args.weights-1.now
+T c = entries (st c).args.used (st c).args.keys.now (st c).args.weights.now
 
 abbrev F : tie.After-streak-sums-arg → List Entry
 F c = put_all (T c) (piece (st c).args.strip.now (st c).args.from (got c).gather-got.result.pixels)
@@ -70,14 +70,14 @@ listed c = record {
   );
 }
 
-in_keys : (c : tie.After-streak-sums-arg) → (st c).args.used ≤ length (st c).args.keys-1.now
+in_keys : (c : tie.After-streak-sums-arg) → (st c).args.used ≤ length (st c).args.keys.now
 in_keys c = omega (arith, (st c).requires.0.table.in_room, (st c).requires.0.table.keys_room)
 
-in_weights : (c : tie.After-streak-sums-arg) → (st c).args.used ≤ length (st c).args.weights-1.now
+in_weights : (c : tie.After-streak-sums-arg) → (st c).args.used ≤ length (st c).args.weights.now
 in_weights c = omega (arith, (st c).requires.0.table.in_room, (st c).requires.0.table.weights_room)
 
-keys-rise : (c : tie.After-streak-sums-arg) → InOrder (λ x. x) (st c).args.used (st c).args.keys-1.now
-keys-rise c = keys-in-order (st c).args.used (st c).args.keys-1.now (st c).args.weights-1.now (in_keys c)
+keys-rise : (c : tie.After-streak-sums-arg) → InOrder (λ x. x) (st c).args.used (st c).args.keys.now
+keys-rise c = keys-in-order (st c).args.used (st c).args.keys.now (st c).args.weights.now (in_keys c)
     (in_weights c) (st c).requires.0.table.sounds
 
 all : (c : tie.After-streak-sums-arg) → give_back (take (len c) (list c)) (T c) ≡ F c
@@ -85,23 +85,23 @@ all c = list_all (listed c) (T c) (st c).requires.0.table.sounds
 
 -- with the entries counted
 abbrev summed : tie.After-count_with-next → tie.After-streak_sums-sums
-summed c = c.before.before.before
+summed c = c.before
 
 abbrev sorting : tie.After-count_with-next → tie.After-streak-sums-arg
 sorting c = (summed c).before
 
 given : (c : tie.After-count_with-next) → c.count_with-next.result ≡ length
     (give_back (take (len (sorting c)) (list (sorting c))) (T (sorting c)))
-given c = c.count_with-next.ensures (st (sorting c)).args.weights-1.now (in_weights (sorting c))
+given c = c.count_with-next.ensures (st (sorting c)).args.weights.now (in_weights (sorting c))
 
 used_is : (c : tie.After-count_with-next) → c.count_with-next.result ≡ length (F (sorting c))
 used_is c = given c ∙ ap length (all (sorting c))
 
 -- the levels of the streaks are those of the pixels
 sums_are : (c : tie.After-count_with-next) → (let l = sorting c in
-    (summed c).streak_sums-sums.result
+    c.streak_sums-sums.result
     ≡ channel_sums (piece (st l).args.strip.now (st l).args.from (got l).gather-got.result.pixels))
-sums_are c = (summed c).streak_sums-sums.ensures ∙ list-sums (listed (sorting c))
+sums_are c = c.streak_sums-sums.ensures ∙ list-sums (listed (sorting c))
 
 gather-requires : tie.Need-gather-got-requires
 gather-requires c κs = search rules
@@ -138,8 +138,8 @@ returns c =
       within = (got l).gather-got.ensures.0.1;
       used_is = used_is n;
       sums_are = sums_are n;
-      keys_are = shut s.args.keys-1.now (keys_into (F l) s.args.keys-1.now) (used_is n) c.if-room-next.true;
-      weights_are = shut s.args.weights-1.now (weights_into (F l) s.args.weights-1.now) (used_is n)
+      keys_are = shut s.args.keys.now (keys_into (F l) s.args.keys.now) (used_is n) c.if-room-next.true;
+      weights_are = shut s.args.weights.now (weights_into (F l) s.args.weights.now) (used_is n)
           c.if-room-next.true;
     }
 
@@ -148,9 +148,9 @@ merge-requires c κs =
     let n = c.before.before.before.before in
     let l = sorting n in
     let s = st l in
-    let t = s.pre.0.table in
-    let r : n.count_with-next.result ≤ s.args.room = c.before.before.before.if-room-next.false in
-    let len-T = entries-length s.args.used s.args.keys-1.now s.args.weights-1.now (in_keys l)
+    let t = s.requires.0.table in
+    let r : n.count_with-next.result ≤ s.args.room = c.if-room-next.false in
+    let len-T = entries-length s.args.used s.args.keys.now s.args.weights.now (in_keys l)
     (in_weights l) in
     let small = piece-pixels (T l) s.args.strip.now s.args.from (got l).gather-got.result.pixels in (
       (
@@ -163,7 +163,7 @@ merge-requires c κs =
         keys-rise l,
         (
           list-rises (listed l),
-          (given n, rw (all l) (omega (arith, s.pre.0.total, small, (got l).gather-got.ensures.0))),
+          (given n, rw (all l) (omega (arith, s.requires.0.total, small, (got l).gather-got.ensures.0))),
         ),
       ),
     )
@@ -182,20 +182,19 @@ same-length-7 c = search rules
 
 returns-2 : tie.Need-returns
 returns-2 c =
-    let m = c.before.before.before.before in
-    let n = m.before.before.before.before.before in
+    let n = c.before.before.before.before.before.before.before.before.before in
     let l = sorting n in
     let s = st l in
-    let r : n.count_with-next.result ≤ s.args.room = m.before.before.before.before.if-room-next.false in
+    let r : n.count_with-next.result ≤ s.args.room = c.if-room-next.false in
     let open' = laid-open s.args.room n.count_with-next.result (F l) in record {
       some = (got l).gather-got.ensures.0.0;
       within = (got l).gather-got.ensures.0.1;
       used_is = used_is n;
       sums_are = sums_are n;
-      keys_are = (rw (all l) at m.merge.ensures.0)
-          ∙ open' s.args.keys-1.now (keys_into (F l) s.args.keys-1.now) (used_is n) r;
-      weights_are = (rw (all l) at m.merge.ensures.1)
-          ∙ open' s.args.weights-1.now (weights_into (F l) s.args.weights-1.now) (used_is n) r;
+      keys_are = (rw (all l) at c.merge.ensures.0)
+          ∙ open' s.args.keys.now (keys_into (F l) s.args.keys.now) (used_is n) r;
+      weights_are = (rw (all l) at c.merge.ensures.1)
+          ∙ open' s.args.weights.now (weights_into (F l) s.args.weights.now) (used_is n) r;
     }
 
 pub add_chunk_spec : {M : Type 1} → statement M

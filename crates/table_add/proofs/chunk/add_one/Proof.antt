@@ -15,18 +15,18 @@ abbrev st : tie.After-key_at-key → tie.Start
 st c = c.before.before.before.before
 
 one : (c : tie.After-key_at-key)
-    → piece (st c).args.strip.now (st c).args.from 1 ≡ key_at (st c).args.strip.now (3 * (st c).args.from) ∷ []
-one c = strip-one (st c).args.from (st c).args.strip.now (st c).requires.bytes
+    → piece c.args.strip.now c.args.from 1 ≡ key_at c.args.strip.now (3 * c.args.from) ∷ []
+one c = strip-one c.args.from c.args.strip.now c.requires.bytes
 
 mul-key-at : tie.Need-overflow_mul-from
-mul-key-at c = omega (arith, c.before.before.before.requires.bytes)
+mul-key-at c = omega (arith, c.requires.bytes)
 
 key-at-requires : tie.Need-key_at-key-requires
-key-at-requires c κs = omega (arith, c.before.before.before.requires.bytes)
+key-at-requires c κs = omega (arith, c.requires.bytes)
 
 add-pixel-requires : tie.Need-add_pixel-next-requires
 add-pixel-requires c κs =
-    let s = st c.before.before in (s.pre.table, omega (arith, s.pre.total))
+    let s = st c.before.before in (s.requires.table, omega (arith, s.requires.total))
 
 pixel-sums-requires : tie.Need-pixel_sums-requires
 pixel-sums-requires c κs = search rules
@@ -39,15 +39,14 @@ same-length-2 c = search rules
 
 returns : tie.Need-returns
 returns c =
-    let a = c.before.before.before.before.before in
-    let t = a.before.before.before in
+    let t = c.before.before.before.before.before.before.before.before in
     let k = t.key_at-key.ensures.0 in record {
       some = omega arith;
       within = omega arith;
-      used_is = rw (one t) (rw k at a.add_pixel-next.ensures.0);
+      used_is = rw (one t) (rw k at c.add_pixel-next.ensures.0);
       sums_are = rw (one t) (rw k at c.pixel_sums.ensures);
-      keys_are = rw (one t) (rw k at a.add_pixel-next.ensures.1.0);
-      weights_are = rw (one t) (rw k at a.add_pixel-next.ensures.1.1);
+      keys_are = rw (one t) (rw k at c.add_pixel-next.ensures.1.0);
+      weights_are = rw (one t) (rw k at c.add_pixel-next.ensures.1.1);
     }
 
 pub add_one_spec : {M : Type 1} → statement M

@@ -4,10 +4,6 @@ use borrow.Author.Rules.{rules}
 use Rattle.table_add.proofs.chunk.add_some.Statement.{statement}
 use Rattle.table_add.proofs.chunk.add_some.Tie as tie
 
--- with what is known of the slices: the entry
-abbrev st : tie.After-shared_slice_known-1 → tie.Start
-st c = c.before.before.before
-
 -- past the test of few pixels, with two short lists, and with two long ones
 abbrev short : tie.After-other-1 → tie.Else-most-lt32
 short c = c.before.before.before.before.before
@@ -17,7 +13,7 @@ long c = c.before.before.before.before.before
 
 add-one-requires : tie.Need-add_one-requires
 add-one-requires c κs =
-    let p = (st c.before.before.before).requires in record {
+    let p = c.requires in record {
       table = p.table;
       total = omega (arith, p.total, p.some);
       some = omega arith;
@@ -32,10 +28,9 @@ same-length-2 c = search rules
 
 returns : tie.Need-returns-then-most-lt32
 returns c =
-    let a = c.before.before.before.before in
-    let e = a.add_one.ensures in record {
+    let e = c.add_one.ensures in record {
       some = e.some;
-      within = omega (arith, e.within, (st a.before.before.before.before).requires.some);
+      within = omega (arith, e.within, c.requires.some);
       used_is = e.used_is;
       sums_are = e.sums_are;
       keys_are = e.keys_are;
@@ -49,7 +44,7 @@ slice-aggregate-add-chunk-2 : tie.Need-slice_bounds-add_chunk-end-then-most-le40
 slice-aggregate-add-chunk-2 c = search rules
 
 add-chunk-requires : tie.Need-add_chunk-requires
-add-chunk-requires c κs = ((st (short c).before).requires, (omega arith, omega arith, omega arith))
+add-chunk-requires c κs = (c.requires, (omega arith, omega arith, omega arith))
 
 same-length-3 : tie.Need-shape_of-keys-then-most-le4096
 same-length-3 c = search rules
@@ -67,7 +62,7 @@ slice-aggregate-add-chunk-4 : tie.Need-slice_bounds-add_chunk-end-3
 slice-aggregate-add-chunk-4 c = search rules
 
 add-chunk-requires-2 : tie.Need-add_chunk-requires-2
-add-chunk-requires-2 c κs = ((st (long c).before).requires, (omega arith, omega arith, omega arith))
+add-chunk-requires-2 c κs = (c.requires, (omega arith, omega arith, omega arith))
 
 same-length-5 : tie.Need-shape_of-keys
 same-length-5 c = search rules

@@ -14,7 +14,7 @@ shared-slice-read-result : tie.Need-bounds-keys-i
 shared-slice-read-result c = search rules
 
 returns-2 : tie.Need-returns
-returns-2 c = simp (le-ltb _ _ c.before.if-i-lt16.false)
+returns-2 c = simp (le-ltb _ _ c.if-i-lt16.false)
 
 pub far_spec : {M : Type 1} → statement M
 far_spec = tie.close (tie.spec returns mul-result shared-slice-read-result returns-2)

@@ -21,17 +21,16 @@ clear-requires c κs = omega arith
 
 returns : tie.Need-returns-then-clear invariant-loop decreases-loop
 returns c =
-    let s = c.before.before.before in
-    below_at s.args.key s.args.i s.args.i s.args.keys.now s.requires.0 (omega arith)
-    (all-below s.args.keys.now s.args.i s.args.key s.requires.1
-    (sym c.before.clear.ensures ∙ c.if-clear.true)) (λ l. omega arith)
+    below_at c.args.key c.args.i c.args.i c.args.keys.now c.requires.0 (omega arith)
+    (all-below c.args.keys.now c.args.i c.args.key c.requires.1
+    (sym c.clear.ensures ∙ c.if-clear.true)) (λ l. omega arith)
 
 pass-sixteens-requires : tie.Need-pass_sixteens-left-requires invariant-loop decreases-loop
 pass-sixteens-requires c κs = omega arith
 
 loop-holds : tie.Need-loop-left-init invariant-loop decreases-loop
 loop-holds c =
-    let s = c.before.before.before.before.args in
+    let s = c.args in
     rw (← c.pass_sixteens-left.ensures) at (sixteens-passed s.keys.now s.i s.key)
 
 clear-requires-2 : tie.Need-clear-requires-in-loop-left invariant-loop decreases-loop
@@ -43,12 +42,11 @@ st l = l.before.before.before.before.before
 
 -- the last key is there, and not below the key
 passed : (c : tie.In-loop-left invariant-loop decreases-loop)
-    → (let l = c.before.before in
-    (0 < l.loop-left.left) × ((st l).args.key ≤ get_or (st l).args.keys.now (l.loop-left.left - 1) 0))
+    → (
+    (0 < c.loop-left.left) × (c.args.key ≤ get_or c.args.keys.now (c.loop-left.left - 1) 0))
 passed c =
-    let l = c.before.before in
-    not-below (st l).args.keys.now l.loop-left.left (st l).args.key
-    (sym c.before.clear-in-loop-left.ensures ∙ not-true _ c.loop-left-test.true)
+    not-below c.args.keys.now c.loop-left.left c.args.key
+    (sym c.clear-in-loop-left.ensures ∙ c.loop-left-test.true)
 
 sub-left : tie.Need-overflow_sub-left invariant-loop decreases-loop
 sub-left c = (passed c).0
@@ -63,10 +61,10 @@ returns-2 : tie.Need-returns invariant-loop decreases-loop
 returns-2 c =
     let l = c.before.before in
     let s = st l in
-    below_at s.args.key s.args.i l.loop-left.left s.args.keys.now s.pre.0 l.loop-left.invariant.0
+    below_at s.args.key s.args.i l.loop-left.left s.args.keys.now s.requires.0 l.loop-left.invariant.0
     (all-below s.args.keys.now l.loop-left.left s.args.key
-    (λ p q h k. s.pre.1 p q h (omega (arith, l.loop-left.invariant.0)))
-    (sym c.before.clear-in-loop-left.ensures ∙ not-false _ c.loop-left-test.false))
+    (λ p q h k. s.requires.1 p q h (omega (arith, l.loop-left.invariant.0)))
+    (sym c.clear-in-loop-left.ensures ∙ c.loop-left-test.false))
     l.loop-left.invariant.1
 
 pub place_back_spec : {M : Type 1} → statement M

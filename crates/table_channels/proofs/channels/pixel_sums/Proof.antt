@@ -24,7 +24,7 @@ cast-t7 c = search rules
 
 returns : tie.Need-returns
 returns c =
-    one-pixel _ c.before.before.red_of.ensures.0 c.before.green_of.ensures.0 c.blue_of.ensures.0
+    one-pixel _ c.red_of.ensures.0 c.green_of.ensures.0 c.blue_of.ensures.0
 
 pub pixel_sums_spec : {M : Type 1} → statement M
 pixel_sums_spec =

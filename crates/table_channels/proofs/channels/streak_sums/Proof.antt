@@ -24,36 +24,28 @@ invariant-loop list len red₀ green₀ blue₀ i₀ red green blue i = Adding l
 abbrev decreases-loop : tie.decreases-loop-i
 decreases-loop list len red₀ green₀ blue₀ i₀ red green blue i = len - i
 
--- with the pixels of a streak known: its key, the turn, and where the function began
-abbrev keyed : tie.After-streak_pixels-pixels invariant-loop decreases-loop → tie.After-streak_key-key invariant-loop decreases-loop
-keyed c = c.before.before
-
 abbrev turn : tie.After-streak_pixels-pixels invariant-loop decreases-loop → tie.In-loop-i invariant-loop decreases-loop
 turn c = c.before.before.before.before
 
-abbrev st : tie.At-loop-i invariant-loop decreases-loop → tie.Start invariant-loop decreases-loop
-st c = c.before.before
-
 abbrev streak : tie.After-streak_pixels-pixels invariant-loop decreases-loop → ℕ
-streak c = get_or (st (turn c).before).args.list.now (turn c).before.loop-i.i 0
+streak c = get_or c.args.list.now c.loop-i.i 0
 
 -- its pixels times a level of its key are what it adds to that channel
 adds : (c : tie.After-streak_pixels-pixels invariant-loop decreases-loop) (f : ℕ → ℕ) (level : ℕ)
-    → level ≡ f (keyed c).streak_key-key.result → c.streak_pixels-pixels.result * level ≡ streak_sum f (streak c)
+    → level ≡ f c.streak_key-key.result → c.streak_pixels-pixels.result * level ≡ streak_sum f (streak c)
 adds c f level e =
-    ap₂ (λ (n k : ℕ). n * k) c.streak_pixels-pixels.ensures.0 (e ∙ ap f (keyed c).streak_key-key.ensures.0)
+    ap₂ (λ (n k : ℕ). n * k) c.streak_pixels-pixels.ensures.0 (e ∙ ap f c.streak_key-key.ensures.0)
 
 -- so 32 bits hold it, and it with a sum so far
 fits : (c : tie.After-streak_pixels-pixels invariant-loop decreases-loop) (f : ℕ → ℕ) → ((k : ℕ) → f k ≤ most_level) → (level sum : ℕ)
-    → level ≡ f (keyed c).streak_key-key.result → sum ≤ (turn c).before.loop-i.i * most_streak
+    → level ≡ f c.streak_key-key.result → sum ≤ c.loop-i.i * most_streak
     → (c.streak_pixels-pixels.result * level ≤ 4294967295) × (sum + c.streak_pixels-pixels.result * level ≤ 4294967295)
 fits c f low level sum e l =
     let t = turn c in
-    rw (adds c f level e) (omega (arith, l, streak-low f low (streak c), t.loop-i-test.taken, (st t.before).pre.1))
+    rw (adds c f level e) (omega (arith, l, streak-low f low (streak c), t.loop-i-test.taken, t.requires.1))
 
 loop-holds : tie.Need-loop-i-init invariant-loop decreases-loop
-loop-holds c =
-    let b = c.before in adding-start b.args.list.now b.args.len b.requires.0
+loop-holds c = adding-start c.args.list.now c.args.len c.requires.0
 
 mul-streak-key : tie.Need-offset_bounds-list-i invariant-loop decreases-loop
 mul-streak-key c = omega arith
@@ -80,14 +72,14 @@ mul-red : tie.Need-overflow_mul-red invariant-loop decreases-loop
 mul-red c = omega (
   arith,
   (fits c.before red_of (λ k. omega arith) _ _ c.red_of.ensures.0
-      (adding-low (turn c.before).before.loop-i.inv).0),
+      (adding-low c.loop-i.invariant).0),
 )
 
 add-red : tie.Need-overflow_add-red invariant-loop decreases-loop
 add-red c = omega (
   arith,
   (fits c.before red_of (λ k. omega arith) _ _ c.red_of.ensures.0
-      (adding-low (turn c.before).before.loop-i.inv).0),
+      (adding-low c.loop-i.invariant).0),
 )
 
 green-of-requires : tie.Need-green_of-requires invariant-loop decreases-loop
@@ -97,14 +89,14 @@ mul-green : tie.Need-overflow_mul-green invariant-loop decreases-loop
 mul-green c = omega (
   arith,
   (fits c.before.before green_of (λ k. omega arith) _ _ c.green_of.ensures.0
-      (adding-low (turn c.before.before).before.loop-i.inv).1),
+      (adding-low c.loop-i.invariant).1),
 )
 
 add-green : tie.Need-overflow_add-green invariant-loop decreases-loop
 add-green c = omega (
   arith,
   (fits c.before.before green_of (λ k. omega arith) _ _ c.green_of.ensures.0
-      (adding-low (turn c.before.before).before.loop-i.inv).1),
+      (adding-low c.loop-i.invariant).1),
 )
 
 blue-of-requires : tie.Need-blue_of-requires invariant-loop decreases-loop
@@ -114,14 +106,14 @@ mul-blue : tie.Need-overflow_mul-blue invariant-loop decreases-loop
 mul-blue c = omega (
   arith,
   (fits c.before.before.before blue_of (λ k. omega arith) _ _ c.blue_of.ensures.0
-      (adding-low (turn c.before.before.before).before.loop-i.inv).2),
+      (adding-low c.loop-i.invariant).2),
 )
 
 add-blue : tie.Need-overflow_add-blue invariant-loop decreases-loop
 add-blue c = omega (
   arith,
   (fits c.before.before.before blue_of (λ k. omega arith) _ _ c.blue_of.ensures.0
-      (adding-low (turn c.before.before.before).before.loop-i.inv).2),
+      (adding-low c.loop-i.invariant).2),
 )
 
 add-i : tie.Need-overflow_add-i invariant-loop decreases-loop
@@ -134,27 +126,24 @@ loop-again : tie.Need-loop-i-preserved invariant-loop decreases-loop
 loop-again c =
     let x = c.before.before.before in
     let t = turn x in
-    adding-step t.before.loop-i.inv t.loop-i-test.taken _ _ _ _ refl
-    (adds x red_of _ c.before.before.red_of.ensures.0) (adds x green_of _ c.before.green_of.ensures.0)
+    adding-step t.loop-i.invariant t.loop-i-test.taken _ _ _ _ refl
+    (adds x red_of _ c.red_of.ensures.0) (adds x green_of _ c.green_of.ensures.0)
     (adds x blue_of _ c.blue_of.ensures.0)
 
 cast-t15 : tie.Need-overflow_cast-result invariant-loop decreases-loop
 cast-t15 c =
-    let l = c.before in
-    omega (arith, (adding-low l.loop-i.invariant).0, l.loop-i.invariant.within, (st l).requires.1)
+    omega (arith, (adding-low c.loop-i.invariant).0, c.loop-i.invariant.within, c.requires.1)
 
 cast-t16 : tie.Need-overflow_cast-result-2 invariant-loop decreases-loop
 cast-t16 c =
-    let l = c.before in
-    omega (arith, (adding-low l.loop-i.invariant).1, l.loop-i.invariant.within, (st l).requires.1)
+    omega (arith, (adding-low c.loop-i.invariant).1, c.loop-i.invariant.within, c.requires.1)
 
 cast-t17 : tie.Need-overflow_cast-result-3 invariant-loop decreases-loop
 cast-t17 c =
-    let l = c.before in
-    omega (arith, (adding-low l.loop-i.invariant).2, l.loop-i.invariant.within, (st l).requires.1)
+    omega (arith, (adding-low c.loop-i.invariant).2, c.loop-i.invariant.within, c.requires.1)
 
 returns : tie.Need-returns invariant-loop decreases-loop
-returns c = adding-done c.before.loop-i.invariant c.loop-i-test.false
+returns c = adding-done c.loop-i.invariant c.loop-i-test.false
 
 pub streak_sums_spec : {M : Type 1} → statement M
 streak_sums_spec =

@@ -40,34 +40,31 @@ one : (c : Tested) → c.add_one-got.result.pixels ≡ 1
 one c = omega (arith, c.add_one-got.ensures.some, c.add_one-got.ensures.within)
 
 inside : (c : Tested) → (lp c).loop-taken.taken + c.add_one-got.result.pixels ≤ (st c).args.end
-inside c = omega (arith, one c, c.before.before.before.loop-taken-test.true)
+inside c = omega (arith, one c, c.loop-taken-test.true)
 
 loop-holds : tie.Need-loop-taken-init invariant-loop decreases-loop
-loop-holds c =
-    let s = c.before.before.before in (
+loop-holds c = (
       omega arith,
-      steps-start s.args.keys-1.now s.args.weights-1.now s.args.strip.now s.args.used s.args.room
-          s.args.end s.requires,
+      steps-start c.args.keys.now c.args.weights.now c.args.strip.now c.args.used c.args.room
+          c.args.end c.requires,
     )
 
 add-one-requires : tie.Need-add_one-got-requires invariant-loop decreases-loop
 add-one-requires c κs =
-    let l = c.before.before.before in
-    let s = l.before.before.before.before in
-    steps-addable s.requires l.loop-taken.invariant.1 1 (omega arith) (omega (arith, c.before.before.loop-taken-test.true))
+    steps-addable c.requires c.loop-taken.invariant.1 1 (omega arith) (omega (arith, c.loop-taken-test.true))
 
 same_length : tie.Need-shape_of-keys-then-room-next invariant-loop decreases-loop
 same_length c =
-    let a = tried c.before in a.add_one-got.kept.0 ∙ (lp a).loop-taken.inv.1.keys_length
+    let a = tried c.before in a.add_one-got.kept.0 ∙ (lp a).loop-taken.invariant.1.keys_length
 
 same-length-2 : tie.Need-shape_of-weights-then-room-next invariant-loop decreases-loop
 same-length-2 c =
-    let a = tried c.before in a.add_one-got.kept.1.0 ∙ (lp a).loop-taken.inv.1.weights_length
+    let a = tried c.before in a.add_one-got.kept.1.0 ∙ (lp a).loop-taken.invariant.1.weights_length
 
 returns : tie.Need-returns-then-room-next invariant-loop decreases-loop
 returns c =
     let a = tried c.before in
-    steps-full (st a).pre (lp a).loop-taken.inv.1 a.add_one-got.ensures (inside a) (one a) c.if-room-next.true
+    steps-full (st a).requires (lp a).loop-taken.invariant.1 a.add_one-got.ensures (inside a) (one a) c.if-room-next.true
 
 add-taken : tie.Need-overflow_add-taken invariant-loop decreases-loop
 add-taken c = let a = tried c.before in omega (arith, inside a, one a, st a)
@@ -75,30 +72,29 @@ add-taken c = let a = tried c.before in omega (arith, inside a, one a, st a)
 plus-requires : tie.Need-plus-sums-requires invariant-loop decreases-loop
 plus-requires c κs =
     let a = tried c.before in
-    steps_low (st a).pre (lp a).loop-taken.inv.1 a.add_one-got.ensures (inside a)
+    steps_low (st a).requires (lp a).loop-taken.invariant.1 a.add_one-got.ensures (inside a)
 
 loop-less : tie.Need-loop-taken-smaller invariant-loop decreases-loop
 loop-less c =
-    let a = tried c.before.before in omega (arith, a.before.before.before.loop-taken-test.taken)
+    let a = tried c.before.before in omega (arith, a.loop-taken-test.taken)
 
 loop-again : tie.Need-loop-taken-preserved invariant-loop decreases-loop
 loop-again c =
     let a = tried c.before.before in (
       omega (arith, inside a, one a),
       rw c.plus-sums.ensures
-          (steps-in-one (st a).pre (lp a).loop-taken.inv.1 a.add_one-got.ensures (inside a) (one a)
-          (λ i. omega (arith, (lp a).before.shared_slice_known-1.given i)) c.before.if-room-next.false),
+          (steps-in-one (st a).requires (lp a).loop-taken.invariant.1 a.add_one-got.ensures (inside a) (one a)
+          (λ i. omega (arith, (lp a).shared_slice_known-1.given i)) c.if-room-next.false),
     )
 
 same-length-3 : tie.Need-shape_of-keys invariant-loop decreases-loop
-same-length-3 c = c.before.loop-taken.invariant.1.keys_length
+same-length-3 c = c.loop-taken.invariant.1.keys_length
 
 same-length-4 : tie.Need-shape_of-weights invariant-loop decreases-loop
-same-length-4 c = c.before.loop-taken.invariant.1.weights_length
+same-length-4 c = c.loop-taken.invariant.1.weights_length
 
 returns-2 : tie.Need-returns invariant-loop decreases-loop
-returns-2 c =
-    let l = c.before in steps-done l.before.before.before.before.requires l.loop-taken.invariant.1 c.loop-taken-test.false
+returns-2 c = steps-done c.requires c.loop-taken.invariant.1 c.loop-taken-test.false
 
 pub take_few_spec : {M : Type 1} → statement M
 take_few_spec =

@@ -44,21 +44,20 @@ abbrev p : Tested → ℕ
 p c = c.add_some-got.result.pixels
 
 turn : (c : Tested) → (lp c).loop-taken.taken < (st c).args.end
-turn c = c.before.before.before.before.loop-taken-test.true
+turn c = c.loop-taken-test.true
 
 inside : (c : Tested) → (lp c).loop-taken.taken + p c ≤ (st c).args.end
-inside c = omega (arith, turn c, c.before.before.before.smaller-most.ensures, c.add_some-got.ensures.within)
+inside c = omega (arith, turn c, c.smaller-most.ensures, c.add_some-got.ensures.within)
 
 at_most : (c : Tested) → p c ≤ (lp c).loop-taken.limit
-at_most c = omega (arith, c.before.before.before.smaller-most.ensures, c.add_some-got.ensures.within)
+at_most c = omega (arith, c.smaller-most.ensures, c.add_some-got.ensures.within)
 
 loop-holds : tie.Need-loop-taken-init invariant-loop decreases-loop
-loop-holds c =
-    let s = c.before.before.before in (
+loop-holds c = (
       omega arith,
       (λ h. h),
-      steps-start s.args.keys-1.now s.args.weights-1.now s.args.strip.now s.args.used s.args.room
-          s.args.end s.requires,
+      steps-start c.args.keys.now c.args.weights.now c.args.strip.now c.args.used c.args.room
+          c.args.end c.requires,
     )
 
 sub-smaller : tie.Need-overflow_sub-end invariant-loop decreases-loop
@@ -69,12 +68,10 @@ smaller-requires c κs = tt
 
 add-some-requires : tie.Need-add_some-got-requires invariant-loop decreases-loop
 add-some-requires c κs =
-    let l = c.before.before.before.before in
-    let s = l.before.before.before.before in
-    let t = c.before.before.before.loop-taken-test.true in
-    let m = c.before.before.smaller-most.ensures in
-    steps-addable s.requires l.loop-taken.invariant.2 c.before.before.smaller-most.result
-    (omega (arith, m, t, l.loop-taken.invariant.1 t))
+    let t = c.loop-taken-test.true in
+    let m = c.smaller-most.ensures in
+    steps-addable c.requires c.loop-taken.invariant.2 c.smaller-most.result
+    (omega (arith, m, t, c.loop-taken.invariant.1 t))
     (omega (arith, m, t))
 
 add-taken : tie.Need-overflow_add-taken invariant-loop decreases-loop
@@ -83,7 +80,7 @@ add-taken c = let a = tried c.before in omega (arith, inside a, st a)
 plus-requires : tie.Need-plus-sums-requires invariant-loop decreases-loop
 plus-requires c κs =
     let a = tried c.before in
-    steps_low (st a).pre (lp a).loop-taken.inv.2 a.add_some-got.ensures (inside a)
+    steps_low (st a).requires (lp a).loop-taken.invariant.2 a.add_some-got.ensures (inside a)
 
 loop-less : tie.Need-loop-taken-smaller-then-next-room invariant-loop decreases-loop
 loop-less c =
@@ -92,28 +89,28 @@ loop-less c =
 loop-again : tie.Need-loop-taken-preserved-then-next-room invariant-loop decreases-loop
 loop-again c =
     let a = tried c.before.before in
-    let i = (lp a).loop-taken.inv in (
+    let i = (lp a).loop-taken.invariant in (
       inside a,
       (λ h. i.1 (turn a)),
       rw c.plus-sums.ensures
-          (steps-in (st a).pre i.2 a.add_some-got.ensures (inside a)
-          (λ j. omega (arith, (lp a).before.shared_slice_known-1.given j)) c.before.if-next-room.true),
+          (steps-in (st a).requires i.2 a.add_some-got.ensures (inside a)
+          (λ j. omega (arith, (lp a).shared_slice_known-1.given j)) c.if-next-room.true),
     )
 
 same_length : tie.Need-shape_of-keys-then-pixels-lt2 invariant-loop decreases-loop
 same_length c =
-    let a = tried c.before.before in a.add_some-got.kept.0 ∙ (lp a).loop-taken.inv.2.keys_length
+    let a = tried c.before.before in a.add_some-got.kept.0 ∙ (lp a).loop-taken.invariant.2.keys_length
 
 same-length-2 : tie.Need-shape_of-weights-then-pixels-lt2 invariant-loop decreases-loop
 same-length-2 c =
     let a = tried c.before.before in
-    a.add_some-got.kept.1.0 ∙ (lp a).loop-taken.inv.2.weights_length
+    a.add_some-got.kept.1.0 ∙ (lp a).loop-taken.invariant.2.weights_length
 
 returns : tie.Need-returns-then-pixels-lt2 invariant-loop decreases-loop
 returns c =
     let a = tried c.before.before in
     let one : p a ≡ 1 = omega (arith, c.if-pixels-lt2.true, a.add_some-got.ensures.some) in
-    steps-full (st a).pre (lp a).loop-taken.inv.2 a.add_some-got.ensures (inside a) one c.before.if-next-room.false
+    steps-full (st a).requires (lp a).loop-taken.invariant.2 a.add_some-got.ensures (inside a) one c.if-next-room.false
 
 loop-less-2 : tie.Need-loop-taken-smaller invariant-loop decreases-loop
 loop-less-2 c =
@@ -122,21 +119,20 @@ loop-less-2 c =
 loop-again-2 : tie.Need-loop-taken-preserved invariant-loop decreases-loop
 loop-again-2 c =
     let a = tried c.before.before in
-    let i = (lp a).loop-taken.inv in (
+    let i = (lp a).loop-taken.invariant in (
       i.0,
       (λ h. omega (arith, c.if-pixels-lt2.false)),
-      steps-out (st a).pre i.2 a.add_some-got.ensures (inside a) c.before.if-next-room.false,
+      steps-out (st a).requires i.2 a.add_some-got.ensures (inside a) c.if-next-room.false,
     )
 
 same-length-3 : tie.Need-shape_of-keys invariant-loop decreases-loop
-same-length-3 c = c.before.loop-taken.invariant.2.keys_length
+same-length-3 c = c.loop-taken.invariant.2.keys_length
 
 same-length-4 : tie.Need-shape_of-weights invariant-loop decreases-loop
-same-length-4 c = c.before.loop-taken.invariant.2.weights_length
+same-length-4 c = c.loop-taken.invariant.2.weights_length
 
 returns-2 : tie.Need-returns invariant-loop decreases-loop
-returns-2 c =
-    let l = c.before in steps-done l.before.before.before.before.requires l.loop-taken.invariant.2 c.loop-taken-test.false
+returns-2 c = steps-done c.requires c.loop-taken.invariant.2 c.loop-taken-test.false
 
 pub take_many_spec : {M : Type 1} → statement M
 take_many_spec =

@@ -29,7 +29,7 @@ pixels_are s = strip-length s.args.count s.args.strip.now s.requires.1.1
 
 -- any number of pixels that the strip has and the total allows can be taken
 able : (s : tie.Start) (end : ℕ) → end ≤ s.args.count → end ≤ space s
-    → Able s.args.used s.args.room s.args.keys-1.now s.args.weights-1.now s.args.strip.now end
+    → Able s.args.used s.args.room s.args.keys.now s.args.weights.now s.args.strip.now end
 able s end a b = record {
   table = s.requires.0;
   total = omega (arith, s.requires.1.0);
@@ -37,7 +37,7 @@ able s end a b = record {
 }
 
 sub-space : tie.Need-overflow_sub-space
-sub-space c = omega (arith, c.before.before.before.requires.1.0)
+sub-space c = omega (arith, c.requires.1.0)
 
 smaller-requires : tie.Need-smaller-end-requires
 smaller-requires c κs = search rules
@@ -59,17 +59,15 @@ same-length-2 c = search rules
 
 returns : tie.Need-returns-then-is_few
 returns c =
-    let a = c.before.before.before.before in
-    let n = a.before.before.before.before.before in
+    let n = c.before.before.before.before.before.before.before.before.before in
     let s = st n in
-    steps-whole n.smaller-end.result (λ h. omega (arith, h, n.smaller-end.ensures, pixels_are s, s.pre.1.0))
-    a.take_few.ensures
+    steps-whole n.smaller-end.result (λ h. omega (arith, h, n.smaller-end.ensures, pixels_are s, s.requires.1.0))
+    c.take_few.ensures
 
 take-many-requires : tie.Need-take_many-requires
 take-many-requires c κs =
-    let t = c.before.before in
-    let s = many t.before in
-    able s s.args.count (omega arith) (omega (arith, t.if-count-space.true))
+    let s = many c.before.before.before in
+    able s s.args.count (omega arith) (omega (arith, c.if-count-space.true))
 
 same-length-3 : tie.Need-shape_of-keys-then-count-space
 same-length-3 c = search rules
@@ -79,15 +77,13 @@ same-length-4 c = search rules
 
 returns-2 : tie.Need-returns-then-count-space
 returns-2 c =
-    let a = c.before.before.before.before in
-    let s = many a.before.before.before.before in
-    steps-whole s.args.count (λ h. omega (arith, h, pixels_are s)) a.take_many.ensures
+    let s = many c.before.before.before.before.before.before.before.before in
+    steps-whole s.args.count (λ h. omega (arith, h, pixels_are s)) c.take_many.ensures
 
 take-many-requires-2 : tie.Need-take_many-requires-2
 take-many-requires-2 c κs =
-    let t = c.before.before in
-    let s = many t.before in
-    able s (space s) (omega (arith, t.if-count-space.false)) (omega arith)
+    let s = many c.before.before.before in
+    able s (space s) (omega (arith, c.if-count-space.false)) (omega arith)
 
 same-length-5 : tie.Need-shape_of-keys
 same-length-5 c = search rules
@@ -97,9 +93,8 @@ same-length-6 c = search rules
 
 returns-3 : tie.Need-returns
 returns-3 c =
-    let a = c.before.before.before.before in
-    let s = many a.before.before.before.before in
-    steps-whole (space s) (λ h. omega (arith, s.pre.1.0)) a.take_many-2.ensures
+    let s = many c.before.before.before.before.before.before.before.before in
+    steps-whole (space s) (λ h. omega (arith, s.requires.1.0)) c.take_many-2.ensures
 
 pub take_strip_spec : {M : Type 1} → statement M
 take_strip_spec =

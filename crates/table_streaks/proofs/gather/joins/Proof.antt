@@ -10,11 +10,11 @@ streak-key-requires : tie.Need-streak_key-requires
 streak-key-requires c κs = search rules
 
 returns : tie.Need-returns-then-streak_key-key
-returns c = simp (eq-eqb _ _ (sym c.before.streak_key.ensures.0 ∙ c.if-streak_key-key.true))
+returns c = simp (eq-eqb _ _ (sym c.streak_key.ensures.0 ∙ c.if-streak_key-key.true))
 
 returns-2 : tie.Need-returns
-returns-2 c = simp (ne_eqb (streak_key c.before.before.args.streak) c.before.before.args.key
-    (λ q. c.if-streak_key-key.false (c.before.streak_key.ensures.0 ∙ q)))
+returns-2 c = simp (ne_eqb (streak_key c.args.streak) c.args.key
+    (λ q. c.if-streak_key-key.false (c.streak_key.ensures.0 ∙ q)))
 
 pub joins_spec : {M : Type 1} → statement M
 joins_spec = tie.close (tie.spec streak-key-requires returns returns-2)

@@ -12,17 +12,17 @@ use Rattle.table_sums.proofs.sums.other_sums.Tie as tie
 
 returns : tie.Need-returns-then-red-gt-MOST_SUM
 returns c R G B t =
-    let a = c.before.args in
+    let a = c.args in
     others-of-red a.red a.green a.blue R G B t c.if-red-gt-MOST_SUM.true
 
 returns-2 : tie.Need-returns-then-green-gt-MOST_SUM
 returns-2 c R G B t =
-    let a = c.before.before.args in
+    let a = c.args in
     others-of-green a.red a.green a.blue R G B t c.if-green-gt-MOST_SUM.true
 
 returns-3 : tie.Need-returns-then-blue-gt-MOST_SUM
 returns-3 c R G B t =
-    let a = c.before.before.before.args in
+    let a = c.args in
     others-of-blue a.red a.green a.blue R G B t c.if-blue-gt-MOST_SUM.true
 
 mul-if4 : tie.Need-overflow_mul-red
@@ -39,7 +39,7 @@ add-if4-2 c = search rules
 
 returns-4 : tie.Need-returns-then-red-green
 returns-4 c R G B t =
-    let a = c.before.before.before.before.args in
+    let a = c.args in
     others-of-first a.red a.green a.blue R G B t c.if-red-green.true
 
 mul-result : tie.Need-overflow_mul-result
@@ -50,11 +50,8 @@ add-result c = search rules
 
 returns-5 : tie.Need-returns
 returns-5 c R G B t =
-    let blue = c.before in
-    let green = blue.before in
-    let red = green.before in
-    let a = red.before.args in
-    others-by-second a.red a.green a.blue R G B t red.if-red-gt-MOST_SUM.false green.if-green-gt-MOST_SUM.false blue.if-blue-gt-MOST_SUM.false
+    let a = c.args in
+    others-by-second a.red a.green a.blue R G B t c.if-red-gt-MOST_SUM.false c.if-green-gt-MOST_SUM.false c.if-blue-gt-MOST_SUM.false
     c.if-red-green.false
 
 pub other_sums_spec : {M : Type 1} → statement M

@@ -16,10 +16,6 @@ invariant-loop keys weights used first₀ second₀ i₀ first second i = Summin
 abbrev decreases-loop : tie.decreases-loop-i
 decreases-loop keys weights used first₀ second₀ i₀ first second i = used - i
 
--- where the function begins, from where the loop is
-abbrev st : tie.At-loop-i invariant-loop decreases-loop → tie.Start invariant-loop decreases-loop
-st c = c.before.before.before
-
 -- the turn in which the first product is worked out
 abbrev turn : tie.After-times-first invariant-loop decreases-loop → tie.In-loop-i invariant-loop decreases-loop
 turn c = c.before.before.before
@@ -30,24 +26,24 @@ first c = c.before.before.before.before
 
 -- what is required holds of the entry of a turn: its weight is a table's, and its key a key
 weight-low : (c : tie.In-loop-i invariant-loop decreases-loop)
-    → (let a = (st c.before).args in get_or a.weights.now c.before.loop-i.i 0 ≤ most_pixels)
-weight-low c = weight-at-most _ _ _ (st c.before).pre.0 _ c.loop-i-test.true
+    → (let a = c.args in get_or a.weights.now c.loop-i.i 0 ≤ most_pixels)
+weight-low c = weight-at-most _ _ _ c.requires.0 _ c.loop-i-test.true
 
 key-low : (c : tie.In-loop-i invariant-loop decreases-loop)
-    → (let a = (st c.before).args in get_or a.keys.now c.before.loop-i.i 0 ≤ most_key)
-key-low c = (st c.before).pre.1 _ c.loop-i-test.true
+    → (let a = c.args in get_or a.keys.now c.loop-i.i 0 ≤ most_key)
+key-low c = c.requires.1 _ c.loop-i-test.true
 
 -- the second product is that of the weight with the key's mix
 second_is : (c : tie.After-times-second invariant-loop decreases-loop)
     → (let t = (turn (first c)).before in
-    let a = (st t).args in
+    let a = t.args in
     let key = get_or a.keys.now t.loop-i.i 0 in
     c.times-second.result ≡ get_or a.weights.now t.loop-i.i 0 * mix_of (red_of key) (blue_of key))
-second_is c = rw c.before.mix_of.ensures at c.times-second.ensures
+second_is c = rw c.mix_of.ensures at c.times-second.ensures
 
 loop-holds : tie.Need-loop-i-init invariant-loop decreases-loop
 loop-holds c =
-    let a = c.before.before.args in
+    let a = c.args in
     summing_start a.keys.now a.weights.now a.used
 
 mul-times : tie.Need-offset_bounds-weights-i invariant-loop decreases-loop
@@ -68,7 +64,7 @@ times-requires c κs = weight-low c.before.before
 add-first : tie.Need-overflow_add-first invariant-loop decreases-loop
 add-first c =
     let t = turn c in
-    let fits = summing-fits (st t.before).pre.0 t.before.loop-i.inv t.loop-i-test.taken (key-low t) in
+    let fits = summing-fits t.requires.0 t.loop-i.invariant t.loop-i-test.taken (key-low t) in
     omega (arith, (fits _ _ c.times-first.ensures refl).0)
 
 mul-times-3 : tie.Need-offset_bounds-weights-i-in-loop-i invariant-loop decreases-loop
@@ -92,7 +88,7 @@ times-requires-2 c κs = weight-low c.before.before.before.before.before.before
 add-second : tie.Need-overflow_add-second invariant-loop decreases-loop
 add-second c =
     let t = turn (first c) in
-    let fits = summing-fits (st t.before).pre.0 t.before.loop-i.inv t.loop-i-test.taken (key-low t) in
+    let fits = summing-fits t.requires.0 t.loop-i.invariant t.loop-i-test.taken (key-low t) in
     omega (arith, (fits _ _ refl (second_is c)).1)
 
 add-i : tie.Need-overflow_add-i invariant-loop decreases-loop
@@ -104,11 +100,11 @@ loop-less c = omega arith
 loop-again : tie.Need-loop-i-preserved invariant-loop decreases-loop
 loop-again c =
     let t = turn (first c) in
-    summing-step (st t.before).pre.0 t.before.loop-i.inv t.loop-i-test.taken (key-low t) _ _
-    (first c).times-first.ensures (second_is c)
+    summing-step t.requires.0 t.loop-i.invariant t.loop-i-test.taken (key-low t) _ _
+    c.times-first.ensures (second_is c)
 
 returns : tie.Need-returns invariant-loop decreases-loop
-returns c = summing-done c.before.loop-i.invariant c.loop-i-test.false
+returns c = summing-done c.loop-i.invariant c.loop-i-test.false
 
 pub two_sums_spec : {M : Type 1} → statement M
 two_sums_spec =

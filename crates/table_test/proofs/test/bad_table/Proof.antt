@@ -27,8 +27,8 @@ st c = c.before.before.before
 
 -- past the first test the used entries are within the room
 in_room : (c : tie.Else-room-used)
-    → InRoom (st c.before).args.rec (st c.before).args.keys.now (st c.before).args.weights.now
-in_room c = record { within = omega (arith, c.before.room_of-room.ensures) }
+    → InRoom c.args.rec c.args.keys.now c.args.weights.now
+in_room c = record { within = omega (arith, c.room_of-room.ensures) }
 
 -- past the tests of the room and of an empty table, once the keys are looked at
 abbrev within : tie.After-faults → tie.Else-room-used
@@ -46,19 +46,18 @@ returns c =
     let s = st c.before in
     sym
     (bad-over-room s.args.rec s.args.keys.now s.args.weights.now
-    (omega (arith, c.before.room_of-room.ensures)))
+    (omega (arith, c.room_of-room.ensures)))
 
 returns-2 : tie.Need-returns-then-pixels-ne0
-returns-2 c = sym (bad-of-pixels-alone (in_room c.before.before) c.before.if-used-eq0.true c.if-pixels-ne0.true)
+returns-2 c = sym (bad-of-pixels-alone (in_room c.before.before) c.if-used-eq0.true c.if-pixels-ne0.true)
 
 other-sums-requires : tie.Need-other_sums-requires
 other-sums-requires c κs = search rules
 
 returns-3 : tie.Need-returns-then-used-eq0
 returns-3 c =
-    let e = c.before in
     c.other_sums.ensures 0 0 0 two-of-none
-    ∙ sym (bad-of-empty (in_room e.before.before) e.before.if-used-eq0.true e.if-pixels-ne0.false)
+    ∙ sym (bad-of-empty (in_room c.before.before.before) c.if-used-eq0.true c.if-pixels-ne0.false)
 
 sub-last : tie.Need-overflow_sub-last
 sub-last c = search rules
@@ -69,7 +68,7 @@ faults-requires c κs = search rules
 returns-4 : tie.Need-returns-then-faults-ne0
 returns-4 c =
     let room = in_room (within c.before) in
-    sym (bad-of-fault room (λ f. c.if-faults-ne0.true (c.before.faults.ensures ∙ f.rising)))
+    sym (bad-of-fault room (λ f. c.if-faults-ne0.true (c.faults.ensures ∙ f.rising)))
 
 mul-if5 : tie.Need-offset_bounds-keys-last
 mul-if5 c = search rules
@@ -88,7 +87,7 @@ weigh-requires c κs = search rules
 returns-6 : tie.Need-returns-then-zeros-ne0
 returns-6 c =
     let room = in_room (within (keyed c.before)) in
-    sym (bad-of-fault room (λ f. c.if-zeros-ne0.true (c.before.weigh-weighed.ensures.0 ∙ f.weighted)))
+    sym (bad-of-fault room (λ f. c.if-zeros-ne0.true (c.weigh-weighed.ensures.0 ∙ f.weighted)))
 
 returns-7 : tie.Need-returns-then-sum-pixels
 returns-7 c =
@@ -110,17 +109,16 @@ called c = st (within (looked c)).before
 faultless : (c : tie.Else-pixels-gt-MOST_PIXELS)
     → (let a = (called c).args in Faultless a.rec.used a.keys.now a.weights.now)
 faultless c =
-    let w = c.before.before.before in
     record {
-      rising = sym (looked c).faults.ensures ∙ w.before.before.before.if-faults-ne0.false;
-      weighted = sym w.weigh-weighed.ensures.0 ∙ c.before.before.if-zeros-ne0.false;
-      greatest = λ l. w.before.if-keys-last-gt-MOST_KEY.false;
+      rising = sym (looked c).faults.ensures ∙ c.if-faults-ne0.false;
+      weighted = sym c.weigh-weighed.ensures.0 ∙ c.if-zeros-ne0.false;
+      greatest = λ l. c.if-keys-last-gt-MOST_KEY.false;
     }
 
 -- the weights come to the pixels
 summed : (c : tie.Else-pixels-gt-MOST_PIXELS)
     → (let a = (called c).args in sum a.rec.used (weight_at a.weights.now) ≡ a.rec.pixels)
-summed c = sym c.before.before.before.weigh-weighed.ensures.1 ∙ c.before.if-sum-pixels.false
+summed c = sym c.weigh-weighed.ensures.1 ∙ c.if-sum-pixels.false
 
 -- so the entries are a table's
 tabled : (c : tie.Else-pixels-gt-MOST_PIXELS)
@@ -137,7 +135,7 @@ other-sums-requires-2 c κs = search rules
 returns-9 : tie.Need-returns
 returns-9 c =
     let past = c.before.before in
-    c.other_sums-2.ensures _ _ _ c.before.two_sums-sums.ensures
+    c.other_sums-2.ensures _ _ _ c.two_sums-sums.ensures
     ∙ sym (bad-of-sums (in_room (within (looked past))) (faultless past) (summed past) past.if-pixels-gt-MOST_PIXELS.false)
 
 pub bad_table_spec : {M : Type 1} → statement M

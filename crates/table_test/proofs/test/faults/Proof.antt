@@ -14,7 +14,7 @@ abbrev decreases-loop : tie.decreases-loop-i
 decreases-loop keys last count₀ i₀ count i = last - i
 
 loop-holds : tie.Need-loop-i-init invariant-loop decreases-loop
-loop-holds c = counting-start c.before.args.last (falls_at c.before.args.keys.now)
+loop-holds c = counting-start c.args.last (falls_at c.args.keys.now)
 
 add-bit : tie.Need-overflow_add-i invariant-loop decreases-loop
 add-bit c = omega arith
@@ -45,11 +45,11 @@ loop-less c = omega arith
 
 loop-again : tie.Need-loop-i-preserved invariant-loop decreases-loop
 loop-again c =
-    counting-step c.before.before.before.before.loop-i.invariant (omega arith) c.bit-count.result
+    counting-step c.loop-i.invariant (omega arith) c.bit-count.result
     c.bit-count.ensures.0
 
 returns : tie.Need-returns invariant-loop decreases-loop
-returns c = counting-done c.before.loop-i.invariant c.loop-i-test.false
+returns c = counting-done c.loop-i.invariant c.loop-i-test.false
 
 pub faults_spec : {M : Type 1} → statement M
 faults_spec =

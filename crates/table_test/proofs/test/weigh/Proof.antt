@@ -13,7 +13,7 @@ abbrev decreases-loop : tie.decreases-loop-i
 decreases-loop weights used zeros₀ sum₀ i₀ zeros sum i = used - i
 
 loop-holds : tie.Need-loop-i-init invariant-loop decreases-loop
-loop-holds c = weighing-start c.before.args.weights.now c.before.args.used
+loop-holds c = weighing-start c.args.weights.now c.args.used
 
 mul-bit : tie.Need-offset_bounds-weights-i invariant-loop decreases-loop
 mul-bit c = omega arith
@@ -47,12 +47,11 @@ loop-less c = omega arith
 
 loop-again : tie.Need-loop-i-preserved invariant-loop decreases-loop
 loop-again c =
-    let zero = c.before.before in
-    weighing-step zero.before.before.before.loop-i.invariant (omega arith) zero.bit-zeros.result c.wide-sum.result
-    zero.bit-zeros.ensures.0 c.wide-sum.ensures.0 c.wide-sum.ensures.1
+    weighing-step c.loop-i.invariant (omega arith) c.bit-zeros.result c.wide-sum.result
+    c.bit-zeros.ensures.0 c.wide-sum.ensures.0 c.wide-sum.ensures.1
 
 returns : tie.Need-returns invariant-loop decreases-loop
-returns c = weighing-done c.before.loop-i.invariant c.loop-i-test.false
+returns c = weighing-done c.loop-i.invariant c.loop-i-test.false
 
 pub weigh_spec : {M : Type 1} → statement M
 weigh_spec =

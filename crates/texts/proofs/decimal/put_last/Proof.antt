@@ -19,17 +19,16 @@ put-decimal-requires c κs = search rules
 
 put-byte-requires : tie.Need-put_byte-requires
 put-byte-requires c κs =
-    let p = (put c).put_decimal-next.ensures in
+    let p = c.put_decimal-next.ensures in
     let s = st (put c) in
-    omega (arith, p.ends, put-length p, decimal-length s.args.value, s.pre)
+    omega (arith, p.ends, put-length p, decimal-length s.args.value, s.requires)
 
 same_length : tie.Need-shape_of-out
 same_length c = search rules
 
 returns : tie.Need-returns
 returns c =
-    let b = c.before.before in
-    put_then (put b.before).put_decimal-next.ensures b.put_byte.ensures
+    put_then c.put_decimal-next.ensures c.put_byte.ensures
 
 pub put_last_spec : {M : Type 1} → statement M
 put_last_spec = tie.close (tie.spec put-decimal-requires put-byte-requires same_length returns)

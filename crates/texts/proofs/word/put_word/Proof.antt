@@ -20,10 +20,6 @@ decreases-loop out₀ at word size i₀ out i = size - i
 abbrev turn : tie.After-shared_slice_known-1 invariant-loop decreases-loop → tie.At-loop-i invariant-loop decreases-loop
 turn c = c.before.before
 
--- where the function begins
-abbrev st : tie.At-loop-i invariant-loop decreases-loop → tie.Start invariant-loop decreases-loop
-st c = c.before
-
 loop-holds : tie.Need-loop-i-init invariant-loop decreases-loop
 loop-holds c =
     let a = c.args in
@@ -38,10 +34,10 @@ add-out c = search rules
 slice-write-out : tie.Need-bounds-out-at invariant-loop decreases-loop
 slice-write-out c =
     let t = turn c in
-    let a = (st t).args in
+    let a = t.args in
     let f : ℕ → ℕ = λ j. get_or a.word.now j 0 in
-    rw (t.loop-i.inv.1, from-length a.at t.loop-i.i f a.out.now)
-    (omega (arith, (st t).pre, c.before.loop-i-test.true))
+    rw (t.loop-i.invariant.1, from-length a.at t.loop-i.i f a.out.now)
+    (omega (arith, t.requires, c.loop-i-test.true))
 
 add-i : tie.Need-overflow_add-i invariant-loop decreases-loop
 add-i c = search rules
@@ -52,12 +48,12 @@ loop-less c = omega arith
 loop-again : tie.Need-loop-i-preserved invariant-loop decreases-loop
 loop-again c =
     let t = turn c in
-    let a = (st t).args in
-    let h = c.before.loop-i-test.true in (
+    let a = t.args in
+    let h = c.loop-i-test.true in (
       omega (arith, h),
-      rw t.loop-i.inv.1
+      rw t.loop-i.invariant.1
           (bytes-step a.at t.loop-i.i (λ j. get_or a.word.now j 0) a.out.now
-          (omega (arith, (st t).pre, h))),
+          (omega (arith, t.requires, h))),
     )
 
 add-result : tie.Need-overflow_add-result invariant-loop decreases-loop
@@ -65,14 +61,14 @@ add-result c = search rules
 
 same_length : tie.Need-shape_of-out invariant-loop decreases-loop
 same_length c =
-    let a = (st c.before).args in
-    let l = c.before.loop-i in
+    let a = c.args in
+    let l = c.loop-i in
     ap length l.invariant.1 ∙ from-length a.at l.i (λ j. get_or a.word.now j 0) a.out.now
 
 returns : tie.Need-returns invariant-loop decreases-loop
 returns c =
-    let a = (st c.before).args in
-    let l = c.before.loop-i in
+    let a = c.args in
+    let l = c.loop-i in
     let e : l.i ≡ length a.word.now = omega (arith, l.invariant.0, c.loop-i-test.false) in
     record {
       ends = refl;
