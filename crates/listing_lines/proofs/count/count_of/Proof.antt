@@ -31,8 +31,7 @@ cast-if1 c = omega (arith, c.shared_slice_known-1.given c.loop-i.i)
 
 add-count : tie.Need-overflow_add-count invariant-loop decreases-loop
 add-count c =
-    let t = turn c.before in
-    omega (arith, t.loop-i.invariant.few, t.loop-i-test.taken)
+    omega (arith, c.loop-i.invariant.few, c.loop-i-test.true)
 
 add-i : tie.Need-overflow_add-i invariant-loop decreases-loop
 add-i c = search rules
@@ -42,11 +41,10 @@ loop-less c = omega arith
 
 loop-again : tie.Need-loop-i-preserved invariant-loop decreases-loop
 loop-again c =
-    let t = turn c.before in
-    let b = get_or t.args.index.now t.loop-i.i 0 in
-    let q = t.args.q in
-    counting-next t.loop-i.invariant t.loop-i-test.taken
-    (⊎_elim (λ t. rw (eq-eqb b q t.0.taken) t.1) (λ t. rw (ne_eqb b q t.0.left) t.1) c.if-index-i.branch)
+    let b = get_or c.args.index.now c.loop-i.i 0 in
+    let q = c.args.q in
+    counting-next c.loop-i.invariant c.loop-i-test.true
+    (⊎_elim (λ c. rw (eq-eqb b q c.0.taken) c.1) (λ c. rw (ne_eqb b q c.0.left) c.1) c.if-index-i.branch)
 
 returns : tie.Need-returns invariant-loop decreases-loop
 returns c = counting-done c.loop-i.invariant c.loop-i-test.false

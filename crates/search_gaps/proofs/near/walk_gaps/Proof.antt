@@ -71,8 +71,8 @@ loop-again c =
     sym (gap-tried y c.loop-q.q h) ∙ sym (rw c.distance_to-d.ensures.0 at c.tries.ensures) in
     ⊎_elim
     (λ w. rw (w.3, w.4, w.2.ensures, w.1.ensures.0)
-    (sought-tried y c.loop-q.invariant h (asked ∙ w.0.taken)))
-    (λ w. rw (w.1, w.2) (sought-left y c.loop-q.invariant h (asked ∙ w.0.left)))
+    (sought-tried y c.loop-q.invariant h (asked ∙ w.0.true)))
+    (λ w. rw (w.1, w.2) (sought-left y c.loop-q.invariant h (asked ∙ w.0.false)))
     c.if-tries.branch
 
 add-t16 : tie.Need-overflow_add-result invariant-loop decreases-loop

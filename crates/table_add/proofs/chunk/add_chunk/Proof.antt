@@ -61,12 +61,12 @@ listed c = record {
   bytes = λ i. omega (arith, (known c).shared_slice_known-1.given i);
   sums = (got c).gather-got.ensures.1;
   sorts = (sorted' c).sort_streaks.ensures;
-  room = omega (arith, (got c).gather-got.ensures.0.2, (got c).gather-got.auto.1.1.1.0);
+  room = omega (arith, (got c).gather-got.ensures.0.2, (got c).gather-got.auto.list);
   room' = omega (
     arith,
     (got c).gather-got.ensures.0.2,
-    (got c).gather-got.auto.1.1.1.0,
-    (sorted' c).sort_streaks.auto.0,
+    (got c).gather-got.auto.list,
+    (sorted' c).sort_streaks.auto.streaks,
   );
 }
 

@@ -55,11 +55,11 @@ add-one-requires c κs =
 
 same_length : tie.Need-shape_of-keys-then-room-next invariant-loop decreases-loop
 same_length c =
-    let a = tried c.before in a.add_one-got.kept.0 ∙ (lp a).loop-taken.invariant.1.keys_length
+    let a = tried c.before in a.add_one-got.auto.keys ∙ (lp a).loop-taken.invariant.1.keys_length
 
 same-length-2 : tie.Need-shape_of-weights-then-room-next invariant-loop decreases-loop
 same-length-2 c =
-    let a = tried c.before in a.add_one-got.kept.1.0 ∙ (lp a).loop-taken.invariant.1.weights_length
+    let a = tried c.before in a.add_one-got.auto.weights ∙ (lp a).loop-taken.invariant.1.weights_length
 
 returns : tie.Need-returns-then-room-next invariant-loop decreases-loop
 returns c =
@@ -76,7 +76,7 @@ plus-requires c κs =
 
 loop-less : tie.Need-loop-taken-smaller invariant-loop decreases-loop
 loop-less c =
-    let a = tried c.before.before in omega (arith, a.loop-taken-test.taken)
+    let a = tried c.before.before in omega (arith, a.loop-taken-test.true)
 
 loop-again : tie.Need-loop-taken-preserved invariant-loop decreases-loop
 loop-again c =

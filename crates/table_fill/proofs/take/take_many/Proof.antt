@@ -99,12 +99,12 @@ loop-again c =
 
 same_length : tie.Need-shape_of-keys-then-pixels-lt2 invariant-loop decreases-loop
 same_length c =
-    let a = tried c.before.before in a.add_some-got.kept.0 ∙ (lp a).loop-taken.invariant.2.keys_length
+    let a = tried c.before.before in a.add_some-got.auto.keys ∙ (lp a).loop-taken.invariant.2.keys_length
 
 same-length-2 : tie.Need-shape_of-weights-then-pixels-lt2 invariant-loop decreases-loop
 same-length-2 c =
     let a = tried c.before.before in
-    a.add_some-got.kept.1.0 ∙ (lp a).loop-taken.invariant.2.weights_length
+    a.add_some-got.auto.weights ∙ (lp a).loop-taken.invariant.2.weights_length
 
 returns : tie.Need-returns-then-pixels-lt2 invariant-loop decreases-loop
 returns c =
