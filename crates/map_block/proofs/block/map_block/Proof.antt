@@ -23,25 +23,17 @@ known c = c.before.before.before.before.before.before.before.before.before.befor
 abbrev here : tie.After-slice_known-9-1 → tie.After-gather-slots
 here c = c.before.before.before.before
 
--- where the lists are lent to map few slots
-abbrev few-lent : tie.After-map-few-arg7 → tie.After-map_few-arg-then-slots-le256-1
-few-lent c = c.before.before.before.before.before
-
 -- where the slots are few
-abbrev few-slots : tie.After-map-few-arg7 → tie.Then-slots-le256
-few-slots c = (few-lent c).before.before
+abbrev few-slots : tie.After-map_few-arg-then-slots-le256-5-1 → tie.Then-slots-le256
+few-slots c = c.before.before.before.before.before.before
 
 -- where few slots are mapped
 abbrev few : tie.After-slice_known-then-slots-le256-6-1 → tie.After-map_few
 few c = c.before.before.before.before.before.before.before.before.before.before.before.before
 
--- where the lists are lent to map many slots
-abbrev many-lent : tie.After-map-many-arg7 → tie.After-map_many-arg-else-slots-le256-1
-many-lent c = c.before.before.before.before.before
-
 -- where the slots are many
-abbrev many-slots : tie.After-map-many-arg7 → tie.Else-slots-le256
-many-slots c = (many-lent c).before.before
+abbrev many-slots : tie.After-map_many-arg-else-slots-le256-4-1 → tie.Else-slots-le256
+many-slots c = c.before.before.before.before.before
 
 -- where many slots are mapped
 abbrev many : tie.After-slice_known-else-slots-le256-5-1 → tie.After-map_many

@@ -31,12 +31,12 @@ abbrev st : tie.After-join-joined → tie.Start
 st c = c.before.before.before.before.before.before.before.before.before.before.before
 
 -- where the lists are lent to search
-abbrev lent : tie.After-search-slots-arg5 → tie.After-link-2-1
-lent c = c.before.before.before.before.before
+abbrev lent : tie.After-search_slots-arg-4-1 → tie.After-link-2-1
+lent c = c.before.before.before.before
 
 -- where the slots are joined
-abbrev linked : tie.After-search-slots-arg5 → tie.After-join-joined
-linked c = (lent c).before.before.before
+abbrev linked : tie.After-search_slots-arg-4-1 → tie.After-join-joined
+linked c = c.before.before.before.before.before.before.before
 
 -- and from their search
 abbrev here : tie.After-search_slots → tie.After-join-joined

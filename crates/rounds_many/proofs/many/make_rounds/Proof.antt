@@ -70,7 +70,7 @@ next-step-requires c κs =
 mul-totals : tie.Need-offset_bounds-totals-r invariant-loop decreases-loop
 mul-totals c =
     let i = turn c.before.before.before.before.before in
-    omega (arith, i.good, i.requires.3, below i)
+    omega (arith, i.well_formed, i.requires.3, below i)
 
 slice-write-totals : tie.Need-bounds-totals-r invariant-loop decreases-loop
 slice-write-totals c =

@@ -95,9 +95,9 @@ loop-again c =
     let w = c.loop-i.invariant.1 in (
       searched-step c.loop-i.invariant.0 (c.loop-i.i + 256) (omega arith) (omega arith) c.requires.1 b.ensures,
       record {
-        red = b.auto.1.1.1.0 ∙ w.red;
-        green = b.auto.1.1.1.1.0 ∙ w.green;
-        blue = b.auto.1.1.1.1.1.0 ∙ w.blue;
+        red = b.auto.reds ∙ w.red;
+        green = b.auto.greens ∙ w.green;
+        blue = b.auto.blues ∙ w.blue;
       },
     )
 

@@ -39,8 +39,8 @@ abbrev st : tie.After-lower_kept-far → tie.Start
 st c = c.before.before.before.before.before.before
 
 -- where the distances are lowered, from where the farthest entry is looked for
-abbrev lowered : tie.After-first-of-arg → tie.After-lower_kept-far
-lowered c = c.before.before.before.before
+abbrev lowered : tie.Else-q-base → tie.After-lower_kept-far
+lowered c = c.before.before.before
 
 -- the place found is that of an entry
 found_below : (c : tie.After-first_of-at) → c.first_of-at.result < (lowered c.before).args.used
@@ -92,7 +92,7 @@ first-of-requires c κs =
 mul-colour-of : tie.Need-offset_bounds-keys-at
 mul-colour-of c =
     let s = st (lowered c.before) in
-    omega (arith, s.good, s.requires.0.room, found_below c)
+    omega (arith, s.well_formed, s.requires.0.room, found_below c)
 
 shared-slice-read-colour-of : tie.Need-bounds-keys-at
 shared-slice-read-colour-of c =
