@@ -1,6 +1,5 @@
 -- `count_of` meets its contract: the loop counts the places that hold the number.
 use Prim.Native.Nat.{◌-◌}
-use mathlib.Core.Logic.{⊎_elim}
 use native.Mathlib.Omega.{arith}
 use lib.Dec.{eqb}
 use lib.ListN.{get_or, length}
@@ -8,6 +7,7 @@ use borrow.Author.Rules.{rules}
 use borrow.Author.Tests.{eq-eqb, ne_eqb}
 use Rattle.number.proofs.Tallies.{Counting, counting-start, counting-next, counting-done}
 use Rattle.listing_lines.proofs.count.count_of.Statement.{statement}
+use Rattle.listing_lines.proofs.count.count_of.Lts.{then-index-i, else-index-i}
 use Rattle.listing_lines.proofs.count.count_of.Tie as tie
 
 abbrev invariant-loop : tie.invariant-loop-i
@@ -44,7 +44,10 @@ loop-again c =
     let b = get_or c.args.index.now c.loop-i.i 0 in
     let q = c.args.q in
     counting-next c.loop-i.invariant c.loop-i-test.true
-    (⊎_elim (λ c. rw (eq-eqb b q c.0.taken) c.1) (λ c. rw (ne_eqb b q c.0.left) c.1) c.if-index-i.branch)
+    (elim c.if-index-i.branch [
+      | then-index-i w ↦ rw (eq-eqb b q w.if-index-i.true) w.count-is
+      | else-index-i w ↦ rw (ne_eqb b q w.if-index-i.false) w.count-is
+    ])
 
 returns : tie.Need-returns invariant-loop decreases-loop
 returns c = counting-done c.loop-i.invariant c.loop-i-test.false

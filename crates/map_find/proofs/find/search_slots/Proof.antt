@@ -23,8 +23,8 @@ laid c = c.before.before.before.before.before.before.before
 -- they are laid out
 done : (c : tie.After-lay_out)
     → let a = c.args in
-    let x = c.lay_out.new.1.1 in
-    LaidOut (levels_at a.keys.now) a.slots x.0 x.1.0 x.1.1.0
+    let x = c.lay_out.new in
+    LaidOut (levels_at a.keys.now) a.slots x.reds x.greens x.blues
 done c =
     let e = c.lay_out.ensures in
     fronts-done record { within = le_refl _; red = e.0; green = e.1.0; blue = e.1.1 } c.requires.4
