@@ -43,7 +43,7 @@ part-search-points-end c = omega (arith, c.requires.3)
 
 search-points-requires : tie.Need-search_points-requires
 search-points-requires c κs =
-    let at = laid c.before in
+    let at = laid c in
     let a = at.args in
     let p = at.requires in
     let ready = keys-ready a.keys.now (done at) a.best.now p.3 in
@@ -63,7 +63,7 @@ same-length-4 c = search rules
 
 returns : tie.Need-returns
 returns c =
-    let at = laid c.before.before.before.before in
+    let at = laid c.before.before.before in
     let a = at.args in
     keys-searched a.shades.now a.count a.keys.now (done at) a.best.now at.requires.3
     c.search_points.ensures

@@ -50,13 +50,13 @@ array-read-slot-for : tie.Need-bounds-sites-site invariant-loop decreases-loop
 array-read-slot-for c = omega (arith, c.loop-i.invariant.1)
 
 slot-for-requires : tie.Need-slot_for-slot-requires invariant-loop decreases-loop
-slot-for-requires c κs = omega (arith, (fewer c.before.before).0)
+slot-for-requires c κs = omega (arith, (fewer c.before).0)
 
 mul-keys : tie.Need-offset_bounds-keys-slot invariant-loop decreases-loop
-mul-keys c = omega (arith, most c, (fewer c.before.before.before).1)
+mul-keys c = omega (arith, most c, (fewer c.before.before).1)
 
 slice-write-keys : tie.Need-bounds-keys-slot invariant-loop decreases-loop
-slice-write-keys c = omega (arith, most c, (fewer c.before.before.before).0)
+slice-write-keys c = omega (arith, most c, (fewer c.before.before).0)
 
 mul-sites : tie.Need-offset_bounds-sites-site-in-loop-i invariant-loop decreases-loop
 mul-sites c = omega arith
@@ -65,13 +65,13 @@ array-write-sites : tie.Need-bounds-sites-site-in-loop-i invariant-loop decrease
 array-write-sites c = omega (arith, c.loop-i.invariant.1)
 
 cast-link : tie.Need-overflow_cast-link invariant-loop decreases-loop
-cast-link c = omega (arith, most c, (fewer c.before.before.before).1)
+cast-link c = omega (arith, most c, (fewer c.before.before).1)
 
 slice-write-link : tie.Need-bounds-link-i invariant-loop decreases-loop
 slice-write-link c = omega (arith, c.loop-i.invariant.0.link_long, c.requires.1)
 
 with-slot-requires : tie.Need-with_slot-taken-requires invariant-loop decreases-loop
-with-slot-requires c κs = (most c, omega (arith, (fewer c.before.before.before).1))
+with-slot-requires c κs = (most c, omega (arith, (fewer c.before.before).1))
 
 add-i : tie.Need-overflow_add-i invariant-loop decreases-loop
 add-i c = omega arith
@@ -84,7 +84,7 @@ loop-again c =
     let at = c.before in
     let e = c.with_slot-taken.ensures in (
       joining-step at.loop-i.invariant.0 (omega arith) at.slot_for-slot.ensures
-          (omega (arith, most at, (fewer at.before.before.before).0))
+          (omega (arith, most at, (fewer at.before.before).0))
           (omega (arith, at.loop-i.invariant.0.link_long, at.requires.1)) e.0 e.1 e.2,
       length-set at.loop-i.sites (slot_key at.loop-i.keys at.loop-i.i % 251) at.slot_for-slot.result ∙ at.loop-i.invariant.1,
     )

@@ -38,7 +38,7 @@ abbrev tried : tie.After-slice_known-in-loop-taken-2-1 invariant-loop decreases-
 tried c = c.before.before.before.before
 
 abbrev st : Tested → tie.Start invariant-loop decreases-loop
-st c = (lp c).before.before.before.before
+st c = c.before.before.before.before.before.before.before.before.before
 
 abbrev p : Tested → ℕ
 p c = c.add_some-got.result.pixels
@@ -79,16 +79,16 @@ add-taken c = let a = tried c.before in omega (arith, inside a, st a)
 
 plus-requires : tie.Need-plus-sums-requires invariant-loop decreases-loop
 plus-requires c κs =
-    let a = tried c.before in
+    let a = tried c.before.before in
     steps_low (st a).requires (lp a).loop-taken.invariant.2 a.add_some-got.ensures (inside a)
 
 loop-less : tie.Need-loop-taken-smaller-then-next-room invariant-loop decreases-loop
 loop-less c =
-    let a = tried c.before.before in omega (arith, inside a, a.add_some-got.ensures.some)
+    let a = tried c.before.before.before in omega (arith, inside a, a.add_some-got.ensures.some)
 
 loop-again : tie.Need-loop-taken-preserved-then-next-room invariant-loop decreases-loop
 loop-again c =
-    let a = tried c.before.before in
+    let a = tried c.before.before.before in
     let i = (lp a).loop-taken.invariant in (
       inside a,
       (λ h. i.1 (turn a)),
