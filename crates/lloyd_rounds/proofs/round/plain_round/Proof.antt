@@ -35,7 +35,7 @@ table-ok c = sym c.bad_table.ensures ∙ c.if-bad_table.false
 count-ok : (c : tie.Else-bad_coordinates) → bad_coordinates (length (a c.before.before.before).coordinates) ≡ false
 count-ok c = sym c.bad_coordinates.ensures ∙ c.if-bad_coordinates.false
 
-centre-ok : (c : tie.Else-bad_centre) → bad_centre (a c.before.before.before.before.before.before).coordinates ≡ false
+centre-ok : (c : tie.Else-bad_centre) → bad_centre (a c.before.before.before.before.before).coordinates ≡ false
 centre-ok c = sym c.bad_centre.ensures ∙ c.if-bad_centre.false
 
 -- where the tests are made
@@ -45,8 +45,8 @@ tested c = c.before.before.before.before.before.before
 -- past all of them
 good : (c : tie.Else-members-used) → PlainGood (rec' (tested c)) (ks (tested c)) (ws (tested c)) (a (tested c))
 good c = record {
-  table = table-ok c.before.before.before.before.before.before;
-  count = count-ok c.before.before.before.before;
+  table = table-ok c.before.before.before.before.before;
+  count = count-ok c.before.before.before;
   centre = centre-ok c.before;
   room = le-ltb _ _ c.if-members-used.false;
 }
@@ -77,7 +77,7 @@ returns-2 c =
 
 bad-centre-requires : tie.Need-bad_centre-requires
 bad-centre-requires c κs =
-    let e = c.before in
+    let e = c in
     coordinates-at-most (length (a e.before.before.before).coordinates) (count-ok e)
 
 refused-requires-3 : tie.Need-refused-requires-then-bad_centre
@@ -88,7 +88,7 @@ same_length c = search rules
 
 returns-3 : tie.Need-returns-then-bad_centre
 returns-3 c =
-    let e = c.before.before.before.before in
+    let e = c.before.before.before in
     let t = e.before.before.before in
     plain-meets-refused (rec' t) (ks t) (ws t) (a t) BAD-CENTRE _
     (simp (table-ok e.before.before, count-ok e, sym c.bad_centre.ensures ∙ c.if-bad_centre.true))
@@ -103,7 +103,7 @@ same-length-2 c = search rules
 returns-4 : tie.Need-returns-then-members-used
 returns-4 c =
     let b = c.before.before in
-    let e = b.before.before.before in
+    let e = b.before.before in
     let t = e.before.before.before in
     plain-meets-refused (rec' t) (ks t) (ws t) (a t) SHORT-ROOM _
     (simp (table-ok e.before.before, count-ok e, centre-ok b, lt-ltb _ _ c.if-members-used.true)) c.refused-then-members-used.ensures

@@ -46,7 +46,7 @@ abbrev counted : tie.Else-bad_coordinates → tie.After-bad_table
 counted c = c.before.before.before
 
 abbrev tested : tie.Else-bad_centre → tie.After-bad_table
-tested c = counted c.before.before.before
+tested c = c.before.before.before.before.before.before
 
 -- past each test: it fails
 table-ok : (c : tie.Else-bad_table) → bad_table (rec' c.before) (ks c.before) (ws c.before) ≡ false

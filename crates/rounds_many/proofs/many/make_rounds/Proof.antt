@@ -70,7 +70,7 @@ next-step-requires c κs =
 mul-totals : tie.Need-offset_bounds-totals-r invariant-loop decreases-loop
 mul-totals c =
     let i = turn c.before.before.before.before.before in
-    omega (arith, i.good, i.requires.3, below i)
+    omega (arith, i.well_formed, i.requires.3, below i)
 
 slice-write-totals : tie.Need-bounds-totals-r invariant-loop decreases-loop
 slice-write-totals c =
@@ -79,13 +79,11 @@ slice-write-totals c =
 
 add-distances : tie.Need-overflow_add-distances invariant-loop decreases-loop
 add-distances c =
-    let n = c.before.before.before.before.before.before in
-    let i = turn n in
-    let p = i.requires.0.steppable in
+    let p = c.requires.0.steppable in
     omega (
       arith,
-      going-counted _ _ _ _ _ i.loop-r.invariant.0 i.loop-r-test.taken (fair-of-table p.table)
-          p.fit.shades.few i.requires.3 _ n.next_step-a.ensures.0.distances_is,
+      going-counted _ _ _ _ _ c.loop-r.invariant.0 c.loop-r-test.true (fair-of-table p.table)
+          p.fit.shades.few c.requires.3 _ c.next_step-a.ensures.0.distances_is,
     )
 
 add_r : tie.Need-overflow_add-r invariant-loop decreases-loop
@@ -103,7 +101,7 @@ loop-again c =
     let i = turn n in
     let e = n.next_step-a.ensures in
     let b = below i in (
-      going_next _ _ _ _ _ i.loop-r.invariant.0 i.loop-r-test.taken (omega (arith, i.requires.4)) e.0
+      going_next _ _ _ _ _ i.loop-r.invariant.0 i.loop-r-test.true (omega (arith, i.requires.4)) e.0
           c.bound-go.ensures,
       omega arith,
       omega arith,

@@ -4,10 +4,6 @@ use Rattle.rounds_step.proofs.Stepping.{move-asked, step-meets, step-sums}
 use Rattle.rounds_step.proofs.round.next_step.Statement.{statement}
 use Rattle.rounds_step.proofs.round.next_step.Tie as tie
 
--- the grouping, from the move
-abbrev regrouped : tie.After-move_shades-moved → tie.After-regroup-a
-regrouped c = c.before.before.before.before.before.before
-
 regroup-requires : tie.Need-regroup-a-requires
 regroup-requires c κs = search rules
 
@@ -26,12 +22,10 @@ same-length-3 c = search rules
 
 returns : tie.Need-returns
 returns c =
-    let m = c.before.before in
-    let g = regrouped m in
-    let p = g.requires.0.steppable in
-    let e = g.regroup-a.ensures in
-    let moved = m.move_shades-moved.ensures in (
-      step-meets p e.0 g.args.held g.args.leaps _ _ _ _ moved.0 moved.1 e.1,
+    let p = c.requires.0.steppable in
+    let e = c.regroup-a.ensures in
+    let moved = c.move_shades-moved.ensures in (
+      step-meets p e.0 c.args.held c.args.leaps _ _ _ _ moved.0 moved.1 e.1,
       step-sums p e.0,
     )
 

@@ -7,10 +7,6 @@ use Rattle.rounds_step.proofs.Stepping.{move-asked, step-meets, step-of-none-hel
 use Rattle.rounds_step.proofs.round.plain_step.Statement.{statement}
 use Rattle.rounds_step.proofs.round.plain_step.Tie as tie
 
--- the grouping, from the move
-abbrev grouped : tie.After-move_shades-moved → tie.After-group_plain-a
-grouped c = c.before.before.before.before.before
-
 group-plain-requires : tie.Need-group_plain-a-requires
 group-plain-requires c κs = search rules
 
@@ -26,11 +22,9 @@ same-length-2 c = search rules
 
 returns : tie.Need-returns
 returns c =
-    let m = c.before.before in
-    let g = grouped m in
-    let e = g.group_plain-a.ensures in
-    let moved = m.move_shades-moved.ensures in
-    step-of-none-held to_mean (step-meets g.requires e.0 0 false _ _ _ _ moved.0 moved.1 e.1)
+    let e = c.group_plain-a.ensures in
+    let moved = c.move_shades-moved.ensures in
+    step-of-none-held to_mean (step-meets c.requires e.0 0 false _ _ _ _ moved.0 moved.1 e.1)
 
 pub plain_step_spec : {M : Type 1} → statement M
 plain_step_spec =
