@@ -6,7 +6,7 @@ use Prim.Native.Nat.{ℕ, ◌/◌}
 use lib.ListN.{length}
 use borrow.Author.Tests.{lt-ltb, le-ltb}
 use borrow.Author.Rules.{rules}
-use Rattle.refusal.specs.{BAD-TABLE, BAD-COUNT, BAD-CENTRE, SHORT-ROOM, BAD-MEMBER}
+use Rattle.refusal.specs.{BAD_TABLE, BAD_COUNT, BAD_CENTRE, SHORT_ROOM, BAD_MEMBER}
 use Rattle.table_test.specs.{Record, bad_table}
 use Rattle.shades.specs.{bad_coordinates, bad_centre}
 use Rattle.shades.proofs.Checks.{coordinates-at-most}
@@ -67,7 +67,7 @@ refused-requires c κs = search rules
 returns : tie.Need-returns-then-bad_table
 returns c =
     let t = c.before.before in
-    short-meets-refused (rec' t) (ks t) (ws t) (a t) BAD-TABLE _ (simp (sym t.bad_table.ensures ∙ c.if-bad_table.true))
+    short-meets-refused (rec' t) (ks t) (ws t) (a t) BAD_TABLE _ (simp (sym t.bad_table.ensures ∙ c.if-bad_table.true))
     c.refused.ensures
 
 bad-coordinates-requires : tie.Need-bad_coordinates-requires
@@ -79,7 +79,7 @@ refused-requires-2 c κs = search rules
 returns-2 : tie.Need-returns-then-bad_coordinates
 returns-2 c =
     let t = c.before.before.before.before in
-    short-meets-refused (rec' t) (ks t) (ws t) (a t) BAD-COUNT _
+    short-meets-refused (rec' t) (ks t) (ws t) (a t) BAD_COUNT _
     (simp (table-ok c.before.before.before, sym c.bad_coordinates.ensures ∙ c.if-bad_coordinates.true)) c.refused-then-bad_coordinates.ensures
 
 bad-centre-requires : tie.Need-bad_centre-requires
@@ -97,7 +97,7 @@ returns-3 : tie.Need-returns-then-bad_centre
 returns-3 c =
     let e = c.before.before.before in
     let t = e.before.before.before in
-    short-meets-refused (rec' t) (ks t) (ws t) (a t) BAD-CENTRE _
+    short-meets-refused (rec' t) (ks t) (ws t) (a t) BAD_CENTRE _
     (simp (table-ok e.before.before, count-ok e, sym c.bad_centre.ensures ∙ c.if-bad_centre.true))
     c.refused-then-bad_centre.ensures
 
@@ -112,7 +112,7 @@ returns-4 c =
     let b = c.before.before in
     let e = b.before.before in
     let t = e.before.before.before in
-    short-meets-refused (rec' t) (ks t) (ws t) (a t) SHORT-ROOM _
+    short-meets-refused (rec' t) (ks t) (ws t) (a t) SHORT_ROOM _
     (simp (table-ok e.before.before, count-ok e, centre-ok b, lt-ltb _ _ c.if-members-used.true)) c.refused-then-members-used.ensures
 
 bad-member-requires : tie.Need-bad_member-requires
@@ -136,7 +136,7 @@ returns-5 c =
     let g = c.before.before.before in
     let t = tested g in
     let o = good g in
-    short-meets-refused (rec' t) (ks t) (ws t) (a t) BAD-MEMBER _
+    short-meets-refused (rec' t) (ks t) (ws t) (a t) BAD_MEMBER _
     (simp (o.table, o.count, o.centre, o.room, sym c.bad_member.ensures ∙ c.if-bad_member.true)) c.refused-then-bad_member.ensures
 
 short-step-requires : tie.Need-short_step-requires

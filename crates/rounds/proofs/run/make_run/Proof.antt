@@ -33,10 +33,10 @@ same-length-3 c = search rules
 
 returns : tie.Need-returns
 returns c = (
-      series-of-none-held (kind_of c.args.leaps)
-          (rw (c.mean_of-m.ensures.0 ∙ mean-of-record c.requires.1) at c.run_from.ensures.0),
-      c.run_from.ensures.1,
-    )
+  series-of-none-held (kind_of c.args.leaps)
+      (rw (c.mean_of-m.ensures.0 ∙ mean-of-record c.requires.1) at c.run_from.ensures.0),
+  c.run_from.ensures.1,
+)
 
 pub make_run_spec : {M : Type 1} → statement M
 make_run_spec =

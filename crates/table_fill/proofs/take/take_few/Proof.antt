@@ -44,10 +44,10 @@ inside c = omega (arith, one c, c.loop-taken-test.true)
 
 loop-holds : tie.Need-loop-taken-init invariant-loop decreases-loop
 loop-holds c = (
-      omega arith,
-      steps-start c.args.keys.now c.args.weights.now c.args.strip.now c.args.used c.args.room
-          c.args.end c.requires,
-    )
+  omega arith,
+  steps-start c.args.keys.now c.args.weights.now c.args.strip.now c.args.used c.args.room
+      c.args.end c.requires,
+)
 
 add-one-requires : tie.Need-add_one-got-requires invariant-loop decreases-loop
 add-one-requires c κs =

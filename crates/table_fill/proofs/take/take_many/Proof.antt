@@ -54,11 +54,11 @@ at_most c = omega (arith, c.smaller-most.ensures, c.add_some-got.ensures.within)
 
 loop-holds : tie.Need-loop-taken-init invariant-loop decreases-loop
 loop-holds c = (
-      omega arith,
-      (λ h. h),
-      steps-start c.args.keys.now c.args.weights.now c.args.strip.now c.args.used c.args.room
-          c.args.end c.requires,
-    )
+  omega arith,
+  (λ h. h),
+  steps-start c.args.keys.now c.args.weights.now c.args.strip.now c.args.used c.args.room
+      c.args.end c.requires,
+)
 
 sub-smaller : tie.Need-overflow_sub-end invariant-loop decreases-loop
 sub-smaller c = omega (arith, c.loop-taken-test.true)
