@@ -3,7 +3,7 @@
 // of two shades and one past them, which are nines before the call.
 #![tactic(auto)]
 
-use palette_groups::palette_from_groups_fixed as palette_from_groups;
+use palette_groups::palette_from_groups;
 use std::io;
 use table::Record;
 

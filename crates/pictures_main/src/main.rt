@@ -4,10 +4,8 @@
 // of palettes with twins, and those of pictures with comments.
 #![tactic(auto)]
 
-use mapping::Mapped;
-use p6::Picture;
 use std::io;
-use table::{Added, Record};
+use table::Record;
 
 // One number and a blank.
 fn field(rt: &impl Print, n: u64) -> io::Result<()> {
