@@ -115,7 +115,13 @@ pub fn kf_palette_from_groups_fixed(
     palette: &mut [u8],
 ) -> u32 {
     kohlenfloh::kf_palette_from_groups_fixed(
-        rec, keys, weights, coordinates, members, fixed, palette,
+        rec,
+        keys,
+        weights,
+        coordinates,
+        members,
+        fixed,
+        palette,
     )
 }
 

@@ -31,7 +31,13 @@ pub fn palette_from_groups_fixed(
     palette: &mut [u8],
 ) -> u8 {
     palette_groups::palette_from_groups_fixed(
-        rec, keys, weights, coordinates, members, fixed, palette,
+        rec,
+        keys,
+        weights,
+        coordinates,
+        members,
+        fixed,
+        palette,
     )
 }
 
