@@ -19,7 +19,7 @@ use Rattle.lloyd.specs.{plain_round, short_round, run_of, jancey_run}
 use Rattle.lloyd_stock.specs.{fixed_in, stock}
 use Rattle.lloyd_fixed.specs.{fixed_run}
 use Rattle.palette.specs.{PaletteMeets}
-use Rattle.palette_groups.specs.{channel_group, palette_from_groups}
+use Rattle.palette_groups.specs.{channel_group, palette_from_groups, palette_from_groups_fixed}
 use Rattle.palette_groups.proofs.Promises as groups
 use Rattle.palette_twins.specs.{no_twins, AreTwins, AllDiffer}
 use Rattle.mapping.specs.{twins_told, map_strip}
@@ -86,10 +86,16 @@ fixed-only s ks ws fixed k limit ms ts = arrays.run_only
 
 -- Of kf_palette_from_groups. That of kf_palette_from_shades is `palette-only` of palette: its contract is the one
 -- beneath.
-pub groups-only : (f : ℕ) (s ks ws cs ms d : List ℕ) {r r' : ℕ} {x x' : List ℕ}
-    → PaletteMeets (palette_from_groups f (record_in s) ks ws (state_of cs ms) d) r x
-    → PaletteMeets (palette_from_groups f (record_in s) ks ws (state_of cs ms) d) r' x' → (r ≡ r') × (x ≡ x')
-groups-only f s ks ws cs ms d = groups.groups-only f (record_in s) ks ws (state_of cs ms) d
+pub groups-only : (s ks ws cs ms d : List ℕ) {r r' : ℕ} {x x' : List ℕ}
+    → PaletteMeets (palette_from_groups (record_in s) ks ws (state_of cs ms) d) r x
+    → PaletteMeets (palette_from_groups (record_in s) ks ws (state_of cs ms) d) r' x' → (r ≡ r') × (x ≡ x')
+groups-only s ks ws cs ms d = groups.groups-only (record_in s) ks ws (state_of cs ms) d
+
+-- And of kf_palette_from_groups_fixed.
+pub groups-only-fixed : (f : ℕ) (s ks ws cs ms d : List ℕ) {r r' : ℕ} {x x' : List ℕ}
+    → PaletteMeets (palette_from_groups_fixed f (record_in s) ks ws (state_of cs ms) d) r x
+    → PaletteMeets (palette_from_groups_fixed f (record_in s) ks ws (state_of cs ms) d) r' x' → (r ≡ r') × (x ≡ x')
+groups-only-fixed f s ks ws cs ms d = groups.groups-only-fixed f (record_in s) ks ws (state_of cs ms) d
 
 -- Of kf_map_strip.
 pub map-only : (strip p d : List ℕ) (first : ℕ) {r r' : ℕ} {x x' s s' : List ℕ} {m m' : List Float}
@@ -157,9 +163,15 @@ pub fixed-refused : (rec : Record) (ks ws fixed : List ℕ) (k limit : ℕ) (ms 
 fixed-refused = refusing.fixed-refused
 
 -- A refused palette of groups leaves every byte as it came.
-pub groups-refused : (f : ℕ) (rec : Record) (ks ws : List ℕ) (a : State) (d : List ℕ) (n : Refusal) {x : List ℕ}
-    → PaletteMeets (palette_from_groups f rec ks ws a d) (number_of n) x → x ≡ d
-groups-refused f rec ks ws a d n h = h.palette_is ∙ groups.groups-refused-kept f rec ks ws a d n (sym h.answer)
+pub groups-refused : (rec : Record) (ks ws : List ℕ) (a : State) (d : List ℕ) (n : Refusal) {x : List ℕ}
+    → PaletteMeets (palette_from_groups rec ks ws a d) (number_of n) x → x ≡ d
+groups-refused rec ks ws a d n h = h.palette_is ∙ groups.groups-refused-kept rec ks ws a d n (sym h.answer)
+
+-- And one that is told how many are fixed.
+pub groups-refused-fixed : (f : ℕ) (rec : Record) (ks ws : List ℕ) (a : State) (d : List ℕ) (n : Refusal) {x : List ℕ}
+    → PaletteMeets (palette_from_groups_fixed f rec ks ws a d) (number_of n) x → x ≡ d
+groups-refused-fixed f rec ks ws a d n h =
+    h.palette_is ∙ groups.groups-refused-kept-fixed f rec ks ws a d n (sym h.answer)
 
 -- A refused mapping leaves zeros in answer and means, but for the twins told, and the index picture as it came.
 pub map-refused : (strip p d : List ℕ) (first : ℕ) (n : Refusal) {x s : List ℕ} {m : List Float}
@@ -216,9 +228,9 @@ module _ (s ks ws : List ℕ) (k limit : ℕ) (ms ts : List ℕ) {members totals
   group-bounded = runs.group-bounded s ks ws k limit ms ts h
 
   -- The palette of what it leaves: kf_palette_from_groups on the same table, the first 3k of the coordinates and the
-  -- members, with no shade fixed and three bytes for each shade.
+  -- members, with three bytes for each shade.
   module _ (d : List ℕ) {r : ℕ} {x : List ℕ} (room : 3 * k ≤ length d)
-      (p : PaletteMeets (palette_from_groups 0 (record_in s) ks ws (state_of (take (3 * k) shades) members) d) r x) where
+      (p : PaletteMeets (palette_from_groups (record_in s) ks ws (state_of (take (3 * k) shades) members) d) r x) where
     -- It is never refused.
     pub palette-accepted : r ≡ done
     palette-accepted = runs.palette-accepted s ks ws k limit ms ts h d room p
@@ -248,10 +260,10 @@ module _ (s ks ws : List ℕ) (k limit : ℕ) (ms ts : List ℕ) {members totals
       → shade_at shades q ≡ mean_of (group_at (colours_of (record_in s).used ks ws) (state_of shades members) q)
   jancey-settled-on-mean = runs.jancey-settled-on-mean s ks ws k limit ms ts h
 
-  -- kf_palette_from_groups on the same table, the first 3k of the coordinates and the members, with no shade fixed and
-  -- three bytes for each shade, is never refused.
+  -- kf_palette_from_groups on the same table, the first 3k of the coordinates and the members, with three bytes for
+  -- each shade, is never refused.
   pub jancey-palette-accepted : (d : List ℕ) {r : ℕ} {x : List ℕ} → 3 * k ≤ length d
-      → PaletteMeets (palette_from_groups 0 (record_in s) ks ws (state_of (take (3 * k) shades) members) d) r x → r ≡ done
+      → PaletteMeets (palette_from_groups (record_in s) ks ws (state_of (take (3 * k) shades) members) d) r x → r ≡ done
   jancey-palette-accepted = runs.jancey-palette-accepted s ks ws k limit ms ts h
 
 -- ---- what an accepted run with fixed shades leaves; the lent list is one of bytes
@@ -283,9 +295,9 @@ module _ (s ks ws fixed : List ℕ) (k limit : ℕ) (ms ts : List ℕ) {members 
       (group_cost (colours_of (record_in s).used ks ws) (state_of shades members) q)
   free-group-bounded = runs.free-group-bounded s ks ws fixed k limit ms ts h bytes
 
-  -- kf_palette_from_groups on the same table, the first 3k of the coordinates and the members, told how many shades are
+  -- kf_palette_from_groups_fixed on the same table, the first 3k of the coordinates and the members, told how many are
   -- fixed and lent three bytes for each shade, is never refused, and gives the fixed shades their own bytes.
   pub fixed-palette-is-own : (d : List ℕ) {r : ℕ} {x : List ℕ} → 3 * k ≤ length d
-      → PaletteMeets (palette_from_groups (fixed_in fixed) (record_in s) ks ws (state_of (take (3 * k) shades) members) d) r x
+      → PaletteMeets (palette_from_groups_fixed (fixed_in fixed) (record_in s) ks ws (state_of (take (3 * k) shades) members) d) r x
       → (r ≡ done) × ((i : ℕ) → i < length fixed → get_or x i 0 ≡ get_or fixed i 0)
   fixed-palette-is-own = runs.fixed-palette-is-own s ks ws fixed k limit ms ts h bytes

@@ -17,7 +17,7 @@ use Rattle.lloyd_stock.specs.{fixed_in, stock}
 use Rattle.lloyd_fixed.specs.{AcceptedFixed, fixed_run}
 use Rattle.lloyd_fixed.proofs.Promises as lloyd-fixed
 use Rattle.palette.specs.{PaletteMeets}
-use Rattle.palette_groups.specs.{channel_group, palette_from_groups}
+use Rattle.palette_groups.specs.{channel_group, palette_from_groups, palette_from_groups_fixed}
 use Rattle.palette_runs.proofs.Promises as palettes
 use Rattle.palette_runs.proofs.Promises.{run-palette-accepted, run-byte-is-nearest}
 use Rattle.arrays.specs.{record_in}
@@ -73,7 +73,7 @@ module _ (s ks ws : List ℕ) (k limit : ℕ) (ms ts : List ℕ) {members totals
   -- ---- its palette
 
   module _ (d : List ℕ) {r : ℕ} {x : List ℕ} (room : 3 * k ≤ length d)
-      (p : PaletteMeets (palette_from_groups 0 (record_in s) ks ws (state_of (take (3 * k) shades) members) d) r x) where
+      (p : PaletteMeets (palette_from_groups (record_in s) ks ws (state_of (take (3 * k) shades) members) d) r x) where
     -- it is not refused
     pub palette-accepted : r ≡ done
     palette-accepted = p.answer ∙ rw h.shades_are (run-palette-accepted accepted d room)
@@ -121,7 +121,7 @@ module _ (s ks ws : List ℕ) (k limit : ℕ) (ms ts : List ℕ) {members totals
 
   -- its palette is not refused
   pub jancey-palette-accepted : (d : List ℕ) {r : ℕ} {x : List ℕ} → 3 * k ≤ length d
-      → PaletteMeets (palette_from_groups 0 (record_in s) ks ws (state_of (take (3 * k) shades) members) d) r x → r ≡ done
+      → PaletteMeets (palette_from_groups (record_in s) ks ws (state_of (take (3 * k) shades) members) d) r x → r ≡ done
   jancey-palette-accepted d room p =
       p.answer ∙ rw h.shades_are (palettes.jancey-palette-accepted accepted-leaps d room)
 
@@ -172,7 +172,7 @@ module _ (s ks ws fixed : List ℕ) (k limit : ℕ) (ms ts : List ℕ) {members 
 
   -- its palette is not refused, and has the fixed shades' own bytes
   pub fixed-palette-is-own : (d : List ℕ) {r : ℕ} {x : List ℕ} → 3 * k ≤ length d
-      → PaletteMeets (palette_from_groups (fixed_in fixed) (record_in s) ks ws (state_of (take (3 * k) shades) members) d) r x
+      → PaletteMeets (palette_from_groups_fixed (fixed_in fixed) (record_in s) ks ws (state_of (take (3 * k) shades) members) d) r x
       → (r ≡ done) × ((i : ℕ) → i < length fixed → get_or x i 0 ≡ get_or fixed i 0)
   fixed-palette-is-own d room p = (
     p.answer ∙ rw h.shades_are (palettes.fixed-palette-accepted accepted-fixed bytes d room),

@@ -9,6 +9,8 @@
 //   kf_run_fixed            lloyd_fixed::run_fixed                refuses 2, 10, 4, 5, 6, 7
 //   kf_palette_from_shades  palette::palette_from_shades          refuses 4, 8, 7        picture.rt
 //   kf_palette_from_groups  palette_groups::palette_from_groups   refuses 2, 4, 8, 7, 9
+//   kf_palette_from_groups_fixed
+//                           palette_groups::palette_from_groups_fixed, the same
 //   kf_map_strip            mapping::map_strip                    refuses 1, 10, 18, 11, 7
 //   kf_read_picture         p6::read_picture                      refuses 12, 13, 14, 15
 // A call's name is kf_ and that of the call beneath it. Only numbers, slices (a pointer and a
@@ -25,5 +27,8 @@ mod picture;
 mod round;
 
 pub use add::kf_add_strip;
-pub use picture::{kf_map_strip, kf_palette_from_groups, kf_palette_from_shades, kf_read_picture};
+pub use picture::{
+    kf_map_strip, kf_palette_from_groups, kf_palette_from_groups_fixed, kf_palette_from_shades,
+    kf_read_picture,
+};
 pub use round::{kf_plain_round, kf_run, kf_run_fixed, kf_run_jancey, kf_short_round};

@@ -1,7 +1,7 @@
 // Palettes, index pictures and P6 pictures across the boundary.
 ghost use Rattle.method.specs.{state_of};
 ghost use Rattle.palette.specs.{PaletteMeets, palette_from_shades};
-ghost use Rattle.palette_groups.specs.{palette_from_groups};
+ghost use Rattle.palette_groups.specs.{palette_from_groups, palette_from_groups_fixed};
 ghost use Rattle.mapping.specs.{map_strip};
 ghost use Rattle.p6.specs.{read_picture};
 ghost use Rattle.arrays.specs.{record_in};
@@ -18,8 +18,7 @@ pub extern "C" fn kf_palette_from_shades(coordinates: &[u32], palette: &mut [u8]
     palette::palette_from_shades(coordinates, palette) as u32
 }
 
-// The palette of the groups that the members tell, the first `fixed` shades in their own levels:
-// palette_groups::palette_from_groups.
+// The palette of the groups that the members tell: palette_groups::palette_from_groups.
 // Refuses, in this order: 2 BAD TABLE, 4 BAD COUNT, 8 BAD CENTRE, 7 SHORT ROOM, 9 BAD MEMBER, with
 // the palette as it came.
 #[unsafe(no_mangle)]
@@ -29,17 +28,40 @@ pub extern "C" fn kf_palette_from_groups(
     weights: &[u32],
     coordinates: &[u32],
     members: &[u32],
-    fixed: usize,
     palette: &mut [u8],
 ) -> u32
     ensures { PaletteMeets
-        (palette_from_groups fixed (record_in rec.now) keys.now
+        (palette_from_groups (record_in rec.now) keys.now
         weights.now (state_of coordinates.now members.now)
         palette.old)
         result palette.new }
 {
     let table = arrays::record_in(rec);
-    palette_groups::palette_from_groups(
+    palette_groups::palette_from_groups(table, keys, weights, coordinates, members, palette) as u32
+}
+
+// The palette of the groups that the members tell, the first `fixed` shades in their own levels:
+// palette_groups::palette_from_groups_fixed.
+// Refuses, in this order: 2 BAD TABLE, 4 BAD COUNT, 8 BAD CENTRE, 7 SHORT ROOM, 9 BAD MEMBER, with
+// the palette as it came.
+#[unsafe(no_mangle)]
+pub extern "C" fn kf_palette_from_groups_fixed(
+    rec: &[u64; 5],
+    keys: &[u32],
+    weights: &[u32],
+    coordinates: &[u32],
+    members: &[u32],
+    fixed: usize,
+    palette: &mut [u8],
+) -> u32
+    ensures { PaletteMeets
+        (palette_from_groups_fixed fixed (record_in rec.now) keys.now
+        weights.now (state_of coordinates.now members.now)
+        palette.old)
+        result palette.new }
+{
+    let table = arrays::record_in(rec);
+    palette_groups::palette_from_groups_fixed(
         table,
         keys,
         weights,

@@ -104,7 +104,7 @@ module _ (p : List ℕ) (count : ℕ) (small : first_of (small_rows p) ≡ done)
   -- they are bytes
   pub entries-bytes : Bytes (entries_on p count)
   entries-bytes i =
-      let each = groups-bytes 0 (table_of p).answer.rec (table_of p).keys (table_of p).weights
+      let each = groups-bytes (table_of p).answer.rec (table_of p).keys (table_of p).weights
       (front_of count (left (run_on p count).answer (run_on p count).members)) (replicate most_coordinates 0)
       palette-accepted
       (λ j. omega (arith, zeros-at most_coordinates j)) in

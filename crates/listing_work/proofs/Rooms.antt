@@ -44,9 +44,9 @@ zeros-length = length-replicate {A = ℕ} most_listed 0
 
 -- the lent palette of groups stays as long
 pub palette-length : (rec : Record) (ks ws : List ℕ) (a : State) (d : List ℕ)
-    → length (palette_from_groups 0 rec ks ws a d).palette ≡ length d
+    → length (palette_from_groups rec ks ws a d).palette ≡ length d
 palette-length rec ks ws a d =
-    refuses-all (groups-refuses 0 rec ks ws a d) (λ o. length o.palette ≡ length d) (fill-length _ _ d) (λ n. refl)
+    refuses-all (groups-refuses rec ks ws a d) (λ o. length o.palette ≡ length d) (fill-length _ _ d) (λ n. refl)
 
 -- so that of a picture has three bytes for each of 64 shades
 pub picture-palette-length : (p : List ℕ) (count : ℕ) → length (palette_on p count).palette ≡ most_coordinates

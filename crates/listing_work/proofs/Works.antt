@@ -49,7 +49,7 @@ left-of-number rows made n e some = rw (e, ne_eqb n done some)
 module _ (raster : List ℕ) (rec : Record) (ks ws : List ℕ) (ran : Ran) (members : List ℕ) (count : ℕ) {r : ℕ}
     {m : Mapped} {p i : List ℕ}
     (made : PaletteMeets
-    (palette_from_groups 0 rec ks ws (state_of (take (3 * count) ran.shades) members) (replicate 192 0)) r p)
+    (palette_from_groups rec ks ws (state_of (take (3 * count) ran.shades) members) (replicate 192 0)) r p)
     (mapped : MapMeets (map_strip raster (take (3 * count) p) (replicate 8192 0) 0) m i) where
   -- the tests of the mapping
   abbrev tests : List Row

@@ -44,7 +44,7 @@ run_tests p count =
 
 -- the palette of a run on a table, by its last groups, zeros behind it
 abbrev pub palette_of_run : Record → List ℕ → List ℕ → Ran → List ℕ → ℕ → PaletteOutcome
-palette_of_run rec ks ws ran members count = run_palette 0 rec ks ws count ran members (replicate most_coordinates 0)
+palette_of_run rec ks ws ran members count = run_palette rec ks ws count ran members (replicate most_coordinates 0)
 
 -- that of the run on a picture
 abbrev pub palette_on : List ℕ → ℕ → PaletteOutcome

@@ -52,7 +52,7 @@ fn work_run(
     let shades = ran.shades;
     let n = 3 * count;
     let mut palette = [0u8; 192];
-    palette_from_groups(rec, keys, weights, &shades[..n], members, 0, &mut palette);
+    palette_from_groups(rec, keys, weights, &shades[..n], members, &mut palette);
     let mut index = [0u8; 8192];
     let mapped = mapping::map_strip(raster, &palette[..n], &mut index, 0);
     let number = mapped.refusal;

@@ -47,7 +47,7 @@ pub fn run_fixed(
     let mut base = [0u32; 192];
     lloyd_stock::lay_stock(fixed, &mut base);
     let mut shades = [0u32; 192];
-    let a = rounds::run_from(
+    let a = rounds::run_from_holding(
         keys,
         weights,
         rec.used,

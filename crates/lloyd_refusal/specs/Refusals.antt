@@ -15,4 +15,6 @@ run_rows rec ks ws k limit ms ts =
     row (bad_table rec ks ws) BAD_TABLE
     ∷ row (bad_count k) BAD_COUNT
     ∷ row (few_colours rec k) FEW_COLOURS
-    ∷ room_rows rec limit ms ts
+    ∷ row (bad_limit limit) BAD_LIMIT
+    ∷ row (short_members rec ms || short_totals limit ts) SHORT_ROOM
+    ∷ []

@@ -18,8 +18,8 @@ use Rattle.lloyd_tests.proofs.Checks.{bad-member-exactly}
 use Rattle.lloyd_tests.proofs.Tables.{tabled-of-test}
 use Rattle.palette.specs.{PaletteMeets, short_palette}
 use Rattle.palette_means.specs.{group_palette}
-use Rattle.palette_groups.specs.Outcomes.{group_rows, palette_from_groups}
-use Rattle.palette_groups.proofs.Meaning.{groups-refuses}
+use Rattle.palette_groups.specs.Fixed.{group_rows_fixed, palette_from_groups_fixed}
+use Rattle.palette_groups.proofs.MeaningFixed.{groups-refuses-fixed}
 
 module _ (f : ℕ) (rec : Record) (ks ws : List ℕ) (a : State) (d : List ℕ) where
   -- the tests of table, shades and rooms fail
@@ -32,10 +32,10 @@ module _ (f : ℕ) (rec : Record) (ks ws : List ℕ) (a : State) (d : List ℕ) 
     pub palette_room : short_palette a.coordinates d ≡ false
 
   -- a call that is refused leaves the bytes as they came
-  pub groups-meets-refused : (n : Refusal) → first_of (group_rows f rec ks ws a d) ≡ number_of n
-      → PaletteMeets (palette_from_groups f rec ks ws a d) (number_of n) d
+  pub groups-meets-refused : (n : Refusal) → first_of (group_rows_fixed f rec ks ws a d) ≡ number_of n
+      → PaletteMeets (palette_from_groups_fixed f rec ks ws a d) (number_of n) d
   groups-meets-refused n e =
-      rw ((groups-refuses f rec ks ws a d).by_refusal n e) (record { answer = refl; palette_is = refl })
+      rw ((groups-refuses-fixed f rec ks ws a d).by_refusal n e) (record { answer = refl; palette_is = refl })
 
   module _ (g : RoomsGood) where
     -- what the test of the members asks
@@ -48,11 +48,11 @@ module _ (f : ℕ) (rec : Record) (ks ws : List ℕ) (a : State) (d : List ℕ) 
     module _ (below : bad_member rec.used (length a.coordinates / 3) a.members ≡ false) where
       -- a call that passes all tests makes the palette
       pub groups-meets-made : (x : List ℕ) → x ≡ group_palette f rec.used ks ws a d
-          → PaletteMeets (palette_from_groups f rec ks ws a d) done x
+          → PaletteMeets (palette_from_groups_fixed f rec ks ws a d) done x
       groups-meets-made x is =
-          let none : first_of (group_rows f rec ks ws a d) ≡ done =
+          let none : first_of (group_rows_fixed f rec ks ws a d) ≡ done =
           simp (g.table, g.count, g.free, g.centre, g.members_room, g.palette_room, below) in
-          rw ((groups-refuses f rec ks ws a d).by_none none) (record { answer = refl; palette_is = is })
+          rw ((groups-refuses-fixed f rec ks ws a d).by_none none) (record { answer = refl; palette_is = is })
 
       -- what the fill asks: a table, one of 64 groups for each entry, whole shades of the grid, and room
       pub fill-asked : Tabled rec.used ks ws × Assigned rec.used a.members × OnGrid a.coordinates

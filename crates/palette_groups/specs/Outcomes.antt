@@ -15,7 +15,7 @@ use Rattle.refusal.specs.{
 use Rattle.table_test.specs.{Record, bad_table}
 use Rattle.shades.specs.{axis, bad_coordinates, bad_centre}
 use Rattle.method.specs.{State, level_colours, on, group_at}
-use Rattle.lloyd_tests.specs.{no_free, short_members, bad_member}
+use Rattle.lloyd_tests.specs.{short_members, bad_member}
 use Rattle.palette.specs.{PaletteOutcome, kept_palette, short_palette}
 use Rattle.palette_means.specs.{group_palette}
 
@@ -24,19 +24,15 @@ use Rattle.palette_means.specs.{group_palette}
 abbrev pub channel_group : Record → List ℕ → List ℕ → State → ℕ → ℕ → Group
 channel_group rec ks ws a q e = on (axis e) (group_at (level_colours rec.used ks ws) a q)
 
--- BAD COUNT: coordinates not 3 to 192 or not a multiple of 3, or, the first f of their shades fixed, none left free
-abbrev pub bad_group_count : ℕ → State → Bool
-bad_group_count f a = bad_coordinates (length a.coordinates) || no_free f (length a.coordinates / 3)
-
 -- SHORT ROOM: members fewer than the used entries, or palette bytes fewer than 3 for each shade
 abbrev pub short_rooms : Record → State → List ℕ → Bool
 short_rooms rec a palette = short_members rec a.members || short_palette a.coordinates palette
 
--- the order of a palette of groups, the first f shades fixed: 2, 4, 8, 7, 9
-abbrev pub group_rows : ℕ → Record → List ℕ → List ℕ → State → List ℕ → List Row
-group_rows f rec ks ws a palette =
+-- the order of a palette of groups: 2, 4, 8, 7, 9
+abbrev pub group_rows : Record → List ℕ → List ℕ → State → List ℕ → List Row
+group_rows rec ks ws a palette =
     row (bad_table rec ks ws) BAD_TABLE
-    ∷ row (bad_group_count f a) BAD_COUNT
+    ∷ row (bad_coordinates (length a.coordinates)) BAD_COUNT
     ∷ row (bad_centre a.coordinates) BAD_CENTRE
     ∷ row (short_rooms rec a palette) SHORT_ROOM
     ∷ row (bad_member rec.used (length a.coordinates / 3) a.members) BAD_MEMBER
@@ -49,7 +45,7 @@ made_by_groups f rec ks ws a palette = record {
   palette = group_palette f rec.used ks ws a palette;
 }
 
--- the whole outcome of a call, the first f shades fixed
-unfoldable pub palette_from_groups : ℕ → Record → List ℕ → List ℕ → State → List ℕ → PaletteOutcome
-palette_from_groups f rec ks ws a palette =
-    outcome_of (group_rows f rec ks ws a palette) (made_by_groups f rec ks ws a palette) (kept_palette palette)
+-- the whole outcome of a call: no shade is fixed
+unfoldable pub palette_from_groups : Record → List ℕ → List ℕ → State → List ℕ → PaletteOutcome
+palette_from_groups rec ks ws a palette =
+    outcome_of (group_rows rec ks ws a palette) (made_by_groups 0 rec ks ws a palette) (kept_palette palette)

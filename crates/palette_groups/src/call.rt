@@ -2,6 +2,7 @@
 ghost use Rattle.method.specs.{state_of};
 ghost use Rattle.palette.specs.{PaletteMeets};
 ghost use Rattle.palette_groups.specs.Outcomes.{palette_from_groups};
+ghost use Rattle.palette_groups.specs.Fixed.{palette_from_groups_fixed};
 
 use lloyd_tests::bad_member;
 use palette_means::fill_by_groups;
@@ -23,7 +24,7 @@ use table_test::Record;
 //   9 BAD MEMBER   a used entry's member is not below the count.
 // Answers 0 or the refusal's number. Palette bytes past the last shade's stay; a refusal leaves all
 // as they came.
-pub fn palette_from_groups(
+pub fn palette_from_groups_fixed(
     rec: Record,
     keys: &[u32],
     weights: &[u32],
@@ -33,7 +34,7 @@ pub fn palette_from_groups(
     palette: &mut [u8],
 ) -> u8
     ensures { PaletteMeets
-        (palette_from_groups fixed rec keys.now weights.now
+        (palette_from_groups_fixed fixed rec keys.now weights.now
         (state_of coordinates.now members.now) palette.old)
         result palette.new }
 {
@@ -62,4 +63,34 @@ pub fn palette_from_groups(
     }
     fill_by_groups(keys, weights, used, coordinates, members, fixed, palette);
     DONE
+}
+
+// The palette of the shades in `coordinates`, three bytes each: on each channel the level nearest
+// to the exact mean of the shade's group, a half going up; a shade with no group has the levels
+// that palette_from_shades gives it. The group of a shade has the used entries whose member is its
+// number; members past the used entries are not looked at. The count of shades is a third of the
+// coordinates lent.
+// Refuses, in this order:
+//   2 BAD TABLE    the record and the used entries are no table;
+//   4 BAD COUNT    the coordinates are not 3 to 192 or not a multiple of 3;
+//   8 BAD CENTRE   a coordinate is above 4080, also that of a shade with a group;
+//   7 SHORT ROOM   there are fewer members than used entries, or fewer palette bytes than 3 for
+//                  each shade;
+//   9 BAD MEMBER   a used entry's member is not below the count.
+// Answers 0 or the refusal's number. Palette bytes past the last shade's stay; a refusal leaves all
+// as they came.
+pub fn palette_from_groups(
+    rec: Record,
+    keys: &[u32],
+    weights: &[u32],
+    coordinates: &[u32],
+    members: &[u32],
+    palette: &mut [u8],
+) -> u8
+    ensures { PaletteMeets
+        (palette_from_groups rec keys.now weights.now
+        (state_of coordinates.now members.now) palette.old)
+        result palette.new }
+{
+    palette_from_groups_fixed(rec, keys, weights, coordinates, members, 0, palette)
 }

@@ -2,9 +2,10 @@
 // once; shades that are fixed keep their own levels.
 //
 // Calls; none requires anything of its caller
-//   palette_from_groups   the palette of the groups that the members tell.   call.rt
-//                         Refuses 2 BAD TABLE, 4 BAD COUNT, 8 BAD CENTRE, 7 SHORT ROOM,
-//                         9 BAD MEMBER, in this order.
+//   palette_from_groups         the palette of the groups that the members tell.   call.rt
+//                               Refuses 2 BAD TABLE, 4 BAD COUNT, 8 BAD CENTRE, 7 SHORT ROOM,
+//                               9 BAD MEMBER, in this order.
+//   palette_from_groups_fixed   the same where the first shades are fixed
 // A refusal answers its number and writes nothing. The tests stand in table_test, shades and
 // lloyd_tests; the work is done by the crate palette_means.
 //
@@ -14,4 +15,4 @@
 
 mod call;
 
-pub use call::palette_from_groups;
+pub use call::{palette_from_groups, palette_from_groups_fixed};

@@ -11,7 +11,7 @@ use Rattle.lloyd_refusal.specs.{run_rows}
 use Rattle.lloyd_rounds.specs.{plain_rows, short_rows}
 use Rattle.lloyd_fixed.specs.{fixed_rows}
 use Rattle.palette.specs.{palette_rows}
-use Rattle.palette_groups.specs.{group_rows}
+use Rattle.palette_groups.specs.{group_rows, group_rows_fixed}
 use Rattle.mapping.specs.{map_rows}
 use Rattle.p6.specs.{picture_rows}
 use Rattle.listing.specs.{listing_rows}
@@ -19,6 +19,7 @@ use Rattle.sheets.specs.{all_hold, example_at}
 use Rattle.sheets.proofs.Table.{each-of-all}
 use Rattle.scope.specs.Lines.{order_of}
 use Rattle.scope.specs.Table.{scope_table}
+use Rattle.scope.specs.Fixed.{scope_table_fixed}
 use Rattle.scope.proofs.Table as table
 
 -- Every line of the table comes out as the documents write it, by one test that is computed.
@@ -29,6 +30,14 @@ as_written = table.table-holds
 pub each-as-written : (i : ℕ) → i < length scope_table
     → (example_at scope_table i).computed ≡ (example_at scope_table i).written
 each-as-written = each-of-all scope_table as_written
+
+-- So do the lines of fixed shades.
+pub as-written-fixed : all_hold scope_table_fixed ≡ true
+as-written-fixed = table.table-holds-fixed
+
+pub each-as-written-fixed : (i : ℕ) → i < length scope_table_fixed
+    → (example_at scope_table_fixed i).computed ≡ (example_at scope_table_fixed i).written
+each-as-written-fixed = each-of-all scope_table_fixed as-written-fixed
 
 -- The orders of the refusals, on every input. Adding: 1, 2, 3.
 pub add-order : (rec : Record) (ks ws s : List ℕ) → order_of (add_rows rec ks ws s) ≡ 1 ∷ 2 ∷ 3 ∷ []
@@ -54,10 +63,15 @@ round-orders rec ks ws a = (refl, refl)
 pub palette-order : (s d : List ℕ) → order_of (palette_rows s d) ≡ 4 ∷ 8 ∷ 7 ∷ []
 palette-order s d = refl
 
--- Palette of groups, whatever the number of fixed shades: 2, 4, 8, 7, 9 (document 02).
-pub groups-order : (f : ℕ) (rec : Record) (ks ws : List ℕ) (a : State) (d : List ℕ)
-    → order_of (group_rows f rec ks ws a d) ≡ 2 ∷ 4 ∷ 8 ∷ 7 ∷ 9 ∷ []
-groups-order f rec ks ws a d = refl
+-- Palette of groups: 2, 4, 8, 7, 9 (document 02).
+pub groups-order : (rec : Record) (ks ws : List ℕ) (a : State) (d : List ℕ)
+    → order_of (group_rows rec ks ws a d) ≡ 2 ∷ 4 ∷ 8 ∷ 7 ∷ 9 ∷ []
+groups-order rec ks ws a d = refl
+
+-- The same with any number of shades fixed: 2, 4, 8, 7, 9 (document 02).
+pub groups-order-fixed : (f : ℕ) (rec : Record) (ks ws : List ℕ) (a : State) (d : List ℕ)
+    → order_of (group_rows_fixed f rec ks ws a d) ≡ 2 ∷ 4 ∷ 8 ∷ 7 ∷ 9 ∷ []
+groups-order-fixed f rec ks ws a d = refl
 
 -- Mapping: 1, 10, 18, 11, 7 (document 02, in place of 1, 10, 11, 7).
 pub map-order : (s p d : List ℕ) (a : ℕ) → order_of (map_rows s p d a) ≡ 1 ∷ 10 ∷ 18 ∷ 11 ∷ 7 ∷ []

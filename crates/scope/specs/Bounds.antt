@@ -7,9 +7,8 @@ use Rattle.table_test.specs.{Record, record_of, bad_table, room_of}
 use Rattle.shades.specs.{bad_coordinates, bad_centre}
 use Rattle.lloyd_tests.specs.{bad_count, few_colours, bad_limit, short_members, short_totals, bad_member}
 use Rattle.method.specs.{state_of}
-use Rattle.lloyd_stock.specs.{bad_fixed, bad_free, few_left}
 use Rattle.palette.specs.{bad_palette, short_palette}
-use Rattle.palette_groups.specs.{bad_group_count, short_rooms}
+use Rattle.palette_groups.specs.{short_rooms}
 use Rattle.palette_twins.specs.{twin_shade, twins_of}
 use Rattle.mapping.specs.{short_index}
 use Rattle.p6_header.specs.{Header, header_of, header_number, header_values}
@@ -95,24 +94,9 @@ bounds =
     ∷ lists (those bad_count (0 ∷ 1 ∷ 64 ∷ 65 ∷ [])) (0 ∷ 65 ∷ [])
     ∷ lists (those bad_coordinates (0 ∷ 1 ∷ 2 ∷ 3 ∷ 4 ∷ 5 ∷ 6 ∷ [])) (0 ∷ 1 ∷ 2 ∷ 4 ∷ 5 ∷ [])
     ∷ lists (those bad_coordinates (191 ∷ 192 ∷ 193 ∷ 195 ∷ [])) (191 ∷ 193 ∷ 195 ∷ [])
-    -- and of a palette of groups (document 02): by the shades fixed of 1, of 2 and of 64; by the coordinates, with 1
-    -- fixed
-    ∷ lists (those (λ f. bad_group_count f (state_of (zeros 3) [])) (0 ∷ 1 ∷ [])) (1 ∷ [])
-    ∷ lists (those (λ f. bad_group_count f (state_of (zeros 6) [])) (0 ∷ 1 ∷ 2 ∷ 3 ∷ [])) (2 ∷ 3 ∷ [])
-    ∷ lists (those (λ f. bad_group_count f (state_of (zeros 192) [])) (63 ∷ 64 ∷ 18446744073709551615 ∷ []))
-    (64 ∷ 18446744073709551615 ∷ [])
-    ∷ lists (those (λ n. bad_group_count 1 (state_of (zeros n) [])) (3 ∷ 5 ∷ 6 ∷ 192 ∷ 195 ∷ [])) (3 ∷ 5 ∷ 195 ∷ [])
-    -- and of a run with 2 fixed shades (document 02)
-    ∷ lists (those (bad_free (zeros 6)) (0 ∷ 1 ∷ 2 ∷ 3 ∷ 64 ∷ 65 ∷ [])) (0 ∷ 1 ∷ 2 ∷ 65 ∷ [])
     -- 5 FEW COLOURS, by the shades wanted of no, and of 2 used entries
     ∷ lists (those (few_colours (used_only 0)) (0 ∷ 1 ∷ [])) (1 ∷ [])
     ∷ lists (those (few_colours (used_only 2)) (1 ∷ 2 ∷ 3 ∷ [])) (3 ∷ [])
-    -- and with shades fixed (document 02), by the shades wanted of the colours 0 and 1: one fixed shade, which is colour 0;
-    -- the same twice; two that are neither; both
-    ∷ lists (those (few_left (used_only 2) (0 ∷ 1 ∷ []) (0 ∷ 0 ∷ 0 ∷ [])) (2 ∷ 3 ∷ [])) (3 ∷ [])
-    ∷ lists (those (few_left (used_only 2) (0 ∷ 1 ∷ []) (zeros 6)) (3 ∷ 4 ∷ [])) (4 ∷ [])
-    ∷ lists (those (few_left (used_only 2) (0 ∷ 1 ∷ []) (1 ∷ 0 ∷ 0 ∷ 0 ∷ 0 ∷ 2 ∷ [])) (3 ∷ 4 ∷ 5 ∷ [])) (5 ∷ [])
-    ∷ lists (those (few_left (used_only 2) (0 ∷ 1 ∷ []) (0 ∷ 0 ∷ 1 ∷ 0 ∷ 0 ∷ 0 ∷ [])) (2 ∷ 3 ∷ [])) (3 ∷ [])
     -- 6 BAD LIMIT
     ∷ lists (those bad_limit (0 ∷ 1 ∷ 200 ∷ 201 ∷ [])) (201 ∷ [])
     -- 7 SHORT ROOM: members for 2 used entries; totals for the limits 0, 1, 20 and 200; palette bytes for 2 shades;
@@ -133,8 +117,6 @@ bounds =
     ∷ lists (those (λ m. bad_member 1 2 (1 ∷ m ∷ [])) (0 ∷ 1 ∷ 2 ∷ [])) []
     -- 10 BAD PALETTE, by the bytes
     ∷ lists (those (λ n. bad_palette (zeros n)) (0 ∷ 3 ∷ 4 ∷ 192 ∷ 193 ∷ 195 ∷ [])) (0 ∷ 4 ∷ 193 ∷ 195 ∷ [])
-    -- and by those of a fixed list (document 02)
-    ∷ lists (those (λ n. bad_fixed (zeros n)) (0 ∷ 3 ∷ 4 ∷ 188 ∷ 189 ∷ 190 ∷ 192 ∷ [])) (0 ∷ 4 ∷ 188 ∷ 190 ∷ 192 ∷ [])
     -- 18 TWIN SHADE (document 02), by each level of the second of two entries
     ∷ lists (those (λ n. twin_shade (1 ∷ 2 ∷ 3 ∷ n ∷ 2 ∷ 3 ∷ [])) (0 ∷ 1 ∷ 2 ∷ [])) (1 ∷ [])
     ∷ lists (those (λ n. twin_shade (1 ∷ 2 ∷ 3 ∷ 1 ∷ n ∷ 3 ∷ [])) (1 ∷ 2 ∷ 3 ∷ [])) (2 ∷ [])

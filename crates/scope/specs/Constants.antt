@@ -19,7 +19,6 @@ use Rattle.table_entries.specs.{most_entries}
 use Rattle.shades.specs.{most_shades, most_coordinates}
 use Rattle.method.specs.{most_rounds, flat}
 use Rattle.lloyd_tests.specs.{usual_limit, limit_of}
-use Rattle.lloyd_stock.specs.{most_fixed}
 use Rattle.palette.specs.{level_of}
 use Rattle.grammar.specs.{is_digit, most_digits, blank, line_feed}
 use Rattle.p6_gap.specs.{is_white, hash, ends_comment}
@@ -61,8 +60,6 @@ constants =
     -- shades 1 to 64, coordinates to 192
     ∷ says most_shades 64
     ∷ says most_coordinates 192
-    -- at most 63 of them fixed (document 02), three bytes each
-    ∷ says most_fixed 189
     -- rounds to 200; a limit of 0 means 100 (document 02, in place of 20)
     ∷ says most_rounds 200
     ∷ says usual_limit 100

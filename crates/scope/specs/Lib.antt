@@ -12,6 +12,8 @@
 --   after_letters, after_width, around_depth   headers of 1 by 1 pixel with some bytes between their parts
 --   comments          headers with comments: what is read of each, or where it fails
 --   scope_table        the table of all of these
+--   constants_fixed, bounds_fixed   the most fixed shades, and each test that speaks of them at its boundary
+--   scope_table_fixed  the table of these
 --   order_of rows      the numbers of some rows, in their order
 pub mod Lines
 pub mod Refusals
@@ -19,9 +21,11 @@ pub mod Constants
 pub mod Bounds
 pub mod Comments
 pub mod Table
+pub mod Fixed
 unfoldable pub use Lines.{says, lists, those, order_of}
 unfoldable pub use Refusals.{refusals}
 unfoldable pub use Constants.{constants}
 unfoldable pub use Bounds.{zeros, bad_pair, used_only, headed, told, bounds}
 unfoldable pub use Comments.{after_letters, after_width, around_depth, comments}
 unfoldable pub use Table.{scope_table}
+unfoldable pub use Fixed.{constants_fixed, bounds_fixed, scope_table_fixed}

@@ -65,7 +65,7 @@ abbrev pub sheet_c : Example
 sheet_c = record {
   computed = palette_sheet (palette_from_shades (40 ∷ 0 ∷ 0 ∷ []) (replicate 4 9))
       ++ palette_sheet
-      (palette_from_groups 0 record_a keys_a weights_a (state_of (40 ∷ 0 ∷ 0 ∷ []) (0 ∷ 0 ∷ 8 ∷ [])) (replicate 4 9))
+      (palette_from_groups record_a keys_a weights_a (state_of (40 ∷ 0 ∷ 0 ∷ []) (0 ∷ 0 ∷ 8 ∷ [])) (replicate 4 9))
       ++ map_sheet (map_strip drawing palette_c (replicate 6 8) 1);
   written = (done ∷ [])
       ∷ (palette_c ++ 9 ∷ [])
@@ -144,7 +144,7 @@ sheet_h = record {
   computed = flat (mean_of (colours_of 2 keys_h weights_h))
       ∷ palette_sheet (palette_from_shades (168 ∷ 0 ∷ 0 ∷ []) (replicate 3 9))
       ++ palette_sheet
-      (palette_from_groups 0 record_h keys_h weights_h (state_of (168 ∷ 0 ∷ 0 ∷ []) (0 ∷ 0 ∷ [])) (replicate 3 9));
+      (palette_from_groups record_h keys_h weights_h (state_of (168 ∷ 0 ∷ 0 ∷ []) (0 ∷ 0 ∷ [])) (replicate 3 9));
   written = (168 ∷ 0 ∷ 0 ∷ [])
       ∷ (done ∷ [])
       ∷ (11 ∷ 0 ∷ 0 ∷ [])

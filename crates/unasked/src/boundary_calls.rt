@@ -99,10 +99,30 @@ pub fn kf_palette_from_groups(
     weights: &[u32],
     coordinates: &[u32],
     members: &[u32],
+    palette: &mut [u8],
+) -> u32 {
+    kohlenfloh::kf_palette_from_groups(rec, keys, weights, coordinates, members, palette)
+}
+
+// A palette of groups, the first shades fixed.
+pub fn kf_palette_from_groups_fixed(
+    rec: &[u64; 5],
+    keys: &[u32],
+    weights: &[u32],
+    coordinates: &[u32],
+    members: &[u32],
     fixed: usize,
     palette: &mut [u8],
 ) -> u32 {
-    kohlenfloh::kf_palette_from_groups(rec, keys, weights, coordinates, members, fixed, palette)
+    kohlenfloh::kf_palette_from_groups_fixed(
+        rec,
+        keys,
+        weights,
+        coordinates,
+        members,
+        fixed,
+        palette,
+    )
 }
 
 // Mapping a strip.

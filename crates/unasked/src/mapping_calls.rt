@@ -15,10 +15,30 @@ pub fn palette_from_groups(
     weights: &[u32],
     coordinates: &[u32],
     members: &[u32],
+    palette: &mut [u8],
+) -> u8 {
+    palette_groups::palette_from_groups(rec, keys, weights, coordinates, members, palette)
+}
+
+// A palette of groups, the first shades fixed.
+pub fn palette_from_groups_fixed(
+    rec: Record,
+    keys: &[u32],
+    weights: &[u32],
+    coordinates: &[u32],
+    members: &[u32],
     fixed: usize,
     palette: &mut [u8],
 ) -> u8 {
-    palette_groups::palette_from_groups(rec, keys, weights, coordinates, members, fixed, palette)
+    palette_groups::palette_from_groups_fixed(
+        rec,
+        keys,
+        weights,
+        coordinates,
+        members,
+        fixed,
+        palette,
+    )
 }
 
 // The test of a palette.

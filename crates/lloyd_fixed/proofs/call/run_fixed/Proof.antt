@@ -98,15 +98,15 @@ array-share-prefix-base c =
     let l = c.before in
     omega (arith, ap length l.lay_stock.ensures ∙ fill-length _ _ _, (fixed-most (asked l)).1)
 
-slice-aggregate-run-from : tie.Need-slice_bounds-run_from-end
+slice-aggregate-run-from : tie.Need-slice_bounds-run_from_holding-end
 slice-aggregate-run-from c =
     let l = c.before.before in
     sym (ap length (base-is l) ∙ stock-length l.args.fixed.now)
 
-slice-aggregate-run-from-2 : tie.Need-slice_bounds-run_from-end-2
+slice-aggregate-run-from-2 : tie.Need-slice_bounds-run_from_holding-end-2
 slice-aggregate-run-from-2 c = search rules
 
-run-from-requires : tie.Need-run_from-a-requires
+run-from-requires : tie.Need-run_from_holding-a-requires
 run-from-requires c κs =
     let l = c.before.before.before.before.before in
     let a = asked l in
@@ -137,8 +137,8 @@ returns-2 c =
     let a = asked l in
     let s = a.args in
     fixed-meets-made s.rec s.keys.now s.weights.now s.fixed.now s.count s.limit
-    s.members.now s.totals.now _ _ (base-is l) (limit_is a) _ _ _ _ _ _ _ (none a) c.run_from-a.ensures.0
-    c.run_from-a.ensures.1 refl
+    s.members.now s.totals.now _ _ (base-is l) (limit_is a) _ _ _ _ _ _ _ (none a) c.run_from_holding-a.ensures.0
+    c.run_from_holding-a.ensures.1 refl
 
 pub run_fixed_spec : {M : Type 1} → statement M
 run_fixed_spec =

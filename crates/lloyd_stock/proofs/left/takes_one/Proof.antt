@@ -27,7 +27,7 @@ has-equal-requires c κs = search rules
 
 returns : tie.Need-returns-then-stands
 returns c =
-    simp (sym (found c.before.before) ∙ c.if-stands.true) (ap not c.has-Equal.ensures)
+    simp (sym (found c.before.before) ∙ c.if-stands.true) (ap not c.has_equal.ensures)
 
 returns-2 : tie.Need-returns
 returns-2 c = simp (sym (found c.before) ∙ c.if-stands.false)

@@ -1,4 +1,4 @@
--- `palette_from_groups` meets its contract: each way out is a law of `Ways`, with what the tests before it said.
+-- `palette_from_groups_fixed` meets its contract: each way out is a law of `Ways`, with what the tests before it said.
 use Prim.Native.Nat.{ℕ, ◌/◌}
 use mathlib.Core.Bool.{false}
 use mathlib.Core.List.{List}
@@ -20,8 +20,8 @@ use Rattle.palette_groups.proofs.Ways.{
   members-asked,
   fill-asked,
 }
-use Rattle.palette_groups.proofs.call.palette_from_groups.Statement.{statement}
-use Rattle.palette_groups.proofs.call.palette_from_groups.Tie as tie
+use Rattle.palette_groups.proofs.call.palette_from_groups_fixed.Statement.{statement}
+use Rattle.palette_groups.proofs.call.palette_from_groups_fixed.Tie as tie
 
 abbrev f : tie.After-bad_table → ℕ
 f c = c.args.fixed
@@ -190,8 +190,8 @@ returns-8 c =
     groups-meets-made (f t) (rec' t) (ks t) (ws t) (a t) (d t) (rooms-ok g) (members-ok e) _
     c.fill_by_groups.ensures
 
-pub palette_from_groups_spec : {M : Type 1} → statement M
-palette_from_groups_spec =
+pub palette_from_groups_fixed_spec : {M : Type 1} → statement M
+palette_from_groups_fixed_spec =
     tie.close
     (tie.spec
     bad-table-requires

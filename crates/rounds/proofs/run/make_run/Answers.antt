@@ -1,0 +1,10 @@
+-- `make_run` meets its contract: the table's mean, read from the record's sums, is the only given shade.
+use Rattle.std.proofs.Common.{◌∙◌}
+use Rattle.rounds.proofs.Records.{mean-asked, mean-of-record}
+use Rattle.rounds.proofs.run.make_run.Goals as goal
+
+pub mean_of-m-requires : goal.mean_of-m-requires
+mean_of-m-requires c = mean-asked c.requires.1 c.requires.0.pixels
+
+pub returns-clause-series : goal.returns-clause-series
+returns-clause-series c = rw (c.mean_of-m.ensures.0 ∙ mean-of-record c.requires.1) at c.run_from.ensures.series
