@@ -316,8 +316,7 @@ fn low(x: u8) -> u8 { x }
         assert!(declared.file("upper/specs/Lib").unwrap().contains("meaning"));
         assert!(declared.file("upper/src/lib.rt").unwrap().contains("call"));
         assert!(declared.file("upper/specs/None").is_none());
-        let known =
-            ["meaning", "call", "inner", "upper", "upper::call", "upper::passed", "upper::one", "upper::two"];
+        let known = ["meaning", "call", "inner", "upper", "upper::call", "upper::passed", "upper::one", "upper::two"];
         assert!(known.iter().all(|name| declared.anywhere(name)));
         let unknown = ["run-law", "hidden", "lost", "unlisted", "upper::inner", "lower::call"];
         assert!(unknown.iter().all(|name| !declared.anywhere(name)));
