@@ -8,57 +8,56 @@
 
 ghost use Rattle.std.specs.Prelude.{◌≤◌};
 
-use libc::STDOUT_FILENO;
 use lloyd::Ran;
 use lloyd_fixed::run_fixed;
-use palette_groups::palette_from_groups;
+use palette_groups::palette_from_groups_fixed;
+use std::io;
 use table_test::Record;
 
 // One number and a blank.
-fn field(n: u64) {
-    io::print_decimal(STDOUT_FILENO, n);
-    io::write_all(STDOUT_FILENO, b" ");
+fn field(rt: &impl Print, n: u64) -> io::Result<()> {
+    print!(rt; "{n} ")
 }
 
 // Three coordinates or members.
-fn three(a: u32, b: u32, c: u32) {
-    field(a as u64);
-    field(b as u64);
-    field(c as u64);
+fn three(rt: &impl Print, a: u32, b: u32, c: u32) -> io::Result<()> {
+    field(rt, a as u64)?;
+    field(rt, b as u64)?;
+    field(rt, c as u64)
 }
 
 // The line of a run.
-fn show(a: Ran, members: &[u32; 6], totals: &[u64; 100]) {
+fn show(rt: &impl Print, a: Ran, members: &[u32; 6], totals: &[u64; 100]) -> io::Result<()> {
     let shades = a.shades;
-    field(a.refusal as u64);
-    field(a.rounds as u64);
+    field(rt, a.refusal as u64)?;
+    field(rt, a.rounds as u64)?;
     if a.settled {
-        field(1);
+        field(rt, 1)?;
     } else {
-        field(0);
+        field(rt, 0)?;
     }
-    field(a.distances);
-    field(a.total);
-    three(shades[0], shades[1], shades[2]);
-    three(shades[3], shades[4], shades[5]);
-    three(shades[6], shades[7], shades[8]);
-    three(shades[9], shades[10], shades[11]);
-    three(shades[189], shades[190], shades[191]);
-    three(members[0], members[1], members[2]);
-    three(members[3], members[4], members[5]);
-    field(totals[0]);
-    field(totals[1]);
-    field(totals[2]);
-    field(totals[3]);
-    field(totals[4]);
-    io::write_all(STDOUT_FILENO, b"\n");
+    field(rt, a.distances)?;
+    field(rt, a.total)?;
+    three(rt, shades[0], shades[1], shades[2])?;
+    three(rt, shades[3], shades[4], shades[5])?;
+    three(rt, shades[6], shades[7], shades[8])?;
+    three(rt, shades[9], shades[10], shades[11])?;
+    three(rt, shades[189], shades[190], shades[191])?;
+    three(rt, members[0], members[1], members[2])?;
+    three(rt, members[3], members[4], members[5])?;
+    field(rt, totals[0])?;
+    field(rt, totals[1])?;
+    field(rt, totals[2])?;
+    field(rt, totals[3])?;
+    field(rt, totals[4])?;
+    println!(rt)
 }
 
 // Three bytes.
-fn bytes(a: u8, b: u8, c: u8) {
-    field(a as u64);
-    field(b as u64);
-    field(c as u64);
+fn bytes(rt: &impl Print, a: u8, b: u8, c: u8) -> io::Result<()> {
+    field(rt, a as u64)?;
+    field(rt, b as u64)?;
+    field(rt, c as u64)
 }
 
 // The record of a table.
@@ -75,6 +74,7 @@ fn record(used: usize, pixels: u64, red: u64, green: u64, blue: u64) -> Record {
 // A run with the first members and totals lent, so many of each, and its line. Requires that there
 // are so many.
 fn show_lent(
+    rt: &impl Print,
     rec: Record,
     keys: &[u32; 6],
     weights: &[u32; 6],
@@ -83,7 +83,7 @@ fn show_lent(
     limit: usize,
     places: usize,
     rounds: usize,
-)
+) -> io::Result<()>
     requires { (places ≤ 6) × (rounds ≤ 100) }
 {
     let mut members = [7u32; 6];
@@ -98,32 +98,34 @@ fn show_lent(
         &mut members[..places],
         &mut totals[..rounds],
     );
-    show(a, &members, &totals);
+    show(rt, a, &members, &totals)
 }
 
 // The same with all of them lent.
 fn show_run(
+    rt: &impl Print,
     rec: Record,
     keys: &[u32; 6],
     weights: &[u32; 6],
     fixed: &[u8],
     count: usize,
     limit: usize,
-) {
-    show_lent(rec, keys, weights, fixed, count, limit, 6, 100);
+) -> io::Result<()> {
+    show_lent(rt, rec, keys, weights, fixed, count, limit, 6, 100)
 }
 
 // A palette of groups, told how many shades are fixed, and its line.
 fn show_palette(
+    rt: &impl Print,
     rec: Record,
     keys: &[u32; 6],
     weights: &[u32; 6],
     coordinates: &[u32],
     members: &[u32; 6],
     fixed: usize,
-) {
+) -> io::Result<()> {
     let mut palette = [9u8; 192];
-    let answer = palette_from_groups(
+    let answer = palette_from_groups_fixed(
         rec,
         keys,
         weights,
@@ -132,12 +134,12 @@ fn show_palette(
         fixed,
         &mut palette,
     );
-    field(answer as u64);
-    bytes(palette[0], palette[1], palette[2]);
-    bytes(palette[3], palette[4], palette[5]);
-    bytes(palette[6], palette[7], palette[8]);
-    bytes(palette[189], palette[190], palette[191]);
-    io::write_all(STDOUT_FILENO, b"\n");
+    field(rt, answer as u64)?;
+    bytes(rt, palette[0], palette[1], palette[2])?;
+    bytes(rt, palette[3], palette[4], palette[5])?;
+    bytes(rt, palette[6], palette[7], palette[8])?;
+    bytes(rt, palette[189], palette[190], palette[191])?;
+    println!(rt)
 }
 
 // Sheet A's table. A fixed shade that is its second colour: the first is left, just enough for a
@@ -147,19 +149,19 @@ fn show_palette(
 // colours: both are left, and there are more shades than colours.
 // Levels R 0, 10, 20: of two colours as far from the fixed shade the lower key begins a shade; and
 // a colour as far from both shades joins the fixed one.
-fn starts() {
+fn starts(rt: &impl Print) -> io::Result<()> {
     let rec = record(2, 4, 10, 0, 0);
     let keys = [0u32, 655360, 0, 0, 0, 0];
     let weights = [3u32, 1, 0, 0, 0, 0];
-    show_run(rec, &keys, &weights, &[10, 0, 0], 2, 0);
-    show_run(rec, &keys, &weights, &[4, 0, 0], 2, 0);
-    show_run(rec, &keys, &weights, &[10, 0, 1], 3, 0);
-    show_run(rec, &keys, &weights, &[10, 0, 0, 10, 0, 0], 3, 0);
-    show_run(rec, &keys, &weights, &[20, 0, 0, 30, 0, 0], 4, 0);
+    show_run(rt, rec, &keys, &weights, &[10, 0, 0], 2, 0)?;
+    show_run(rt, rec, &keys, &weights, &[4, 0, 0], 2, 0)?;
+    show_run(rt, rec, &keys, &weights, &[10, 0, 1], 3, 0)?;
+    show_run(rt, rec, &keys, &weights, &[10, 0, 0, 10, 0, 0], 3, 0)?;
+    show_run(rt, rec, &keys, &weights, &[20, 0, 0, 30, 0, 0], 4, 0)?;
     let reds = [0u32, 655360, 1310720, 0, 0, 0];
     let ones = [1u32, 1, 1, 0, 0, 0];
-    show_run(record(3, 3, 30, 0, 0), &reds, &ones, &[10, 0, 0], 2, 0);
-    show_run(record(3, 3, 30, 0, 0), &reds, &ones, &[0, 0, 0], 2, 0);
+    show_run(rt, record(3, 3, 30, 0, 0), &reds, &ones, &[10, 0, 0], 2, 0)?;
+    show_run(rt, record(3, 3, 30, 0, 0), &reds, &ones, &[0, 0, 0], 2, 0)
 }
 
 // Colours (2,2,5), (6,0,0), (7,0,0), (11,1,0), (16,2,5). Two fixed shades and two free ones, of
@@ -167,13 +169,13 @@ fn starts() {
 // the room that this asks for; then settled, in four rounds. The palette of these: the fixed shade
 // keeps its bytes, though the mean of its group is (2,2,5); the free one has the mean of its group,
 // in red 8 and 9/19 and so 8, where its 136 sixteenths would give 9.
-fn moves() {
+fn moves(rt: &impl Print) -> io::Result<()> {
     let rec = record(5, 25, 173, 20, 40);
     let keys = [131589u32, 393216, 458752, 721152, 1049093, 0];
     let weights = [6u32, 6, 7, 4, 2, 0];
     let stock = [1u8, 2, 0, 16, 2, 4];
-    show_run(rec, &keys, &weights, &stock, 4, 0);
-    show_lent(rec, &keys, &weights, &stock[..3], 2, 1, 5, 1);
+    show_run(rt, rec, &keys, &weights, &stock, 4, 0)?;
+    show_lent(rt, rec, &keys, &weights, &stock[..3], 2, 1, 5, 1)?;
     let mut members = [7u32; 6];
     let mut totals = [7u64; 100];
     let a = run_fixed(
@@ -186,15 +188,15 @@ fn moves() {
         &mut members,
         &mut totals,
     );
-    show(a, &members, &totals);
+    show(rt, a, &members, &totals)?;
     let all = a.shades;
     let shades = [all[0], all[1], all[2], all[3], all[4], all[5]];
-    show_palette(rec, &keys, &weights, &shades, &members, 1);
+    show_palette(rt, rec, &keys, &weights, &shades, &members, 1)
 }
 
 // Sheet A's table and 64 shades, of which 63 are fixed, all white and with no group: the free one
 // begins at the first colour and moves to the mean of both. Their palette.
-fn most_fixed() {
+fn most_fixed(rt: &impl Print) -> io::Result<()> {
     let rec = record(2, 4, 10, 0, 0);
     let keys = [0u32, 655360, 0, 0, 0, 0];
     let weights = [3u32, 1, 0, 0, 0, 0];
@@ -210,9 +212,9 @@ fn most_fixed() {
         &mut members,
         &mut totals,
     );
-    show(a, &members, &totals);
+    show(rt, a, &members, &totals)?;
     let shades = a.shades;
-    show_palette(rec, &keys, &weights, &shades, &members, 63);
+    show_palette(rt, rec, &keys, &weights, &shades, &members, 63)
 }
 
 // What is refused on sheet A's table, each fault with those that stand behind it: a record that is
@@ -220,39 +222,40 @@ fn most_fixed() {
 // 1 and 0 shades; one colour too few, where a fixed shade is a colour and two are free, and where
 // 63 are the only colour of a table and one is free; a limit of 201. Then rooms: one member for two
 // colours, 100 totals for a limit of 200, and 99 for a limit of 0.
-fn refused() {
+fn refused(rt: &impl Print) -> io::Result<()> {
     let rec = record(2, 4, 10, 0, 0);
     let keys = [0u32, 655360, 0, 0, 0, 0];
     let weights = [3u32, 1, 0, 0, 0, 0];
     let stock = [0u8; 192];
-    show_run(record(2, 4, 11, 0, 0), &keys, &weights, &[], 65, 201);
-    show_run(rec, &keys, &weights, &[], 65, 201);
-    show_run(rec, &keys, &weights, &stock[..4], 65, 201);
-    show_run(rec, &keys, &weights, &stock[..190], 65, 201);
-    show_run(rec, &keys, &weights, &stock[..191], 65, 201);
-    show_run(rec, &keys, &weights, &stock, 65, 201);
-    show_run(rec, &keys, &weights, &stock[..6], 65, 201);
-    show_run(rec, &keys, &weights, &stock[..6], 2, 201);
-    show_run(rec, &keys, &weights, &stock[..6], 1, 201);
-    show_run(rec, &keys, &weights, &stock[..6], 0, 201);
-    show_run(rec, &keys, &weights, &stock[..3], 3, 201);
+    show_run(rt, record(2, 4, 11, 0, 0), &keys, &weights, &[], 65, 201)?;
+    show_run(rt, rec, &keys, &weights, &[], 65, 201)?;
+    show_run(rt, rec, &keys, &weights, &stock[..4], 65, 201)?;
+    show_run(rt, rec, &keys, &weights, &stock[..190], 65, 201)?;
+    show_run(rt, rec, &keys, &weights, &stock[..191], 65, 201)?;
+    show_run(rt, rec, &keys, &weights, &stock, 65, 201)?;
+    show_run(rt, rec, &keys, &weights, &stock[..6], 65, 201)?;
+    show_run(rt, rec, &keys, &weights, &stock[..6], 2, 201)?;
+    show_run(rt, rec, &keys, &weights, &stock[..6], 1, 201)?;
+    show_run(rt, rec, &keys, &weights, &stock[..6], 0, 201)?;
+    show_run(rt, rec, &keys, &weights, &stock[..3], 3, 201)?;
     show_run(
+        rt,
         record(1, 3, 0, 0, 0),
         &keys,
         &weights,
         &stock[..189],
         64,
         201,
-    );
-    show_lent(rec, &keys, &weights, &stock[..3], 2, 201, 1, 0);
-    show_lent(rec, &keys, &weights, &stock[..3], 2, 100, 1, 100);
-    show_lent(rec, &keys, &weights, &stock[..3], 2, 200, 2, 100);
-    show_lent(rec, &keys, &weights, &stock[..3], 2, 0, 2, 99);
+    )?;
+    show_lent(rt, rec, &keys, &weights, &stock[..3], 2, 201, 1, 0)?;
+    show_lent(rt, rec, &keys, &weights, &stock[..3], 2, 100, 1, 100)?;
+    show_lent(rt, rec, &keys, &weights, &stock[..3], 2, 200, 2, 100)?;
+    show_lent(rt, rec, &keys, &weights, &stock[..3], 2, 0, 2, 99)
 }
 
-fn main() {
-    starts();
-    moves();
-    most_fixed();
-    refused();
+fn main(rt: HostRuntime) -> io::Result<()> {
+    starts(&rt)?;
+    moves(&rt)?;
+    most_fixed(&rt)?;
+    refused(&rt)
 }

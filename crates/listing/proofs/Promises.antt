@@ -8,7 +8,7 @@ use mathlib.Core.Logic.{◌↔◌, ◌⊎◌}
 use mathlib.Core.Path.{◌≡◌, sym, ◌∙◌}
 use lib.ListN.{length}
 use Rattle.number.specs.{sum}
-use Rattle.refusal.specs.{Refusal, number_of, done, first_of, Given, NoneHolds, BAD-COUNT, FEW-COLOURS, TWIN_SHADE}
+use Rattle.refusal.specs.{Refusal, number_of, done, first_of, Given, NoneHolds, BAD_COUNT, FEW_COLOURS, TWIN_SHADE}
 use Rattle.colour.specs.{Bytes}
 use Rattle.palette_twins.specs.{TwoEqual, AllDiffer}
 use Rattle.grammar.specs.{most_decimal}
@@ -125,7 +125,7 @@ adding-accepted = accepted.adding-accepted
 
 -- And a run on it is refused by the count or for want of colours alone.
 pub run-refusals : (p : List ℕ) → first_of (small_rows p) ≡ done → Bytes (raster_of p) → (count : ℕ) (n : Refusal)
-    → Given (run_tests p count) n → (n ≡ BAD-COUNT) ⊎ (n ≡ FEW-COLOURS)
+    → Given (run_tests p count) n → (n ≡ BAD_COUNT) ⊎ (n ≡ FEW_COLOURS)
 run-refusals = accepted.run-refusals
 
 -- Where that run is accepted, making the palette of its last groups is accepted.

@@ -5,7 +5,7 @@ use mathlib.Core.List.{List}
 use mathlib.Core.Path.{◌≡◌, sym, ap, ap₂, ◌∙◌}
 use lib.ListN.{length}
 use borrow.Author.Tests.{lt-ltb, le-ltb}
-use Rattle.refusal.specs.{number_of, done, first_of, BAD-COUNT, BAD-SIZE}
+use Rattle.refusal.specs.{number_of, done, first_of, BAD_COUNT, BAD_SIZE}
 use Rattle.refusal.proofs.Outcomes.{outcome-made, outcome-refused}
 use Rattle.listing_test.specs.{small_rows}
 use Rattle.listing_work.specs.{refused_work, work_picture}
@@ -16,14 +16,14 @@ use Rattle.listing.proofs.Fronts.{Line, line-good, count-is}
 
 module _ (s : List ℕ) where
   -- a malformed count line
-  pub input-bad-line : bad_line s ≡ true → refused_work (number_of BAD-COUNT) ≡ work_input s
+  pub input-bad-line : bad_line s ≡ true → refused_work (number_of BAD_COUNT) ≡ work_input s
   unfolding work_input
-  input-bad-line e = sym (outcome-refused (input_rows s) _ refused_work BAD-COUNT (rw e))
+  input-bad-line e = sym (outcome-refused (input_rows s) _ refused_work BAD_COUNT (rw e))
 
   -- an input that is too long
-  pub input-long : bad_line s ≡ false → most_input < length s → refused_work (number_of BAD-SIZE) ≡ work_input s
+  pub input-long : bad_line s ≡ false → most_input < length s → refused_work (number_of BAD_SIZE) ≡ work_input s
   unfolding work_input
-  input-long e long = sym (outcome-refused (input_rows s) _ refused_work BAD-SIZE (rw (e, lt-ltb _ _ long)))
+  input-long e long = sym (outcome-refused (input_rows s) _ refused_work BAD_SIZE (rw (e, lt-ltb _ _ long)))
 
 module _ {s : List ℕ} {value n : ℕ} (l : Line s value n) {p : List ℕ} {number : ℕ} (is : p ≡ picture_in s)
     (tested : number ≡ first_of (small_rows p)) where

@@ -3,59 +3,58 @@
 // 8,192 pixels and 8,193, 65,536 bytes and 65,537, headers with comments.
 #![tactic(auto)]
 
-use libc::STDOUT_FILENO;
-use listing::Listing;
+use std::io;
 
 // Prints the listing of an input.
-fn show(input: &[u8]) {
+fn show(rt: &impl Print, input: &[u8]) -> io::Result<()> {
     let l = listing::list_shades(input);
     let text = l.text;
     let length = l.length;
-    io::write_all(STDOUT_FILENO, &text[..length]);
+    rt.write_all(&text[..length])
 }
 
 // Count lines that are malformed, and counts that a run refuses: 4.
-fn bad_counts() {
-    show(b"");
-    show(b"1");
-    show(b"\nP6 1 1 255 abc");
-    show(b"100\nP6 1 1 255 abc");
-    show(b"1\r\nP6 1 1 255 abc");
-    show(b"0\nP6 1 1 255 abc");
-    show(b"65\nP6 1 1 255 abc");
+fn bad_counts(rt: &impl Print) -> io::Result<()> {
+    show(rt, b"")?;
+    show(rt, b"1")?;
+    show(rt, b"\nP6 1 1 255 abc")?;
+    show(rt, b"100\nP6 1 1 255 abc")?;
+    show(rt, b"1\r\nP6 1 1 255 abc")?;
+    show(rt, b"0\nP6 1 1 255 abc")?;
+    show(rt, b"65\nP6 1 1 255 abc")
 }
 
 // More shades than colours, 5; then a header, sizes, a depth and a raster that do not pass: 12, 13
 // twice, 13 before 14, 14, 15.
-fn bad_pictures() {
-    show(b"2\nP6 1 1 255 abc");
-    show(b"1\nP5 1 1 255 abc");
-    show(b"1\nP6 0 1 255 ");
-    show(b"1\nP6 8193 1 255 ");
-    show(b"1\nP6 91 91 254 ");
-    show(b"1\nP6 1 1 254 abc");
-    show(b"1\nP6 1 1 255 abcd");
+fn bad_pictures(rt: &impl Print) -> io::Result<()> {
+    show(rt, b"2\nP6 1 1 255 abc")?;
+    show(rt, b"1\nP5 1 1 255 abc")?;
+    show(rt, b"1\nP6 0 1 255 ")?;
+    show(rt, b"1\nP6 8193 1 255 ")?;
+    show(rt, b"1\nP6 91 91 254 ")?;
+    show(rt, b"1\nP6 1 1 254 abc")?;
+    show(rt, b"1\nP6 1 1 255 abcd")
 }
 
 // The scope's example; one shade, also with a leading zero in its count; two shades that settle in
 // the fourth round.
-fn accepted() {
-    show(b"2\nP6\n2 2\n255\n\0\0\0\0\0\0\0\0\0\n\0\0");
-    show(b"1\nP6 2 1 255 abcdef");
-    show(b"01\nP6\n1 2\n255\nabcdef");
-    show(b"2\nP6 5 1 255 abaaoksrtfkdtoo");
+fn accepted(rt: &impl Print) -> io::Result<()> {
+    show(rt, b"2\nP6\n2 2\n255\n\0\0\0\0\0\0\0\0\0\n\0\0")?;
+    show(rt, b"1\nP6 2 1 255 abcdef")?;
+    show(rt, b"01\nP6\n1 2\n255\nabcdef")?;
+    show(rt, b"2\nP6 5 1 255 abaaoksrtfkdtoo")
 }
 
 // The same drawings with comments in their headers, as drawing programs write them; and a comment
 // that never ends, 12.
-fn commented() {
-    show(b"2\nP6\n# drawn\n2 2\n255\n\0\0\0\0\0\0\0\0\0\n\0\0");
-    show(b"1\nP6#\r\n2#\n1 # depth\n255 abcdef");
-    show(b"1\nP6 2 1 # 255 abcdef");
+fn commented(rt: &impl Print) -> io::Result<()> {
+    show(rt, b"2\nP6\n# drawn\n2 2\n255\n\0\0\0\0\0\0\0\0\0\n\0\0")?;
+    show(rt, b"1\nP6#\r\n2#\n1 # depth\n255 abcdef")?;
+    show(rt, b"1\nP6 2 1 # 255 abcdef")
 }
 
 // A run that is not settled at 20 rounds: 80 colours on a line, six shades.
-fn not_settled() {
+fn not_settled(rt: &impl Print) -> io::Result<()> {
     let mut input = [0u8; 254];
     texts::put_word(&mut input, 0, b"6\nP6 80 1 255 ");
     texts::put_word(
@@ -78,11 +77,11 @@ fn not_settled() {
         206,
         b"!!k!!l!!m!!n!!q!!r!!u!!v!!w!!x!!y!!z!!{!!|!!}!!~",
     );
-    show(&input);
+    show(rt, &input)
 }
 
 // 64 shades of 64 colours.
-fn most_shades() {
+fn most_shades(rt: &impl Print) -> io::Result<()> {
     let mut input = [0u8; 207];
     texts::put_word(&mut input, 0, b"64\nP6 64 1 255 ");
     texts::put_word(
@@ -100,35 +99,35 @@ fn most_shades() {
         143,
         b"2043044045046047048049050051052053054055056057058059060061062063",
     );
-    show(&input);
+    show(rt, &input)
 }
 
 // 8,192 pixels of one colour: 24,592 bytes.
-fn most_pixels() {
+fn most_pixels(rt: &impl Print) -> io::Result<()> {
     let mut input = [7u8; 24592];
     texts::put_word(&mut input, 0, b"1\nP6 8192 1 255 ");
-    show(&input);
+    show(rt, &input)
 }
 
 // 65,536 bytes are not too long, so that the blanks after the count line are told: 12. One more is:
 // 13, but a malformed count line is told first: 4.
-fn most_bytes() {
+fn most_bytes(rt: &impl Print) -> io::Result<()> {
     let mut fits = [32u8; 65536];
     texts::put_word(&mut fits, 0, b"1\n");
-    show(&fits);
+    show(rt, &fits)?;
     let mut long = [32u8; 65537];
-    show(&long);
+    show(rt, &long)?;
     texts::put_word(&mut long, 0, b"1\n");
-    show(&long);
+    show(rt, &long)
 }
 
-fn main() {
-    bad_counts();
-    bad_pictures();
-    accepted();
-    not_settled();
-    most_shades();
-    most_pixels();
-    most_bytes();
-    commented();
+fn main(rt: HostRuntime) -> io::Result<()> {
+    bad_counts(&rt)?;
+    bad_pictures(&rt)?;
+    accepted(&rt)?;
+    not_settled(&rt)?;
+    most_shades(&rt)?;
+    most_pixels(&rt)?;
+    most_bytes(&rt)?;
+    commented(&rt)
 }

@@ -3,14 +3,14 @@
 // told from one that just fits.
 #![tactic(auto)]
 
-use libc::{STDIN_FILENO, STDOUT_FILENO};
-use listing::Listing;
+use std::io;
+use std::io::Read;
 
-fn main() {
-    let mut input = [0u8; 65537];
-    let n = io::read_full(STDIN_FILENO, &mut input);
-    let l = listing::list_shades(&input[..n]);
+fn main(rt: HostRuntime) -> io::Result<()> {
+    let mut input = Vec::new(rt.alloc());
+    rt.reader().take(65537).read_to_end(&mut input)?;
+    let l = listing::list_shades(&input);
     let text = l.text;
     let length = l.length;
-    io::write_all(STDOUT_FILENO, &text[..length]);
+    rt.write_all(&text[..length])
 }

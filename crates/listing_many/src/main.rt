@@ -3,10 +3,10 @@
 // scope in compare/ has made, and which tells every slip of a listing apart that it knows.
 #![tactic(auto)]
 
-ghost use Rattle.std.specs.Prelude.{◌+◌, ◌≤◌, ◌<◌, length};
+ghost use Rattle.std.specs.Prelude.{◌+◌, ◌≤◌, ◌<◌, length, IfOk};
 
-use libc::{STDIN_FILENO, STDOUT_FILENO};
-use listing::Listing;
+use std::io;
+use std::io::Read;
 
 // A digit's value.
 fn digit(b: u8) -> usize
@@ -29,38 +29,39 @@ fn number_at(input: &[u8], at: usize) -> usize
 
 // Lists the input that begins at `at`, and answers where the next one begins; the end where none
 // stands there whole.
-fn list_one(input: &[u8], at: usize) -> usize
+fn list_one(rt: &impl Print, input: &[u8], at: usize) -> io::Result<usize>
     requires { at < length input.now }
-    ensures { at < result }
+    ensures { IfOk result (λ next. at < next) }
 {
     let n = input.len();
     if n - at < 6 {
-        return n;
+        return Ok(n);
     }
     let first = at + 6;
     let bytes = number_at(input, at);
     if n - first < bytes {
-        return n;
+        return Ok(n);
     }
     let end = first + bytes;
     let l = listing::list_shades(&input[first..end]);
     let text = l.text;
     let length = l.length;
-    io::write_all(STDOUT_FILENO, &text[..length]);
-    end
+    rt.write_all(&text[..length])?;
+    Ok(end)
 }
 
 // Lists all inputs, from the first to the last.
-fn list_all(input: &[u8]) {
+fn list_all(rt: &impl Print, input: &[u8]) -> io::Result<()> {
     let n = input.len();
     let mut at = 0;
     while at < n {
-        at = list_one(input, at);
+        at = list_one(rt, input, at)?;
     }
+    Ok(())
 }
 
-fn main() {
-    let mut input = [0u8; 262144];
-    let n = io::read_full(STDIN_FILENO, &mut input);
-    list_all(&input[..n]);
+fn main(rt: HostRuntime) -> io::Result<()> {
+    let mut input = Vec::new(rt.alloc());
+    rt.reader().take(262144).read_to_end(&mut input)?;
+    list_all(&rt, &input)
 }

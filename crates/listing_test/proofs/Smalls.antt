@@ -7,7 +7,7 @@ use native.Mathlib.Omega.{arith}
 use lib.ListN.{length}
 use borrow.Author.Tests.{lt-ltb, le-ltb, ltb-false}
 use Rattle.number.proofs.Cases.{neither}
-use Rattle.refusal.specs.{number_of, done, first_of, BAD-HEADER, BAD-SIZE}
+use Rattle.refusal.specs.{number_of, done, first_of, BAD_HEADER, BAD_SIZE}
 use Rattle.refusal.proofs.Promises.{done-exactly}
 use Rattle.p6_header.specs.{header_of}
 use Rattle.p6_header.specs.declared.Header.TheVariants.{Read, Bad}
@@ -22,16 +22,16 @@ use Rattle.p6.proofs.Meaning.{picture-refuses, raster-length}
 use Rattle.listing_test.specs.Refusals.{most_listed, small_rows}
 
 -- a header that fails is BAD HEADER
-pub small-bad-header : (p : List ℕ) (at : ℕ) → header_of p ≡ Bad at → first_of (small_rows p) ≡ number_of BAD-HEADER
+pub small-bad-header : (p : List ℕ) (at : ℕ) → header_of p ≡ Bad at → first_of (small_rows p) ≡ number_of BAD_HEADER
 small-bad-header p at e = rw e
 
 module _ (p : List ℕ) (w h d n : ℕ) (e : header_of p ≡ Read w h d n) where
   -- a size out of range is BAD SIZE
-  pub small-bad-size : bad_size w h ≡ true → first_of (small_rows p) ≡ number_of BAD-SIZE
+  pub small-bad-size : bad_size w h ≡ true → first_of (small_rows p) ≡ number_of BAD_SIZE
   small-bad-size t = rw (e, t)
 
   -- and so are more than 8,192 pixels
-  pub small-over : bad_size w h ≡ false → most_listed < w * h → first_of (small_rows p) ≡ number_of BAD-SIZE
+  pub small-over : bad_size w h ≡ false → most_listed < w * h → first_of (small_rows p) ≡ number_of BAD_SIZE
   small-over t over = rw (e, t, lt-ltb most_listed (w * h) over)
 
   -- else it is as p6 answers

@@ -9,7 +9,7 @@ use lib.Dec.{eqb}
 use lib.ListN.{length, replicate}
 use borrow.Author.Tests.{lt-leb, le-ltb}
 use Rattle.number.specs.{sum}
-use Rattle.refusal.specs.{Refusal, done, first_of, Given, BAD-COUNT, FEW-COLOURS}
+use Rattle.refusal.specs.{Refusal, done, first_of, Given, BAD_COUNT, FEW_COLOURS}
 use Rattle.colour.specs.{Bytes, bad_strip, most_pixels}
 use Rattle.colour.proofs.Strips.{whole-exactly}
 use Rattle.table_entries.specs.{Entry, pixels_of, weight_of, stops, taken_of, strip_keys, put, with_taken}
@@ -109,7 +109,7 @@ module _ (p : List ℕ) (ok : first_of (small_rows p) ≡ done) where
         rw ((short-members-exactly (table_of p).answer.rec listed_zeros).1 (omega (arith, few-entries, zeros-length)))
 
     -- so a run on it is refused by the count or for want of colours alone
-    pub run-refusals : (n : Refusal) → Given (run_tests p count) n → (n ≡ BAD-COUNT) ⊎ (n ≡ FEW-COLOURS)
+    pub run-refusals : (n : Refusal) → Given (run_tests p count) n → (n ≡ BAD_COUNT) ⊎ (n ≡ FEW_COLOURS)
     run-refusals n (inl (t, e)) = never (sym t ∙ (bad-table-exactly _ _ _).1 table-good)
     run-refusals n (inr (f, inl (t, e))) = inl (sym e)
     run-refusals n (inr (f, inr (g, inl (t, e)))) = inr (sym e)

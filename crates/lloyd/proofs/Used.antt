@@ -7,7 +7,7 @@ use mathlib.Core.Path.{◌≡◌, ap, ap₂, fun_ext, ◌∙◌}
 use lib.Dec.{ltb}
 use lib.ListN.{get_or, length}
 use Rattle.number.specs.{sum, fill, first_that}
-use Rattle.refusal.specs.{row, done, BAD-TABLE, BAD-COUNT, FEW-COLOURS, BAD-LIMIT, SHORT-ROOM}
+use Rattle.refusal.specs.{row, done, BAD_TABLE, BAD_COUNT, FEW_COLOURS, BAD_LIMIT, SHORT_ROOM}
 use Rattle.refusal.proofs.Outcomes.{outcome-alike}
 use Rattle.colour.specs.{colour_of}
 use Rattle.table_test.specs.{Record, room_of, bad_table}
@@ -137,9 +137,9 @@ run-by-truth rule rec rec' ks ws k limit ms ts used truth = ap₂ (λ (bad : Boo
     -- the run on so many used entries, with a table that is bad or not
     judged : Bool → ℕ → RunOutcome
     judged bad n =
-        run_by (row bad BAD-TABLE
-        ∷ row (bad_count k) BAD-COUNT
-        ∷ row (ltb n k) FEW-COLOURS
-        ∷ row (bad_limit limit) BAD-LIMIT
-        ∷ row (ltb (length ms) n || short_totals limit ts) SHORT-ROOM
+        run_by (row bad BAD_TABLE
+        ∷ row (bad_count k) BAD_COUNT
+        ∷ row (ltb n k) FEW_COLOURS
+        ∷ row (bad_limit limit) BAD_LIMIT
+        ∷ row (ltb (length ms) n || short_totals limit ts) SHORT_ROOM
         ∷ []) rule (on_mean (colours_of n ks ws)) (colours_of n ks ws) k limit ms ts

@@ -10,12 +10,12 @@ use Rattle.refusal.specs.{
   row,
   done,
   first_of,
-  BAD-TABLE,
-  BAD-PALETTE,
-  BAD-COUNT,
-  FEW-COLOURS,
-  BAD-LIMIT,
-  SHORT-ROOM,
+  BAD_TABLE,
+  BAD_PALETTE,
+  BAD_COUNT,
+  FEW_COLOURS,
+  BAD_LIMIT,
+  SHORT_ROOM,
 }
 use Rattle.refusal.proofs.Outcomes.{outcome-alike}
 use Rattle.refusal.proofs.Promises.{done-exactly}
@@ -76,12 +76,12 @@ run-by-truth rec rec' ks ws fixed k limit ms ts used truth = ap₂ (λ (bad : Bo
     -- the run on so many used entries, with a table that is bad or not
     judged : Bool → ℕ → RunOutcome
     judged bad n =
-        run_by (row bad BAD-TABLE
-        ∷ row (bad_fixed fixed) BAD-PALETTE
-        ∷ row (bad_free fixed k) BAD-COUNT
-        ∷ row (ltb (colours_left n ks fixed) (k - fixed_in fixed)) FEW-COLOURS
-        ∷ row (bad_limit limit) BAD-LIMIT
-        ∷ row (ltb (length ms) n || short_totals limit ts) SHORT-ROOM
+        run_by (row bad BAD_TABLE
+        ∷ row (bad_fixed fixed) BAD_PALETTE
+        ∷ row (bad_free fixed k) BAD_COUNT
+        ∷ row (ltb (colours_left n ks fixed) (k - fixed_in fixed)) FEW_COLOURS
+        ∷ row (bad_limit limit) BAD_LIMIT
+        ∷ row (ltb (length ms) n || short_totals limit ts) SHORT_ROOM
         ∷ []) (fixed_rule fixed) (listed (stock fixed)) (colours_of n ks ws) k limit ms ts
 
 -- on tables with the same record and the same used entries it answers and leaves the same

@@ -7,7 +7,7 @@ use native.Mathlib.Omega.{arith}
 use lib.ListN.{length}
 use borrow.Author.Tests.{ltb-false}
 use Rattle.number.proofs.Cases.{neither}
-use Rattle.refusal.specs.{number_of, done, first_of, NoneHolds, Refuses, BAD-PALETTE}
+use Rattle.refusal.specs.{number_of, done, first_of, NoneHolds, Refuses, BAD_PALETTE}
 use Rattle.refusal.proofs.Promises.{done-exactly}
 use Rattle.table_test.specs.{Record, bad_table, GoodTable}
 use Rattle.table_test.proofs.Promises.{bad-table-exactly}
@@ -25,7 +25,7 @@ use Rattle.lloyd_fixed.specs.Outcomes.{fixed_rows, fixed_rule, fixed_start, fixe
 
 -- on a table an empty list is BAD PALETTE
 pub none-refused : (rec : Record) (ks ws : List ℕ) (k limit : ℕ) (ms ts : List ℕ) → bad_table rec ks ws ≡ false
-    → (fixed_run rec ks ws [] k limit ms ts).answer.refusal ≡ number_of BAD-PALETTE
+    → (fixed_run rec ks ws [] k limit ms ts).answer.refusal ≡ number_of BAD_PALETTE
 unfolding fixed_run
 none-refused rec ks ws k limit ms ts table = rw table
 

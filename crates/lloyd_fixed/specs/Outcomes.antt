@@ -1,6 +1,6 @@
 -- When a run with fixed shades is refused, and what it leaves on every input.
 use Rattle.std.specs.Prelude.{ℕ, List, ◌∷◌, ◌≡◌}
-use Rattle.refusal.specs.{Row, row, done, BAD-TABLE, BAD-PALETTE, BAD-COUNT, FEW-COLOURS}
+use Rattle.refusal.specs.{Row, row, done, BAD_TABLE, BAD_PALETTE, BAD_COUNT, FEW_COLOURS}
 use Rattle.table_test.specs.{Record, bad_table}
 use Rattle.method.specs.{Rule, State, colours_of, to_mean, holding, listed, begin_from}
 use Rattle.lloyd_refusal.specs.{room_rows}
@@ -10,10 +10,10 @@ use Rattle.lloyd_stock.specs.{fixed_in, stock, bad_fixed, bad_free, few_left}
 -- the order of a run with fixed shades: 2, 10, 4, 5, 6, 7
 abbrev pub fixed_rows : Record → List ℕ → List ℕ → List ℕ → ℕ → ℕ → List ℕ → List ℕ → List Row
 fixed_rows rec ks ws fixed k limit ms ts =
-    row (bad_table rec ks ws) BAD-TABLE
-    ∷ row (bad_fixed fixed) BAD-PALETTE
-    ∷ row (bad_free fixed k) BAD-COUNT
-    ∷ row (few_left rec ks fixed k) FEW-COLOURS
+    row (bad_table rec ks ws) BAD_TABLE
+    ∷ row (bad_fixed fixed) BAD_PALETTE
+    ∷ row (bad_free fixed k) BAD_COUNT
+    ∷ row (few_left rec ks fixed k) FEW_COLOURS
     ∷ room_rows rec limit ms ts
 
 -- fixed shades never move, and the others go to the mean

@@ -9,7 +9,7 @@ use borrow.Author.Tests.{le-ltb, lt-ltb}
 use borrow.Rule.Slice.PartMut.{mid_of, put_mid, mid_len}
 use Rattle.number.specs.{fill, fill_from}
 use Rattle.number.proofs.Parts.{stretch-filled}
-use Rattle.refusal.specs.{Refusal, SHORT-ROOM, number_of, done, first_of}
+use Rattle.refusal.specs.{Refusal, SHORT_ROOM, number_of, done, first_of}
 use Rattle.refusal.proofs.Outcomes.{outcome-made, outcome-refused}
 use Rattle.colour.specs.{Bytes, bad_strip, most_pixels}
 use Rattle.colour.proofs.Strips.{whole-exactly}
@@ -90,7 +90,7 @@ module _ (s p index : List ℕ) (first : ℕ) where
 
   -- a stretch that goes past the end is refused
   pub short-room : bad_strip s ≡ false → bad_palette p ≡ false → twin_shade p ≡ false → pixel_count s ≤ most_pixels
-      → length index < first + pixel_count s → first_of (map_rows s p index first) ≡ number_of SHORT-ROOM
+      → length index < first + pixel_count s → first_of (map_rows s p index first) ≡ number_of SHORT_ROOM
   short-room strip palette twins few past = simp (strip, palette, twins, le-ltb _ _ few, lt-ltb _ _ past)
 
   -- a call that passes all tests maps the strip

@@ -7,11 +7,11 @@ use Rattle.refusal.specs.{
   outcome_of,
   number_of,
   done,
-  BAD-STRIP,
-  BAD-PALETTE,
+  BAD_STRIP,
+  BAD_PALETTE,
   TWIN_SHADE,
-  MANY-PIXELS,
-  SHORT-ROOM,
+  MANY_PIXELS,
+  SHORT_ROOM,
 }
 use Rattle.colour.specs.{bad_strip, most_pixels}
 use Rattle.palette.specs.{bad_palette}
@@ -32,11 +32,11 @@ short_index strip index first = ltb (length index) (first + pixel_count strip)
 -- the order of a mapping: 1, 10, 18, 11, 7
 abbrev pub map_rows : List ℕ → List ℕ → List ℕ → ℕ → List Row
 map_rows strip palette index first =
-    row (bad_strip strip) BAD-STRIP
-    ∷ row (bad_palette palette) BAD-PALETTE
+    row (bad_strip strip) BAD_STRIP
+    ∷ row (bad_palette palette) BAD_PALETTE
     ∷ row (twin_shade palette) TWIN_SHADE
-    ∷ row (many_pixels strip) MANY-PIXELS
-    ∷ row (short_index strip index first) SHORT-ROOM
+    ∷ row (many_pixels strip) MANY_PIXELS
+    ∷ row (short_index strip index first) SHORT_ROOM
     ∷ []
 
 -- the answer, and the index picture at exit

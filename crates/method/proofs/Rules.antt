@@ -161,6 +161,11 @@ move-held f move q w s z h = rw (lt-ltb q f h)
 pub move-free : (f : ℕ) (move : Move) (q w s z : ℕ) → f ≤ q → holding_move f move q w s z ≡ move q w s z
 move-free f move q w s z h = rw (le-ltb q f h)
 
+-- with none held a rule on one coordinate is what it was
+pub holding-move-none : (move : Move) → holding_move 0 move ≡ move
+holding-move-none move =
+    fun_ext (λ q. fun_ext (λ w. fun_ext (λ s. fun_ext (λ z. move-free 0 move q w s z (omega arith)))))
+
 -- what a shade with a group does by Jancey's rule is the step, on each coordinate
 pub leap-to-steps : (q : ℕ) (G : Colours) (z : Point) → 0 < pixels_in G → (e : ℕ)
     → Leaps most_coordinate (pixels_in G) (axis e (sums_of G)) (axis e z) (axis e (leap_to q G z))

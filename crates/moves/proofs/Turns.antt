@@ -93,23 +93,28 @@ module _ (move : Move) (t s : List ℕ) (q : ℕ) where
         third,
       )
 
+  module _ {at : List ℕ} (e : at ≡ fill (3 * q) (goes move t s) s) where
+    -- so the shades that a turn leaves are those of one shade more
+    pub turn-shades : {left : List ℕ} → 3 * q + 2 < length s → left ≡ with_moved move t at q
+        → left ≡ fill (3 * (q + 1)) (goes move t s) s
+    turn-shades room is = is ∙ ap (λ a. with_moved move t a q) e ∙ moved_more room
+
+    -- and it counts the shade where it moves from the shades as they were
+    pub turn-counted : {r : ℕ} (moved : ℕ) → r ≡ cond (not (stays move t at q)) (moved + 1) moved
+        → r ≡ cond (not (stays move t s q)) (moved + 1) moved
+    turn-counted moved is =
+        is ∙ ap (λ (b : Bool). cond (not b) (moved + 1) moved) (ap (λ a. stays move t a q) e ∙ stays-still)
+
 module _ (f : ℕ) (move : Move) (t s : List ℕ) (q : ℕ) (free : f ≤ q) {at : List ℕ}
     (e : at ≡ fill (3 * q) (goes (holding_move f move) t s) s) where
-  -- so the shades that a turn leaves are those of one shade more
-  pub turn-shades : {left : List ℕ} → 3 * q + 2 < length s → left ≡ with_moved move t at q
+  -- and so where shades below this one are held
+  pub turn-shades-holding : {left : List ℕ} → 3 * q + 2 < length s → left ≡ with_moved move t at q
       → left ≡ fill (3 * (q + 1)) (goes (holding_move f move) t s) s
-  turn-shades room is =
-      is
-      ∙ free_moved f move t at q free
-      ∙ ap (λ a. with_moved (holding_move f move) t a q) e
-      ∙ moved_more (holding_move f move) t s q room
+  turn-shades-holding room is = turn-shades (holding_move f move) t s q e room (is ∙ free_moved f move t at q free)
 
-  -- and it counts the shade where it moves from the shades as they were
-  pub turn-counted : {r : ℕ} (moved : ℕ) → r ≡ cond (not (stays move t at q)) (moved + 1) moved
+  -- which counts this shade, as it is not held
+  pub turn-counted-holding : {r : ℕ} (moved : ℕ) → r ≡ cond (not (stays move t at q)) (moved + 1) moved
       → r ≡ cond (not (stays (holding_move f move) t s q)) (moved + 1) moved
-  turn-counted moved is =
-      is
-      ∙ ap (λ (b : Bool). cond (not b) (moved + 1) moved)
-      (free_stays f move t at q free
-      ∙ ap (λ a. stays (holding_move f move) t a q) e
-      ∙ stays-still (holding_move f move) t s q)
+  turn-counted-holding moved is =
+      turn-counted (holding_move f move) t s q e moved
+      (is ∙ ap (λ (b : Bool). cond (not b) (moved + 1) moved) (free_stays f move t at q free))

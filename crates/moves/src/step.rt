@@ -71,7 +71,7 @@ fn move_shade(sums: &[u64; 128], shades: &mut [u32], q: usize, leaps: bool, move
 // Moves the first `count` shades but the first `held`, past their means where they leap, and
 // answers how many of them that took elsewhere. Requires sums of a table's groups, and that the
 // shades are there, as many as are held at least.
-pub fn move_shades(
+pub fn move_shades_holding(
     sums: &[u64; 128],
     shades: &mut [u32],
     held: usize,
@@ -96,4 +96,18 @@ pub fn move_shades(
         q += 1;
     }
     moved
+}
+
+// Moves the first `count` shades, past their means where they leap, and answers how many of them
+// that took elsewhere. Requires sums of a table's groups, and that the shades are there.
+pub fn move_shades(sums: &[u64; 128], shades: &mut [u32], count: usize, leaps: bool) -> u32
+    requires { Measured sums.now × (count ≤ most_shades) × (3 * count ≤ length shades.old) }
+    ensures shades { shades.new
+        ≡ fill (3 * count) (goes (move_of leaps) sums.now shades.old)
+        shades.old }
+    ensures moved { result
+        ≡ how_many count
+        (λ q. not (stays (move_of leaps) sums.now shades.old q)) }
+{
+    move_shades_holding(sums, shades, 0, count, leaps)
 }

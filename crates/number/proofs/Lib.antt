@@ -8,6 +8,8 @@ pub mod ListSums
 pub mod Counts
 -- Counts of tests that agree, of places in a row, of all, of some, of all but one, of two, and by value.
 pub mod Tallies
+-- Values that all differ are no more than the numbers that they can be.
+pub mod Pigeonholes
 -- Laws of filled lists: length, what a place holds, one store more.
 pub mod Fills
 -- A part of a list: what its places hold, and a list filled part by part.

@@ -1,5 +1,5 @@
 -- What is shown of searches and of weighted groups: each theorem in full, under a sentence that says it.
--- The proofs stand in Searches, Costs, Means, Leaps and Fractions. W, S and Q are a group's pixel count,
+-- The proofs stand in Searches, Pigeonholes, Costs, Means, Leaps and Fractions. W, S and Q are a group's pixel count,
 -- its weighted sum of coordinates, and that of their squares.
 use mathlib.Core.Bool.{Bool}
 use mathlib.Core.Path.{◌≡◌}
@@ -10,6 +10,7 @@ use Rattle.number.specs.Search.{Best, least, most, first_that, First}
 use Rattle.number.specs.Square.{gap, sq}
 use Rattle.number.proofs.Searches as Searches
 use Rattle.number.proofs.Firsts as Firsts
+use Rattle.number.proofs.Pigeonholes as Pigeonholes
 use Rattle.number.proofs.Costs as Costs
 use Rattle.number.proofs.Means as Means
 use Rattle.number.proofs.Leaps as Leaping
@@ -45,6 +46,13 @@ first-that-is = Firsts.first-that
 -- There is one such place only.
 pub first-that-only : (n : ℕ) (b : ℕ → Bool) (m : ℕ) → First n b m → m ≡ first_that n b
 first-that-only = Firsts.first-that-only
+
+-- ---- values that differ
+
+-- n values below m that all differ are at most m.
+pub pigeonhole : (n : ℕ) (f : ℕ → ℕ) → ((i j : ℕ) → i < n → j < n → f i ≡ f j → i ≡ j)
+    → (m : ℕ) → ((i : ℕ) → i < n → f i < m) → n ≤ m
+pigeonhole = Pigeonholes.pigeonhole
 
 -- ---- what a whole shade costs
 

@@ -10,7 +10,7 @@ use lib.Dec.{eqb}
 use lib.ListN.{length, drop, length-append}
 use lib.Seq.{take-length, drop-append_seam}
 use borrow.Author.Tests.{eq-eqb, ne_eqb}
-use Rattle.refusal.specs.{number_of, done, BAD-HEADER}
+use Rattle.refusal.specs.{number_of, done, BAD_HEADER}
 use Rattle.grammar.specs.{byte_at}
 use Rattle.p6_gap.specs.{is_white, hash, Unended, replaced}
 use Rattle.p6_header.specs.{header_of, plain_header, HeaderIn, Between}
@@ -96,7 +96,7 @@ picture-plain s none = picture-by-header s ∙ ap (λ x. picture_by x (length s)
 
 -- it is BAD HEADER at the input's length
 pub unended-offset : (s : List ℕ) (at : ℕ) → Between s at → Unended s at
-    → ((read_picture s).refusal ≡ number_of BAD-HEADER) × ((read_picture s).offset ≡ length s)
+    → ((read_picture s).refusal ≡ number_of BAD_HEADER) × ((read_picture s).offset ≡ length s)
 unended-offset s at b u =
     let is = picture-bad-header s (length s) (unended-fails s at b u) in
     (ap (λ (p : Picture). p.refusal) is, ap (λ (p : Picture). p.offset) is)

@@ -6,7 +6,7 @@ use mathlib.Core.Logic.{inl, inr}
 use mathlib.Core.Path.{◌≡◌, refl, sym, ap}
 use native.Mathlib.Omega.{arith}
 use Rattle.number.proofs.Cases.{never}
-use Rattle.refusal.specs.{number_of, done, Given, BAD-HEADER}
+use Rattle.refusal.specs.{number_of, done, Given, BAD_HEADER}
 use Rattle.p6_header.specs.{
   Header,
   header_of,
@@ -32,7 +32,7 @@ failed-at (Read w h d n) e = never (sym e)
 failed-at (Bad at) e = refl
 
 -- BAD HEADER is the refusal of the first row alone
-bad-header-first : (s : List ℕ) → Given (picture_rows s) BAD-HEADER → is_bad (header_of s) ≡ true
+bad-header-first : (s : List ℕ) → Given (picture_rows s) BAD_HEADER → is_bad (header_of s) ≡ true
 bad-header-first s (inl (t, e)) = t
 bad-header-first s (inr (f, inl (t, e))) = absurd (let z = ap number_of e in omega arith)
 bad-header-first s (inr (f, inr (g, inl (t, e)))) = absurd (let z = ap number_of e in omega arith)
@@ -40,16 +40,16 @@ bad-header-first s (inr (f, inr (g, inr (h, inl (t, e))))) = absurd (let z = ap 
 bad-header-first s (inr (f, inr (g, inr (h, inr (i, none))))) = absurd none
 
 -- BAD HEADER carries the offset of the first byte that cannot stand there, or of the end
-pub bad-header-offset : (s : List ℕ) → (read_picture s).refusal ≡ number_of BAD-HEADER
+pub bad-header-offset : (s : List ℕ) → (read_picture s).refusal ≡ number_of BAD_HEADER
     → FirstWrong s (read_picture s).offset
 bad-header-offset s e =
-    let bad : is_bad (header_of s) ≡ true = bad-header-first s (((picture-refuses s).refused_exactly BAD-HEADER).0 e) in
+    let bad : is_bad (header_of s) ≡ true = bad-header-first s (((picture-refuses s).refused_exactly BAD_HEADER).0 e) in
     let at : header_of s ≡ Bad (offset_in (header_of s)) = failed-at (header_of s) bad in
-    rw ((picture-refuses s).refused_is BAD-HEADER e) ((header-fails-exactly s _).0 at)
+    rw ((picture-refuses s).refused_is BAD_HEADER e) ((header-fails-exactly s _).0 at)
 
 -- and is given wherever there is one
 pub bad-header-given : (s : List ℕ) (at : ℕ) → FirstWrong s at
-    → ((read_picture s).refusal ≡ number_of BAD-HEADER) × ((read_picture s).offset ≡ at)
+    → ((read_picture s).refusal ≡ number_of BAD_HEADER) × ((read_picture s).offset ≡ at)
 bad-header-given s at f =
     let is = picture-bad-header s at ((header-fails-exactly s at).1 f) in
     (ap (λ (p : Picture). p.refusal) is, ap (λ (p : Picture). p.offset) is)

@@ -6,7 +6,7 @@ use mathlib.Core.List.{List, [], ◌∷◌, ◌++◌}
 use mathlib.Core.Logic.{◌↔◌}
 use mathlib.Core.Path.{◌≡◌, sym, ◌∙◌}
 use lib.ListN.{length, drop}
-use Rattle.refusal.specs.{Refusal, number_of, done, Given, NoneHolds, BAD-HEADER}
+use Rattle.refusal.specs.{Refusal, number_of, done, Given, NoneHolds, BAD_HEADER}
 use Rattle.colour.specs.{most_pixels}
 use Rattle.grammar.specs.{byte_at}
 use Rattle.p6_gap.specs.{is_white, hash, Unended, replaced}
@@ -46,13 +46,13 @@ picture-accepted-exactly s = (meaning.picture-refuses s).accepted_exactly
 
 -- BAD HEADER carries the offset of the first byte that cannot stand there, or the input's length if it ends early: some
 -- header has the bytes before that place and goes on, and none has the byte at that place too.
-pub bad-header-offset : (s : List ℕ) → (read_picture s).refusal ≡ number_of BAD-HEADER
+pub bad-header-offset : (s : List ℕ) → (read_picture s).refusal ≡ number_of BAD_HEADER
     → FirstWrong s (read_picture s).offset
 bad-header-offset = headers.bad-header-offset
 
 -- Wherever an input has such a place, BAD HEADER is given with it.
 pub bad-header-given : (s : List ℕ) (at : ℕ) → FirstWrong s at
-    → ((read_picture s).refusal ≡ number_of BAD-HEADER) × ((read_picture s).offset ≡ at)
+    → ((read_picture s).refusal ≡ number_of BAD_HEADER) × ((read_picture s).offset ≡ at)
 bad-header-given = headers.bad-header-given
 
 -- The test of BAD SIZE fails exactly for sides of 1 to 16,384 and at most 16,777,216 pixels.
@@ -80,7 +80,7 @@ offset-zero = meaning.offset-zero
 -- Where a comment that may open, between two parts before the depth, never ends, BAD HEADER is given with the input's
 -- length.
 pub unended-offset : (s : List ℕ) (at : ℕ) → Between s at → Unended s at
-    → ((read_picture s).refusal ≡ number_of BAD-HEADER) × ((read_picture s).offset ≡ length s)
+    → ((read_picture s).refusal ≡ number_of BAD_HEADER) × ((read_picture s).offset ≡ length s)
 unended-offset = comments.unended-offset
 
 -- ---- comments in the header

@@ -10,10 +10,10 @@ use Rattle.refusal.specs.{
   Row,
   row,
   Refusal,
-  BAD-HEADER,
-  BAD-SIZE,
-  BAD-DEPTH,
-  BAD-RASTER,
+  BAD_HEADER,
+  BAD_SIZE,
+  BAD_DEPTH,
+  BAD_RASTER,
   number_of,
   done,
   first_of,
@@ -27,13 +27,13 @@ use Rattle.p6.proofs.Meaning.{picture-refuses}
 -- the rows after BAD HEADER, of a header's numbers and the count of raster bytes
 abbrev number_rows : ℕ → ℕ → ℕ → ℕ → List Row
 number_rows w h d bytes =
-    row (bad_size w h) BAD-SIZE ∷ row (bad_depth d) BAD-DEPTH ∷ row (bad_raster w h bytes) BAD-RASTER ∷ []
+    row (bad_size w h) BAD_SIZE ∷ row (bad_depth d) BAD_DEPTH ∷ row (bad_raster w h bytes) BAD_RASTER ∷ []
 
 module _ (s : List ℕ) where
   -- a header that fails is refused, with the place
-  pub picture-bad-header : (at : ℕ) → header_of s ≡ Bad at → read_picture s ≡ refused_picture (number_of BAD-HEADER) at
+  pub picture-bad-header : (at : ℕ) → header_of s ≡ Bad at → read_picture s ≡ refused_picture (number_of BAD_HEADER) at
   picture-bad-header at e =
-      (picture-refuses s).by_refusal BAD-HEADER (rw e) ∙ ap (λ h. refused_picture (number_of BAD-HEADER) (offset_in h)) e
+      (picture-refuses s).by_refusal BAD_HEADER (rw e) ∙ ap (λ h. refused_picture (number_of BAD_HEADER) (offset_in h)) e
 
   module _ (w h d n : ℕ) (e : header_of s ≡ Read w h d n) where
     -- past the header, the rows after it decide
@@ -47,18 +47,18 @@ module _ (s : List ℕ) where
         (picture-refuses s).by_refusal r (past-header ∙ f) ∙ ap (λ x. refused_picture (number_of r) (offset_in x)) e
 
     -- a size out of range is refused
-    pub picture-bad-size : bad_size w h ≡ true → read_picture s ≡ refused_picture (number_of BAD-SIZE) 0
-    picture-bad-size size = read-refused BAD-SIZE (rw size)
+    pub picture-bad-size : bad_size w h ≡ true → read_picture s ≡ refused_picture (number_of BAD_SIZE) 0
+    picture-bad-size size = read-refused BAD_SIZE (rw size)
 
     -- another depth than 255 is refused
     pub picture-bad-depth : bad_size w h ≡ false → bad_depth d ≡ true
-        → read_picture s ≡ refused_picture (number_of BAD-DEPTH) 0
-    picture-bad-depth size depth = read-refused BAD-DEPTH (rw (size, depth))
+        → read_picture s ≡ refused_picture (number_of BAD_DEPTH) 0
+    picture-bad-depth size depth = read-refused BAD_DEPTH (rw (size, depth))
 
     -- a raster of another length is refused
     pub picture-bad-raster : bad_size w h ≡ false → bad_depth d ≡ false → bad_raster w h (length s - n) ≡ true
-        → read_picture s ≡ refused_picture (number_of BAD-RASTER) 0
-    picture-bad-raster size depth raster = read-refused BAD-RASTER (rw (size, depth, raster))
+        → read_picture s ≡ refused_picture (number_of BAD_RASTER) 0
+    picture-bad-raster size depth raster = read-refused BAD_RASTER (rw (size, depth, raster))
 
     -- a picture that passes all tests is made
     pub picture-made : bad_size w h ≡ false → bad_depth d ≡ false → bad_raster w h (length s - n) ≡ false

@@ -1,6 +1,6 @@
 -- What reading a picture answers, and its raster, on every input.
 use Rattle.std.specs.Prelude.{ℕ, ◌-◌, Bool, cond, List, [], ◌≡◌, eqb, drop}
-use Rattle.refusal.specs.{number_of, done, outcome_of, BAD-HEADER, BAD-SIZE, BAD-DEPTH, BAD-RASTER}
+use Rattle.refusal.specs.{number_of, done, outcome_of, BAD_HEADER, BAD_SIZE, BAD_DEPTH, BAD_RASTER}
 use Rattle.p6_header.specs.{Header, header_of, offset_in}
 use Rattle.p6_header.specs.declared.Header.TheVariants.{Read, Bad}
 use Rattle.p6.specs.Refusals.{width_in, height_in, start_in, bad_size, bad_depth, bad_raster, picture_rows}
@@ -34,14 +34,14 @@ raster_of input = cond (eqb (read_picture input).refusal done) (drop (read_pictu
 -- the answer where a header is read, by what the tests of size, depth and raster say, its sides and the place after it
 abbrev pub tested_picture : Bool → Bool → Bool → ℕ → ℕ → ℕ → Picture
 tested_picture size depth raster width height start =
-    cond size (refused_picture (number_of BAD-SIZE) 0)
-    (cond depth (refused_picture (number_of BAD-DEPTH) 0)
-    (cond raster (refused_picture (number_of BAD-RASTER) 0)
+    cond size (refused_picture (number_of BAD_SIZE) 0)
+    (cond depth (refused_picture (number_of BAD_DEPTH) 0)
+    (cond raster (refused_picture (number_of BAD_RASTER) 0)
     (record { refusal = done; offset = 0; width = width; height = height; start = start })))
 
 -- the answer by a header, in front of an input of so many bytes
 abbrev pub picture_by : Header → ℕ → Picture
-picture_by (Bad at) bytes = refused_picture (number_of BAD-HEADER) at
+picture_by (Bad at) bytes = refused_picture (number_of BAD_HEADER) at
 picture_by (Read width height depth start) bytes =
     tested_picture (bad_size width height) (bad_depth depth) (bad_raster width height (bytes - start)) width height start
 

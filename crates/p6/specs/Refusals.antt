@@ -1,6 +1,6 @@
 -- When a picture is refused: one test a row of document 01's table, and the order of the rows.
 use Rattle.std.specs.Prelude.{ℕ, ◌-◌, ◌*◌, Bool, true, false, not, ◌||◌, List, [], ◌∷◌, ltb, eqb, length}
-use Rattle.refusal.specs.{Row, row, BAD-HEADER, BAD-SIZE, BAD-DEPTH, BAD-RASTER}
+use Rattle.refusal.specs.{Row, row, BAD_HEADER, BAD_SIZE, BAD_DEPTH, BAD_RASTER}
 use Rattle.colour.specs.{most_pixels}
 use Rattle.p6_header.specs.{Header, header_of}
 use Rattle.p6_header.specs.declared.Header.TheVariants.{Read, Bad}
@@ -66,8 +66,8 @@ bad_raster width height bytes = not (eqb bytes (3 * (width * height)))
 abbrev pub picture_rows : List ℕ → List Row
 picture_rows input =
     let header = header_of input in
-    row (bad_header input) BAD-HEADER
-    ∷ row (bad_size (width_in header) (height_in header)) BAD-SIZE
-    ∷ row (bad_depth (depth_in header)) BAD-DEPTH
-    ∷ row (bad_raster (width_in header) (height_in header) (length input - start_in header)) BAD-RASTER
+    row (bad_header input) BAD_HEADER
+    ∷ row (bad_size (width_in header) (height_in header)) BAD_SIZE
+    ∷ row (bad_depth (depth_in header)) BAD_DEPTH
+    ∷ row (bad_raster (width_in header) (height_in header) (length input - start_in header)) BAD_RASTER
     ∷ []

@@ -5,7 +5,7 @@ use mathlib.Core.Logic.{◌↔◌}
 use mathlib.Core.Path.{◌≡◌, ap, subst}
 use native.Mathlib.Omega.{arith}
 use lib.ListN.{get_or}
-use Rattle.refusal.specs.{number_of, done, BAD-HEADER}
+use Rattle.refusal.specs.{number_of, done, BAD_HEADER}
 use Rattle.grammar.specs.{Reading}
 use Rattle.grammar.specs.declared.Reading.TheVariants.{Number, Failed}
 use Rattle.p6_header.specs.Fields.{field_at, reading_number, reading_values, ReadingSays}
@@ -86,7 +86,7 @@ module _ (s : List ℕ) (a : ℕ) where
   field-says-read b value = through (says-reading (field_at s a) (Number value b)) (field-reads-exactly s a b value)
 
   -- and "failed" exactly where it fails
-  pub field-says-failed : (at : ℕ) → ReadingSays (field_at s a) (number_of BAD-HEADER) (at ∷ []) ↔ FieldFailed s a at
+  pub field-says-failed : (at : ℕ) → ReadingSays (field_at s a) (number_of BAD_HEADER) (at ∷ []) ↔ FieldFailed s a at
   field-says-failed at = through (says-reading (field_at s a) (Failed at)) (field-fails-exactly s a at)
 
 module _ (s : List ℕ) where
@@ -96,5 +96,5 @@ module _ (s : List ℕ) where
   header-says-read w h d n = through (says-header (header_of s) (Read w h d n)) (header-reads-exactly s w h d n)
 
   -- and "failed" exactly at the first wrong byte
-  pub header-says-failed : (at : ℕ) → HeaderSays (header_of s) (number_of BAD-HEADER) (at ∷ []) ↔ FirstWrong s at
+  pub header-says-failed : (at : ℕ) → HeaderSays (header_of s) (number_of BAD_HEADER) (at ∷ []) ↔ FirstWrong s at
   header-says-failed at = through (says-header (header_of s) (Bad at)) (header-fails-exactly s at)

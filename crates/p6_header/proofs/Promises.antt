@@ -5,7 +5,7 @@ use mathlib.Core.List.{List, [], ◌∷◌, ◌++◌}
 use mathlib.Core.Logic.{◌↔◌}
 use mathlib.Core.Path.{◌≡◌}
 use lib.ListN.{length, take}
-use Rattle.refusal.specs.{number_of, done, BAD-HEADER}
+use Rattle.refusal.specs.{number_of, done, BAD_HEADER}
 use Rattle.grammar.specs.{byte_at, Reading, Fronts, GoesOn}
 use Rattle.grammar.proofs.Promises as grammar
 use Rattle.p6_gap.specs.{is_white, hash, Unended, replaced}
@@ -34,7 +34,7 @@ field-reads-exactly = cases.field-says-read
 -- They fail, which is said by the number of BAD HEADER and the place, exactly at the first byte that is neither white
 -- nor `#` where one must be, or no digit where one must be, or at the input's length in a comment that never ends.
 pub field-fails-exactly : (s : List ℕ) (a at : ℕ)
-    → ReadingSays (field_at s a) (number_of BAD-HEADER) (at ∷ []) ↔ FieldFailed s a at
+    → ReadingSays (field_at s a) (number_of BAD_HEADER) (at ∷ []) ↔ FieldFailed s a at
 field-fails-exactly = cases.field-says-failed
 
 -- Number and values together tell the reading.
@@ -53,7 +53,7 @@ header-reads-exactly = cases.header-says-read
 -- or at the input's length if the input ends early: some header has all bytes before that place and goes on, and none
 -- has the byte at that place too.
 pub header-fails-exactly : (s : List ℕ) (at : ℕ)
-    → HeaderSays (header_of s) (number_of BAD-HEADER) (at ∷ []) ↔ FirstWrong s at
+    → HeaderSays (header_of s) (number_of BAD_HEADER) (at ∷ []) ↔ FirstWrong s at
 header-fails-exactly = cases.header-says-failed
 
 -- So of the first wrong byte: some header has all bytes before it and goes on.

@@ -1,6 +1,6 @@
 -- A field of a header: white bytes and comments, and a number after them.
 use Rattle.std.specs.Prelude.{ℕ, cond, List, [], ◌∷◌, ◌≡◌, eqb}
-use Rattle.refusal.specs.{number_of, done, BAD-HEADER}
+use Rattle.refusal.specs.{number_of, done, BAD_HEADER}
 use Rattle.grammar.specs.{number_at, Reading}
 use Rattle.grammar.specs.declared.Reading.TheVariants.{Number, Failed}
 use Rattle.p6_gap.specs.{gap_end}
@@ -20,7 +20,7 @@ field_at input at = number_behind input at (gap_end input at)
 -- its number in document 01: a reading that failed is BAD HEADER
 abbrev pub reading_number : Reading → ℕ
 reading_number (Number value next) = done
-reading_number (Failed at) = number_of BAD-HEADER
+reading_number (Failed at) = number_of BAD_HEADER
 
 -- its values: the number and where it ended, or the place it failed
 abbrev pub reading_values : Reading → List ℕ

@@ -1,7 +1,7 @@
 -- The header: "P6"; one or more white bytes and comments; width; the same; height; the same; depth; exactly one white
 -- byte.
 use Rattle.std.specs.Prelude.{ℕ, ◌+◌, cond, List, [], ◌∷◌, ◌≡◌, eqb}
-use Rattle.refusal.specs.{number_of, done, BAD-HEADER}
+use Rattle.refusal.specs.{number_of, done, BAD_HEADER}
 use Rattle.grammar.specs.{byte_at, Reading}
 use Rattle.grammar.specs.declared.Reading.TheVariants.{Number, Failed}
 use Rattle.p6_gap.specs.{is_white}
@@ -43,7 +43,7 @@ header_of input = header_by field_at input
 -- its number in document 01
 abbrev pub header_number : Header → ℕ
 header_number (Read width height depth start) = done
-header_number (Bad at) = number_of BAD-HEADER
+header_number (Bad at) = number_of BAD_HEADER
 
 -- its values: width, height, depth and the first place after the header, or the place it failed
 abbrev pub header_values : Header → List ℕ

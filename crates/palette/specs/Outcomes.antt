@@ -1,6 +1,6 @@
 -- When a palette is refused, and what the call leaves on every input.
 use Rattle.std.specs.Prelude.{ℕ, ◌*◌, ◌/◌, Bool, List, [], ◌∷◌, ◌≡◌, ltb, length}
-use Rattle.refusal.specs.{Row, row, outcome_of, done, BAD-COUNT, BAD-CENTRE, SHORT-ROOM}
+use Rattle.refusal.specs.{Row, row, outcome_of, done, BAD_COUNT, BAD_CENTRE, SHORT_ROOM}
 use Rattle.shades.specs.{bad_coordinates, bad_centre}
 use Rattle.palette.specs.Palettes.{palette_of}
 
@@ -15,9 +15,9 @@ short_palette coordinates palette = ltb (length palette) (3 * (length coordinate
 -- the order of a palette from shades: 4, 8, 7
 abbrev pub palette_rows : List ℕ → List ℕ → List Row
 palette_rows coordinates palette =
-    row (bad_coordinates (length coordinates)) BAD-COUNT
-    ∷ row (bad_centre coordinates) BAD-CENTRE
-    ∷ row (short_palette coordinates palette) SHORT-ROOM
+    row (bad_coordinates (length coordinates)) BAD_COUNT
+    ∷ row (bad_centre coordinates) BAD_CENTRE
+    ∷ row (short_palette coordinates palette) SHORT_ROOM
     ∷ []
 
 -- the answer, and the lent palette at exit

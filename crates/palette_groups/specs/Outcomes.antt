@@ -6,11 +6,11 @@ use Rattle.refusal.specs.{
   row,
   outcome_of,
   done,
-  BAD-TABLE,
-  BAD-COUNT,
-  BAD-CENTRE,
-  SHORT-ROOM,
-  BAD-MEMBER,
+  BAD_TABLE,
+  BAD_COUNT,
+  BAD_CENTRE,
+  SHORT_ROOM,
+  BAD_MEMBER,
 }
 use Rattle.table_test.specs.{Record, bad_table}
 use Rattle.shades.specs.{axis, bad_coordinates, bad_centre}
@@ -35,11 +35,11 @@ short_rooms rec a palette = short_members rec a.members || short_palette a.coord
 -- the order of a palette of groups, the first f shades fixed: 2, 4, 8, 7, 9
 abbrev pub group_rows : ℕ → Record → List ℕ → List ℕ → State → List ℕ → List Row
 group_rows f rec ks ws a palette =
-    row (bad_table rec ks ws) BAD-TABLE
-    ∷ row (bad_group_count f a) BAD-COUNT
-    ∷ row (bad_centre a.coordinates) BAD-CENTRE
-    ∷ row (short_rooms rec a palette) SHORT-ROOM
-    ∷ row (bad_member rec.used (length a.coordinates / 3) a.members) BAD-MEMBER
+    row (bad_table rec ks ws) BAD_TABLE
+    ∷ row (bad_group_count f a) BAD_COUNT
+    ∷ row (bad_centre a.coordinates) BAD_CENTRE
+    ∷ row (short_rooms rec a palette) SHORT_ROOM
+    ∷ row (bad_member rec.used (length a.coordinates / 3) a.members) BAD_MEMBER
     ∷ []
 
 -- where nothing is refused the palette is made; the first f shades are fixed

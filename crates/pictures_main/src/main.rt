@@ -4,46 +4,43 @@
 // of palettes with twins, and those of pictures with comments.
 #![tactic(auto)]
 
-use libc::STDOUT_FILENO;
-use mapping::Mapped;
-use p6::Picture;
-use table::{Added, Record};
+use std::io;
+use table::Record;
 
 // One number and a blank.
-fn field(n: u64) {
-    io::print_decimal(STDOUT_FILENO, n);
-    io::write_all(STDOUT_FILENO, b" ");
+fn field(rt: &impl Print, n: u64) -> io::Result<()> {
+    print!(rt; "{n} ")
 }
 
 // A key or a weight.
-fn place(n: u32) {
-    field(n as u64);
+fn place(rt: &impl Print, n: u32) -> io::Result<()> {
+    field(rt, n as u64)
 }
 
 // An index byte.
-fn byte(n: u8) {
-    field(n as u64);
+fn byte(rt: &impl Print, n: u8) -> io::Result<()> {
+    field(rt, n as u64)
 }
 
 // The end of a line.
-fn end_line() {
-    io::write_all(STDOUT_FILENO, b"\n");
+fn end_line(rt: &impl Print) -> io::Result<()> {
+    println!(rt)
 }
 
 // The line of a picture.
-fn show_picture(input: &[u8]) {
+fn show_picture(rt: &impl Print, input: &[u8]) -> io::Result<()> {
     let p = p6::read_picture(input);
-    field(p.refusal as u64);
-    field(p.offset as u64);
-    field(p.width as u64);
-    field(p.height as u64);
-    field(p.start as u64);
-    field(p6::raster_of(input).len() as u64);
-    end_line();
+    field(rt, p.refusal as u64)?;
+    field(rt, p.offset as u64)?;
+    field(rt, p.width as u64)?;
+    field(rt, p.height as u64)?;
+    field(rt, p.start as u64)?;
+    field(rt, p6::raster_of(input).len() as u64)?;
+    end_line(rt)
 }
 
 // The line of a table: refusal, pixels taken, used entries, and its keys and weights.
-fn show_table(input: &[u8]) {
+fn show_table(rt: &impl Print, input: &[u8]) -> io::Result<()> {
     let mut keys = [0u32; 2];
     let mut weights = [0u32; 2];
     let empty = Record {
@@ -55,70 +52,70 @@ fn show_table(input: &[u8]) {
     };
     let a = table::add_strip(empty, &mut keys, &mut weights, p6::raster_of(input));
     let rec = a.rec;
-    field(a.refusal as u64);
-    field(a.taken as u64);
-    field(rec.used as u64);
-    place(keys[0]);
-    place(keys[1]);
-    place(weights[0]);
-    place(weights[1]);
-    end_line();
+    field(rt, a.refusal as u64)?;
+    field(rt, a.taken as u64)?;
+    field(rt, rec.used as u64)?;
+    place(rt, keys[0])?;
+    place(rt, keys[1])?;
+    place(rt, weights[0])?;
+    place(rt, weights[1])?;
+    end_line(rt)
 }
 
 // The line of a mapping to the palette (3,0,0), (9,0,0): refusal, error, and the index bytes, of
 // which the first and the last are not in the stretch.
-fn show_mapping(input: &[u8]) {
+fn show_mapping(rt: &impl Print, input: &[u8]) -> io::Result<()> {
     let palette = [3u8, 0, 0, 9, 0, 0];
     let mut index = [7u8; 6];
     let m = mapping::map_strip(p6::raster_of(input), &palette, &mut index, 1);
-    field(m.refusal as u64);
-    field(m.error);
-    byte(index[0]);
-    byte(index[1]);
-    byte(index[2]);
-    byte(index[3]);
-    byte(index[4]);
-    byte(index[5]);
-    end_line();
+    field(rt, m.refusal as u64)?;
+    field(rt, m.error)?;
+    byte(rt, index[0])?;
+    byte(rt, index[1])?;
+    byte(rt, index[2])?;
+    byte(rt, index[3])?;
+    byte(rt, index[4])?;
+    byte(rt, index[5])?;
+    end_line(rt)
 }
 
 // The line of a mapping that may meet twins: refusal, their numbers, and the index bytes.
-fn show_twins(strip: &[u8], palette: &[u8]) {
+fn show_twins(rt: &impl Print, strip: &[u8], palette: &[u8]) -> io::Result<()> {
     let mut index = [7u8; 2];
     let m = mapping::map_strip(strip, palette, &mut index, 0);
     let twins = m.twins;
-    field(m.refusal as u64);
-    field(twins.lower as u64);
-    field(twins.higher as u64);
-    byte(index[0]);
-    byte(index[1]);
-    end_line();
+    field(rt, m.refusal as u64)?;
+    field(rt, twins.lower as u64)?;
+    field(rt, twins.higher as u64)?;
+    byte(rt, index[0])?;
+    byte(rt, index[1])?;
+    end_line(rt)
 }
 
 // A pixel mapped to entries that all differ, at a tie to the lower number; neighbours, the first
 // and the last, two pairs, three equal entries, and a strip of no pixels. Entries that differ in
 // one channel are no twins.
-fn small_palettes() {
-    show_twins(b"aaa", b"ccc___zzz");
-    show_twins(b"aaa", b"aaabbbbbbccc");
-    show_twins(b"aaa", b"aaabbbcccaaa");
-    show_twins(b"aaa", b"aaabbbbbbaaa");
-    show_twins(b"aaa", b"abcaaaabcabc");
-    show_twins(b"", b"aaaaaa");
-    show_twins(b"aab", b"aaaaabababaa");
+fn small_palettes(rt: &impl Print) -> io::Result<()> {
+    show_twins(rt, b"aaa", b"ccc___zzz")?;
+    show_twins(rt, b"aaa", b"aaabbbbbbccc")?;
+    show_twins(rt, b"aaa", b"aaabbbcccaaa")?;
+    show_twins(rt, b"aaa", b"aaabbbbbbaaa")?;
+    show_twins(rt, b"aaa", b"abcaaaabcabc")?;
+    show_twins(rt, b"", b"aaaaaa")?;
+    show_twins(rt, b"aab", b"aaaaabababaa")
 }
 
 // Twins with what is tested before them, a bad strip and a bad palette, and with what is tested
 // behind them, a room that is short; and that room with entries that differ.
-fn twins_and_others() {
-    show_twins(b"aaaa", b"aaaaaa");
-    show_twins(b"aaa", b"aaaaaaa");
-    show_twins(b"aaabbbccc", b"aaaaaa");
-    show_twins(b"aaabbbccc", b"aaabbb");
+fn twins_and_others(rt: &impl Print) -> io::Result<()> {
+    show_twins(rt, b"aaaa", b"aaaaaa")?;
+    show_twins(rt, b"aaa", b"aaaaaaa")?;
+    show_twins(rt, b"aaabbbccc", b"aaaaaa")?;
+    show_twins(rt, b"aaabbbccc", b"aaabbb")
 }
 
 // 64 entries that all differ; then the last is the first, and then the one before it the second.
-fn most_entries() {
+fn most_entries(rt: &impl Print) -> io::Result<()> {
     let mut palette = [b'0'; 192];
     texts::put_word(
         &mut palette,
@@ -140,69 +137,69 @@ fn most_entries() {
         144,
         b"060061062063064065066067070071072073074075076077",
     );
-    show_twins(b"077000", &palette);
+    show_twins(rt, b"077000", &palette)?;
     texts::put_word(&mut palette, 189, b"000");
-    show_twins(b"077000", &palette);
+    show_twins(rt, b"077000", &palette)?;
     texts::put_word(&mut palette, 186, b"001");
-    show_twins(b"077000", &palette);
+    show_twins(rt, b"077000", &palette)
 }
 
 // Inputs that end early, go wrong, or have a size, a depth or a raster that does not pass; the last
 // one passes.
-fn small_pictures() {
-    show_picture(b"");
-    show_picture(b"P6 0 1 255");
-    show_picture(b"P6 0 1 255 ");
-    show_picture(b"P6 000002 1 255 123456");
-    show_picture(b"P6 16384 1025 255 ");
-    show_picture(b"P6 2 1 254 123456");
-    show_picture(b"P6 2 1 255 12345");
-    show_picture(b"P6 2 1 255 1234567");
-    show_picture(b"P6 2 1 255  123456");
-    show_picture(b"P6 2 1 255 123456");
+fn small_pictures(rt: &impl Print) -> io::Result<()> {
+    show_picture(rt, b"")?;
+    show_picture(rt, b"P6 0 1 255")?;
+    show_picture(rt, b"P6 0 1 255 ")?;
+    show_picture(rt, b"P6 000002 1 255 123456")?;
+    show_picture(rt, b"P6 16384 1025 255 ")?;
+    show_picture(rt, b"P6 2 1 254 123456")?;
+    show_picture(rt, b"P6 2 1 255 12345")?;
+    show_picture(rt, b"P6 2 1 255 1234567")?;
+    show_picture(rt, b"P6 2 1 255  123456")?;
+    show_picture(rt, b"P6 2 1 255 123456")
 }
 
 // Headers with comments that count as white bytes: right after the letters, after a number and
 // before the depth, ended by LF, CR and CR LF, several in a row, with NUL and the opening byte
 // inside.
-fn commented_pictures() {
-    show_picture(b"P6#c\n2 1 255 123456");
-    show_picture(b"P6 2#\n1 255 123456");
-    show_picture(b"P6\n# one\r\n#two\r #\n2 1\n255\n123456");
-    show_picture(b"P6 2 1 #\0#7\n255 123456");
-    show_picture(b"P6 2 1#\n255\n#23456");
+fn commented_pictures(rt: &impl Print) -> io::Result<()> {
+    show_picture(rt, b"P6#c\n2 1 255 123456")?;
+    show_picture(rt, b"P6 2#\n1 255 123456")?;
+    show_picture(rt, b"P6\n# one\r\n#two\r #\n2 1\n255\n123456")?;
+    show_picture(rt, b"P6 2 1 #\0#7\n255 123456")?;
+    show_picture(rt, b"P6 2 1#\n255\n#23456")
 }
 
 // Headers with bytes that open no comment: before and inside the letters, after the depth; and
 // comments that never end.
-fn miscommented_pictures() {
-    show_picture(b"#\nP6 2 1 255 123456");
-    show_picture(b"P#\n6 2 1 255 123456");
-    show_picture(b"P6 2 1 255#\n123456");
-    show_picture(b"P6#");
-    show_picture(b"P6 2 # 1 255 123456");
+fn miscommented_pictures(rt: &impl Print) -> io::Result<()> {
+    show_picture(rt, b"#\nP6 2 1 255 123456")?;
+    show_picture(rt, b"P#\n6 2 1 255 123456")?;
+    show_picture(rt, b"P6 2 1 255#\n123456")?;
+    show_picture(rt, b"P6#")?;
+    show_picture(rt, b"P6 2 # 1 255 123456")
 }
 
 // A comment of 60,000 bytes, and the same without its end.
-fn long_comment() {
+fn long_comment(rt: &impl Print) -> io::Result<()> {
     let mut input = [b'#'; 60013];
     texts::put_word(&mut input, 0, b"P6");
     texts::put_word(&mut input, 60001, b"\n1 1 255 ");
-    show_picture(&input);
+    show_picture(rt, &input)?;
     texts::put_word(&mut input, 60001, b"#");
-    show_picture(&input);
+    show_picture(rt, &input)
 }
 
-fn main() {
-    small_pictures();
+fn main(rt: HostRuntime) -> io::Result<()> {
+    small_pictures(&rt)?;
     let drawing = b"P6\n2 2\n255\n\x00\x00\x00\x00\x00\x00\x00\x00\x00\x0a\x00\x00";
-    show_picture(drawing);
-    show_table(drawing);
-    show_mapping(drawing);
-    small_palettes();
-    twins_and_others();
-    most_entries();
-    commented_pictures();
-    miscommented_pictures();
-    long_comment();
+    show_picture(&rt, drawing)?;
+    show_table(&rt, drawing)?;
+    show_mapping(&rt, drawing)?;
+    small_palettes(&rt)?;
+    twins_and_others(&rt)?;
+    most_entries(&rt)?;
+    commented_pictures(&rt)?;
+    miscommented_pictures(&rt)?;
+    long_comment(&rt)
 }

@@ -7,21 +7,21 @@ use mathlib.Core.Option.{Option, none, some, none-ne-some, some-injective}
 use native.Mathlib.Omega.{arith}
 use Rattle.refusal.specs.Numbers.{
   Refusal,
-  BAD-STRIP,
-  BAD-TABLE,
+  BAD_STRIP,
+  BAD_TABLE,
   FULL,
-  BAD-COUNT,
-  FEW-COLOURS,
-  BAD-LIMIT,
-  SHORT-ROOM,
-  BAD-CENTRE,
-  BAD-MEMBER,
-  BAD-PALETTE,
-  MANY-PIXELS,
-  BAD-HEADER,
-  BAD-SIZE,
-  BAD-DEPTH,
-  BAD-RASTER,
+  BAD_COUNT,
+  FEW_COLOURS,
+  BAD_LIMIT,
+  SHORT_ROOM,
+  BAD_CENTRE,
+  BAD_MEMBER,
+  BAD_PALETTE,
+  MANY_PIXELS,
+  BAD_HEADER,
+  BAD_SIZE,
+  BAD_DEPTH,
+  BAD_RASTER,
   TWIN_SHADE,
   number_of,
   done,
@@ -37,27 +37,27 @@ nth (r ∷ rs) (suc (suc n)) = nth rs (suc n)
 -- the refusals by rising number; 16 and 17 are no refusal's
 abbrev refusals : List (Option Refusal)
 refusals =
-    some BAD-STRIP ∷ some BAD-TABLE ∷ some FULL ∷ some BAD-COUNT ∷ some FEW-COLOURS ∷ some BAD-LIMIT ∷
-    some SHORT-ROOM ∷ some BAD-CENTRE ∷ some BAD-MEMBER ∷ some BAD-PALETTE ∷ some MANY-PIXELS ∷ some BAD-HEADER ∷
-    some BAD-SIZE ∷ some BAD-DEPTH ∷ some BAD-RASTER ∷ none ∷ none ∷ some TWIN_SHADE ∷ []
+    some BAD_STRIP ∷ some BAD_TABLE ∷ some FULL ∷ some BAD_COUNT ∷ some FEW_COLOURS ∷ some BAD_LIMIT ∷
+    some SHORT_ROOM ∷ some BAD_CENTRE ∷ some BAD_MEMBER ∷ some BAD_PALETTE ∷ some MANY_PIXELS ∷ some BAD_HEADER ∷
+    some BAD_SIZE ∷ some BAD_DEPTH ∷ some BAD_RASTER ∷ none ∷ none ∷ some TWIN_SHADE ∷ []
 
 -- each refusal stands at its number
 found : (refusal : Refusal) → nth refusals (number_of refusal) ≡ some refusal
-found BAD-STRIP = refl
-found BAD-TABLE = refl
+found BAD_STRIP = refl
+found BAD_TABLE = refl
 found FULL = refl
-found BAD-COUNT = refl
-found FEW-COLOURS = refl
-found BAD-LIMIT = refl
-found SHORT-ROOM = refl
-found BAD-CENTRE = refl
-found BAD-MEMBER = refl
-found BAD-PALETTE = refl
-found MANY-PIXELS = refl
-found BAD-HEADER = refl
-found BAD-SIZE = refl
-found BAD-DEPTH = refl
-found BAD-RASTER = refl
+found BAD_COUNT = refl
+found FEW_COLOURS = refl
+found BAD_LIMIT = refl
+found SHORT_ROOM = refl
+found BAD_CENTRE = refl
+found BAD_MEMBER = refl
+found BAD_PALETTE = refl
+found MANY_PIXELS = refl
+found BAD_HEADER = refl
+found BAD_SIZE = refl
+found BAD_DEPTH = refl
+found BAD_RASTER = refl
 found TWIN_SHADE = refl
 
 -- refusals of one number are one refusal
@@ -70,19 +70,19 @@ number-not-done a e = none-ne-some a (sym (ap (nth refusals) e) ∙ found a)
 
 -- the numbers go up to 18
 pub number-most : (a : Refusal) → number_of a ≤ 18
-number-most BAD-STRIP = omega arith
-number-most BAD-TABLE = omega arith
+number-most BAD_STRIP = omega arith
+number-most BAD_TABLE = omega arith
 number-most FULL = omega arith
-number-most BAD-COUNT = omega arith
-number-most FEW-COLOURS = omega arith
-number-most BAD-LIMIT = omega arith
-number-most SHORT-ROOM = omega arith
-number-most BAD-CENTRE = omega arith
-number-most BAD-MEMBER = omega arith
-number-most BAD-PALETTE = omega arith
-number-most MANY-PIXELS = omega arith
-number-most BAD-HEADER = omega arith
-number-most BAD-SIZE = omega arith
-number-most BAD-DEPTH = omega arith
-number-most BAD-RASTER = omega arith
+number-most BAD_COUNT = omega arith
+number-most FEW_COLOURS = omega arith
+number-most BAD_LIMIT = omega arith
+number-most SHORT_ROOM = omega arith
+number-most BAD_CENTRE = omega arith
+number-most BAD_MEMBER = omega arith
+number-most BAD_PALETTE = omega arith
+number-most MANY_PIXELS = omega arith
+number-most BAD_HEADER = omega arith
+number-most BAD_SIZE = omega arith
+number-most BAD_DEPTH = omega arith
+number-most BAD_RASTER = omega arith
 number-most TWIN_SHADE = omega arith

@@ -1,5 +1,5 @@
 -- Glossary.
---   Refusal            the refusals by name: BAD-STRIP, BAD-TABLE, .., BAD-RASTER, TWIN_SHADE
+--   Refusal            the refusals by name: BAD_STRIP, BAD_TABLE, .., BAD_RASTER, TWIN_SHADE
 --   number_of refusal   its number, from 1 on
 --   done               0, the answer where nothing is refused
 --   Row, row t r       a row of an order: the test t, and the refusal r given where it holds
@@ -14,21 +14,21 @@ pub mod Calls
 unfoldable pub use Numbers.{number_of, done}
 pub use Numbers.{
   Refusal,
-  BAD-STRIP,
-  BAD-TABLE,
+  BAD_STRIP,
+  BAD_TABLE,
   FULL,
-  BAD-COUNT,
-  FEW-COLOURS,
-  BAD-LIMIT,
-  SHORT-ROOM,
-  BAD-CENTRE,
-  BAD-MEMBER,
-  BAD-PALETTE,
-  MANY-PIXELS,
-  BAD-HEADER,
-  BAD-SIZE,
-  BAD-DEPTH,
-  BAD-RASTER,
+  BAD_COUNT,
+  FEW_COLOURS,
+  BAD_LIMIT,
+  SHORT_ROOM,
+  BAD_CENTRE,
+  BAD_MEMBER,
+  BAD_PALETTE,
+  MANY_PIXELS,
+  BAD_HEADER,
+  BAD_SIZE,
+  BAD_DEPTH,
+  BAD_RASTER,
   TWIN_SHADE,
 }
 unfoldable pub use Order.{row, first_of, outcome_of, Given, NoneHolds}

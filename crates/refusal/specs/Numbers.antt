@@ -3,28 +3,28 @@ use Rattle.std.specs.Prelude.{ℕ}
 
 -- the refusals, in the order of their numbers
 pub data Refusal : Type 0 where
-  BAD-STRIP BAD-TABLE FULL BAD-COUNT FEW-COLOURS : Refusal
-  BAD-LIMIT SHORT-ROOM BAD-CENTRE BAD-MEMBER BAD-PALETTE : Refusal
-  MANY-PIXELS BAD-HEADER BAD-SIZE BAD-DEPTH BAD-RASTER : Refusal
+  BAD_STRIP BAD_TABLE FULL BAD_COUNT FEW_COLOURS : Refusal
+  BAD_LIMIT SHORT_ROOM BAD_CENTRE BAD_MEMBER BAD_PALETTE : Refusal
+  MANY_PIXELS BAD_HEADER BAD_SIZE BAD_DEPTH BAD_RASTER : Refusal
   TWIN_SHADE : Refusal
 
 -- the number of a refusal
 abbrev pub number_of : Refusal → ℕ
-number_of BAD-STRIP = 1
-number_of BAD-TABLE = 2
+number_of BAD_STRIP = 1
+number_of BAD_TABLE = 2
 number_of FULL = 3
-number_of BAD-COUNT = 4
-number_of FEW-COLOURS = 5
-number_of BAD-LIMIT = 6
-number_of SHORT-ROOM = 7
-number_of BAD-CENTRE = 8
-number_of BAD-MEMBER = 9
-number_of BAD-PALETTE = 10
-number_of MANY-PIXELS = 11
-number_of BAD-HEADER = 12
-number_of BAD-SIZE = 13
-number_of BAD-DEPTH = 14
-number_of BAD-RASTER = 15
+number_of BAD_COUNT = 4
+number_of FEW_COLOURS = 5
+number_of BAD_LIMIT = 6
+number_of SHORT_ROOM = 7
+number_of BAD_CENTRE = 8
+number_of BAD_MEMBER = 9
+number_of BAD_PALETTE = 10
+number_of MANY_PIXELS = 11
+number_of BAD_HEADER = 12
+number_of BAD_SIZE = 13
+number_of BAD_DEPTH = 14
+number_of BAD_RASTER = 15
 number_of TWIN_SHADE = 18
 
 -- what a call answers in a refusal's place where it refuses nothing

@@ -7,7 +7,7 @@
 //    4 BAD COUNT       9 BAD MEMBER     14 BAD DEPTH
 //    5 FEW COLOURS    10 BAD PALETTE    15 BAD RASTER
 //
-// Code writes the constants below; a definition writes `number_of BAD-STRIP`, or a list of rows
+// Code writes the constants below; a definition writes `number_of BAD_STRIP`, or a list of rows
 // read by `first_of`. What each test is stands in the crate of the call that makes it.
 //
 // Read next: specs/Lib.antt (what the words mean), proofs/Promises.antt (what is shown of them).

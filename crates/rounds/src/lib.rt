@@ -2,8 +2,9 @@
 // shade or to a limit, and the final total.
 //
 // Calls; none refuses, and what one requires stands above it
-//   make_run     a run by either rule from the table's mean                     run.rt
-//   run_from     a run by either rule from given shades, the first of them held
+//   make_run           a run by either rule from the table's mean   run.rt
+//   run_from           a run by either rule from given shades
+//   run_from_holding   the same with the first shades held
 // The members against the shades stand in total.rt.
 //
 // Read next: specs/Lib.antt (what the words mean), proofs/Lib.antt (what is shown).
@@ -13,7 +14,7 @@
 mod run;
 mod total;
 
-pub use run::{make_run, run_from};
+pub use run::{make_run, run_from, run_from_holding};
 
 // What a run answers, beside the shades: how many rounds were made, whether the last moved no
 // shade, all distances, and the final total.

@@ -25,7 +25,7 @@ use table_test::Record;
 // given shades in `base` and coordinates that are required to be 192 zeros. Requires a table with a
 // colour, a given shade, all of them on the grid, 1 to 64 shades, no more of them held, a limit of 1
 // to 200, and room for members and totals.
-pub fn run_from(
+pub fn run_from_holding(
     keys: &[u32],
     weights: &[u32],
     used: usize,
@@ -52,7 +52,7 @@ pub fn run_from(
         (state_of shades.new members.new) }
 {
     starts::fill_starts(keys, used, base, shades, count, members);
-    let a = rounds_many::make_rounds(
+    let a = rounds_many::make_rounds_holding(
         keys, weights, used, shades, held, count, leaps, limit, members, totals,
     );
     let total = final_total(keys, weights, used, shades, count, members);
@@ -62,6 +62,39 @@ pub fn run_from(
         distances: a.distances,
         total,
     }
+}
+
+// Makes a run, by Jancey's rule where the shades leap, from the given shades in `base` and
+// coordinates that are required to be 192 zeros. Requires a table with a colour, a given shade, all
+// of them on the grid, 1 to 64 shades, a limit of 1 to 200, and room for members and totals.
+pub fn run_from(
+    keys: &[u32],
+    weights: &[u32],
+    used: usize,
+    base: &[u32],
+    shades: &mut [u32],
+    count: usize,
+    leaps: bool,
+    limit: usize,
+    members: &mut [u32],
+    totals: &mut [u64],
+) -> Whole
+    requires { Runnable used keys.now weights.now count limit members.old totals.old
+        × OnGrid base.now × (3 ≤ length base.now)
+        × (shades.old ≡ replicate most_coordinates 0) }
+    ensures series { SeriesMeets (kind_of leaps)
+        (colours_of used keys.now weights.now) count limit
+        (begin_from (listed base.now)
+        (colours_of used keys.now weights.now) count members.old)
+        (state_of shades.new members.new)
+        totals.old totals.new result.rounds result.settled result.distances }
+    ensures total { result.total
+        ≡ final_of (colours_of used keys.now weights.now)
+        (state_of shades.new members.new) }
+{
+    run_from_holding(
+        keys, weights, used, base, shades, 0, count, leaps, limit, members, totals,
+    )
 }
 
 // Makes a run from the table's mean, which is read from the record's sums. Requires the same of all
@@ -93,6 +126,6 @@ pub fn make_run(
     let m = starts::mean_of(rec.pixels, rec.red, rec.green, rec.blue);
     let base = [m.r, m.g, m.b];
     run_from(
-        keys, weights, rec.used, &base, shades, 0, count, leaps, limit, members, totals,
+        keys, weights, rec.used, &base, shades, count, leaps, limit, members, totals,
     )
 }

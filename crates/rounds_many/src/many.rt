@@ -28,7 +28,7 @@ fn bound(moved: u32, r: usize, limit: usize) -> usize
 // first that moves no shade, or to the limit, and stores each total. The first takes the groups'
 // sums anew, and they go on from round to round. Requires what a shortened round does, a limit of 1
 // to 200, and room for as many totals.
-pub fn make_rounds(
+pub fn make_rounds_holding(
     keys: &[u32],
     weights: &[u32],
     used: usize,
@@ -56,7 +56,7 @@ pub fn make_rounds(
     let mut moved: u32 = 1;
     let mut distances: u64 = 0;
     while r < go {
-        let a = rounds_step::next_step(
+        let a = rounds_step::next_step_holding(
             keys, weights, used, shades, held, count, leaps, &mut rows, members, anew, &mut sums,
         );
         anew = false;
@@ -71,4 +71,31 @@ pub fn make_rounds(
         settled: none(moved),
         distances,
     }
+}
+
+// Makes rounds, by Jancey's rule where the shades leap, to the first that moves no shade, or to the
+// limit, and stores each total. The first takes the groups' sums anew, and they go on from round to
+// round. Requires what a shortened round does, a limit of 1 to 200, and room for as many totals.
+pub fn make_rounds(
+    keys: &[u32],
+    weights: &[u32],
+    used: usize,
+    shades: &mut [u32],
+    count: usize,
+    leaps: bool,
+    limit: usize,
+    members: &mut [u32],
+    totals: &mut [u64],
+) -> Series
+    requires { Walkable used keys.now weights.now count (state_of shades.old members.old)
+        × (0 < limit) × (limit ≤ most_rounds) × (limit ≤ length totals.old) }
+    ensures { SeriesMeets (kind_of leaps)
+        (colours_of used keys.now weights.now) count limit
+        (state_of shades.old members.old)
+        (state_of shades.new members.new)
+        totals.old totals.new result.rounds result.settled result.distances }
+{
+    make_rounds_holding(
+        keys, weights, used, shades, 0, count, leaps, limit, members, totals,
+    )
 }

@@ -37,7 +37,7 @@ pub fn plain_step(
 {
     let mut sums = [0u64; 128];
     let a = group_all::group_plain(keys, weights, used, shades, count, members, &mut sums);
-    let moved = moves::move_shades(&sums, shades, 0, count, false);
+    let moved = moves::move_shades(&sums, shades, count, false);
     Stepped {
         total: a.total,
         moved,
@@ -50,7 +50,7 @@ pub fn plain_step(
 // said. Requires the same, that no more shades are held than there are, that each member is a
 // shade's number, in `sums` those of the former groups, or zeros where they are taken anew, and room
 // in `rows`.
-pub fn next_step(
+pub fn next_step_holding(
     keys: &[u32],
     weights: &[u32],
     used: usize,
@@ -79,12 +79,46 @@ pub fn next_step(
     let a = groups::regroup(
         keys, weights, used, shades, count, rows, members, anew, sums,
     );
-    let moved = moves::move_shades(sums, shades, held, count, leaps);
+    let moved = moves::move_shades_holding(sums, shades, held, count, leaps);
     Stepped {
         total: a.total,
         moved,
         distances: a.distances,
     }
+}
+
+// One round by the shortened search, by Jancey's rule where the shades leap, which leaves the sums
+// of its groups in `sums`. What `rows` holds afterwards is not said. Requires the same, that each
+// member is a shade's number, in `sums` those of the former groups, or zeros where they are taken
+// anew, and room in `rows`.
+pub fn next_step(
+    keys: &[u32],
+    weights: &[u32],
+    used: usize,
+    shades: &mut [u32],
+    count: usize,
+    leaps: bool,
+    rows: &mut [u32],
+    members: &mut [u32],
+    anew: bool,
+    sums: &mut [u64; 128],
+) -> Stepped
+    requires { Walkable used keys.now weights.now count (state_of shades.old members.old)
+        × (most_shades * count ≤ length rows.old)
+        × Summed (member_at members.old) keys.now weights.now (covered anew used 0)
+        sums.old }
+    ensures step { StepMeets (kind_of leaps)
+        (colours_of used keys.now weights.now) count
+        (short_distances (colours_of used keys.now weights.now) count)
+        (state_of shades.old members.old)
+        (state_of shades.new members.new)
+        result.total result.moved result.distances }
+    ensures sums { Summed (member_at members.new) keys.now
+        weights.now used sums.new }
+{
+    next_step_holding(
+        keys, weights, used, shades, 0, count, leaps, rows, members, anew, sums,
+    )
 }
 
 // One round by the shortened search. Requires the same, and that each member is a shade's number.
@@ -108,6 +142,6 @@ pub fn short_step(
     let mut rows = [0u32; 4096];
     let mut sums = [0u64; 128];
     next_step(
-        keys, weights, used, shades, 0, count, false, &mut rows, members, true, &mut sums,
+        keys, weights, used, shades, count, false, &mut rows, members, true, &mut sums,
     )
 }

@@ -10,7 +10,7 @@ bad_triples most n = ltb n 3 || (ltb most n || not (eqb (n % 3) 0))
 
 -- BAD COUNT for n lent coordinates: not 3 to 192, or not a multiple of 3
 abbrev pub bad_coordinates : ℕ → Bool
-bad_coordinates n = bad_triples most_coordinates n
+bad_coordinates n = ltb n 3 || (ltb most_coordinates n || not (eqb (n % 3) 0))
 
 -- coordinate i is above 4080
 abbrev pub off_grid : List ℕ → ℕ → Bool

@@ -6,7 +6,7 @@ use Prim.Native.Nat.{ℕ, ◌+◌, ◌/◌, ◌%◌, ◌≤◌, ◌<◌}
 use native.Mathlib.Omega.{arith}
 use lib.ListN.{length, take, length-take}
 use borrow.Author.Tests.{lt-ltb, le-ltb, eq-eqb, ne_eqb}
-use Rattle.refusal.specs.{number_of, done, BAD-STRIP, BAD-TABLE, FULL}
+use Rattle.refusal.specs.{number_of, done, BAD_STRIP, BAD_TABLE, FULL}
 use Rattle.number.specs.{sum_of}
 use Rattle.table_entries.specs.{entries, pixels_of, levels_of, strip_keys, taken_of, with_taken}
 use Rattle.table_entries.proofs.Gives.{put_all-levels}
@@ -26,13 +26,13 @@ module _ (rec : Record) (ks ws s : List ℕ) where
   -- ---- what the outcome is, by the tests
 
   -- 1
-  pub outcome-bad-strip : bad_strip s ≡ true → add_strip rec ks ws s ≡ as_it_came (number_of BAD-STRIP) rec ks ws
+  pub outcome-bad-strip : bad_strip s ≡ true → add_strip rec ks ws s ≡ as_it_came (number_of BAD_STRIP) rec ks ws
   unfolding add_strip
   outcome-bad-strip a = simp a
 
   -- 2
   pub outcome-bad-table : bad_strip s ≡ false → bad_table rec ks ws ≡ true
-      → add_strip rec ks ws s ≡ as_it_came (number_of BAD-TABLE) rec ks ws
+      → add_strip rec ks ws s ≡ as_it_came (number_of BAD_TABLE) rec ks ws
   unfolding add_strip
   outcome-bad-table a b = simp (a, b)
 
@@ -52,7 +52,7 @@ module _ (rec : Record) (ks ws s : List ℕ) where
   -- ---- what each way out owes
 
   -- bytes not a multiple of 3
-  pub meets-bad-strip : {r : Added} → (length s % 3 ≡ 0 → ⊥) → r ≡ refused (number_of BAD-STRIP) rec
+  pub meets-bad-strip : {r : Added} → (length s % 3 ≡ 0 → ⊥) → r ≡ refused (number_of BAD_STRIP) rec
       → AddMeets rec ks ws s r ks ws
   meets-bad-strip h e =
       let o = outcome-bad-strip (ap not (ne_eqb (length s % 3) 0 h)) in
@@ -64,7 +64,7 @@ module _ (rec : Record) (ks ws s : List ℕ) where
     whole = ap not (eq-eqb (length s % 3) 0 h)
 
     -- a bad table
-    pub meets-bad-table : {r : Added} → bad_table rec ks ws ≡ true → r ≡ refused (number_of BAD-TABLE) rec
+    pub meets-bad-table : {r : Added} → bad_table rec ks ws ≡ true → r ≡ refused (number_of BAD_TABLE) rec
         → AddMeets rec ks ws s r ks ws
     meets-bad-table b e =
         let o = outcome-bad-table whole b in record { answer = rw o e; keys = rw o; weights = rw o }

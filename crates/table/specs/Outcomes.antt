@@ -1,6 +1,6 @@
 -- What adding a strip leaves: the answer, and both slices, on every input.
 use Rattle.std.specs.Prelude.{ℕ, ◌≡◌, Bool, cond, ◌||◌, List, eqb}
-use Rattle.refusal.specs.{number_of, done, outcome_of, BAD-STRIP, BAD-TABLE}
+use Rattle.refusal.specs.{number_of, done, outcome_of, BAD_STRIP, BAD_TABLE}
 use Rattle.table_entries.specs.{Entry, entries, keys_into, weights_into, strip_keys, taken_of, with_taken}
 use Rattle.table_test.specs.{Record, room_of, record_of}
 use Rattle.table.specs.Refusals.{add_rows}
@@ -31,7 +31,7 @@ with_pixels n room es ps ks ws = record {
 
 -- the refusals before the first pixel: FULL is not one
 abbrev pub hands_back : ℕ → Bool
-hands_back n = eqb n (number_of BAD-STRIP) || eqb n (number_of BAD-TABLE)
+hands_back n = eqb n (number_of BAD_STRIP) || eqb n (number_of BAD_TABLE)
 
 -- the pixels of a strip taken, with this number in the answer
 abbrev pub taken_into : Record → List ℕ → List ℕ → List ℕ → ℕ → Outcome

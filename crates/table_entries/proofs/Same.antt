@@ -60,7 +60,7 @@ same-table low (e ∷ es) (f ∷ fs) a b h =
     let none-f : weight_of f.key fs ≡ 0 = weight-low f.key (f.key + 1) fs sf.rest (omega arith) in
     let none-f-e : weight_of f.key es ≡ 0 = rw k at none-e in
     let head-e : weight_of f.key (e ∷ es) ≡ e.weight + weight_of f.key es =
-        subst (λ (x : ℕ). weight_of x (e ∷ es) ≡ e.weight + weight_of x es) k (weight-head e es) in
+    subst (λ (x : ℕ). weight_of x (e ∷ es) ≡ e.weight + weight_of x es) k (weight-head e es) in
     let w : e.weight ≡ f.weight = omega (arith, h f.key, weight-head f fs) in
     ap₂ (λ (x : Entry) (xs : List Entry). x ∷ xs) (ap₂ entry k w)
     (same-table (f.key + 1) es fs (rw k at se.rest) sf.rest (λ c. elim (bool (eqb f.key c)) [

@@ -7,7 +7,7 @@ use mathlib.Core.List.{List, []}
 use mathlib.Core.Logic.{◌↔◌}
 use mathlib.Core.Path.{◌≡◌, refl, sym, ◌∙◌}
 use lib.ListN.{get_or, length}
-use Rattle.refusal.specs.{Refusal, number_of, done, Given, NoneHolds, BAD-PALETTE}
+use Rattle.refusal.specs.{Refusal, number_of, done, Given, NoneHolds, BAD_PALETTE}
 use Rattle.table_test.specs.{Record, room_of, bad_table}
 use Rattle.colour.specs.{Bytes}
 use Rattle.method.specs.{most_rounds}
@@ -41,7 +41,7 @@ fixed-refused rec ks ws fixed k limit ms ts = (wholes.fixed-refuses rec ks ws fi
 
 -- On a table, an empty list is BAD PALETTE, whatever else is asked: with none fixed, document 01's run is used.
 pub fixed-none-refused : (rec : Record) (ks ws : List ℕ) (k limit : ℕ) (ms ts : List ℕ) → bad_table rec ks ws ≡ false
-    → (fixed_run rec ks ws [] k limit ms ts).answer.refusal ≡ number_of BAD-PALETTE
+    → (fixed_run rec ks ws [] k limit ms ts).answer.refusal ≡ number_of BAD_PALETTE
 fixed-none-refused = wholes.none-refused
 
 -- ---- the contract

@@ -33,46 +33,33 @@ invariant-loop keys weights used shades count members₀ sums₀ total₀ distan
 abbrev decreases-loop : tie.decreases-loop-i
 decreases-loop keys weights used shades count members₀ sums₀ total₀ distances₀ i₀ members sums total distances i = used - i
 
--- where the grouping begins, from where the plain search is called
-abbrev start : tie.After-search_all-arg-1 invariant-loop decreases-loop → tie.Start invariant-loop decreases-loop
-start c = c.before.before.before.before.before
-
--- where the search is done, from where the loop is
-abbrev searched : tie.At-loop-i invariant-loop decreases-loop → tie.After-search_all invariant-loop decreases-loop
-searched c = c.before.before.before
-
--- where the grouping begins, from there
-abbrev st : tie.At-loop-i invariant-loop decreases-loop → tie.Start invariant-loop decreases-loop
-st c = start (searched c).before
-
 -- the turn in which the entry is read
 abbrev turn : tie.After-slice_known-in-loop-i-1 invariant-loop decreases-loop → tie.In-loop-i invariant-loop decreases-loop
 turn c = c.before.before.before
 
 -- the turn in which it is worked out what the entry gives
 abbrev giving : tie.After-gift_of-a invariant-loop decreases-loop → tie.In-loop-i invariant-loop decreases-loop
-giving c = turn c.before
+giving c = c.before.before.before.before
 
 -- the member that the turn reads is what the search has found
 abbrev found-at : (c : tie.After-slice_known-in-loop-i-1 invariant-loop decreases-loop)
     → let l = (turn c).before in
-    let a = (st l).args in
+    let a = l.args in
     get_or l.loop-i.members l.loop-i.i 0 ≡ found_at a.keys.now a.shades.now a.count l.loop-i.i
 found-at c =
     let l = (turn c).before in
-    plain-found l.loop-i.invariant.0 (st l).args.members.now l.search_all.ensures
-    c.loop-i-test.true (st l).requires.3
+    plain-found l.loop-i.invariant.0 l.args.members.now l.search_all.ensures
+    c.loop-i-test.true l.requires.3
 
 -- what is found for the entry, once it is worked out
 abbrev finds-at : (c : tie.After-gift_of-a invariant-loop decreases-loop)
     → let l = (giving c).before in
-    let a = (st l).args in
+    let a = l.args in
     let r = c.gift_of-a.result in
     Finds a.keys.now a.weights.now a.shades.now a.count l.loop-i.i r.number r.cost
 finds-at c =
     let e = c.gift_of-a.ensures in
-    let t = giving c in
-    raised-finds t.loop-i.invariant.0 t.loop-i-test.taken _ _ _ (found-at c.before) e.0 e.1.0
+    raised-finds c.loop-i.invariant.0 c.loop-i-test.true _ _ _ (found-at c.before) e.0 e.1.0
 
 search-all-requires : tie.Need-search_all-requires invariant-loop decreases-loop
 search-all-requires c κs = let p = c.requires in (p.0.keys_room, p.3, p.1, p.2)
@@ -110,17 +97,15 @@ mul-members : tie.Need-offset_bounds-members-i-in-loop-i invariant-loop decrease
 mul-members c = omega arith
 
 slice-write-members : tie.Need-bounds-members-i-in-loop-i invariant-loop decreases-loop
-slice-write-members c = let x = (giving c).loop-i.invariant.0 in omega (arith, turned-length x, x.fitted.room)
+slice-write-members c = let x = c.loop-i.invariant.0 in omega (arith, turned-length x, x.fitted.room)
 
 add_total : tie.Need-overflow_add-total invariant-loop decreases-loop
 add_total c =
-    let t = giving c.before in
-    omega (arith, total-fits t.loop-i.invariant.0 t.loop-i-test.taken (finds-at c.before))
+    omega (arith, total-fits c.loop-i.invariant.0 c.loop-i-test.true (finds-at c.before))
 
 add-distances : tie.Need-overflow_add-distances invariant-loop decreases-loop
 add-distances c =
-    let t = giving c.before in
-    omega (arith, distances-fit t.loop-i.invariant.0 t.loop-i-test.taken (st t.before).args.count refl)
+    omega (arith, distances-fit c.loop-i.invariant.0 c.loop-i-test.true c.args.count refl)
 
 cast-raise : tie.Need-overflow_cast-q invariant-loop decreases-loop
 cast-raise c = search rules
@@ -128,10 +113,9 @@ cast-raise c = search rules
 raise-requires : tie.Need-raise-requires invariant-loop decreases-loop
 raise-requires c κs =
     let g = c.before.before in
-    let t = giving g in
-    let l = t.loop-i.invariant in
+    let l = g.loop-i.invariant in
     let e = g.gift_of-a.ensures.1.1 in
-    raised-fit l.0 t.loop-i-test.taken l.1 (finds-at g) e.0 e.1
+    raised-fit l.0 g.loop-i-test.true l.1 (finds-at g) e.0 e.1
 
 add-i : tie.Need-overflow_add-i invariant-loop decreases-loop
 add-i c = omega arith
@@ -142,22 +126,21 @@ loop-less c = omega arith
 loop-again : tie.Need-loop-i-preserved invariant-loop decreases-loop
 loop-again c =
     let g = c.before.before.before in
-    let l = (giving g).loop-i.invariant in
-    let h = (giving g).loop-i-test.true in
+    let l = g.loop-i.invariant in
+    let h = g.loop-i-test.true in
     let f = finds-at g in
     let e = g.gift_of-a.ensures.1.1 in
     (turned-step l.0 h f _ refl, raised-step l.0 h l.1 f e.0 e.1 _ c.raise.ensures)
 
 same_length : tie.Need-shape_of-members invariant-loop decreases-loop
 same_length c =
-    let l = c.before in
-    plain-length l.loop-i.invariant.0 (st l).args.members.now l.search_all.ensures
+    plain-length c.loop-i.invariant.0 c.args.members.now c.search_all.ensures
 
 returns : tie.Need-returns invariant-loop decreases-loop
 returns c =
     let x = c.loop-i.invariant in
     let h = c.loop-i-test.false in
-    let e : c.loop-i.i ≡ (st c.before).args.used = omega (arith, x.0.within) in (
+    let e : c.loop-i.i ≡ c.args.used = omega (arith, x.0.within) in (
       grouped-again _ _ c.search_all.ensures (turned-done x.0 h (rw e at x.1)),
       turned-distances x.0 h,
     )

@@ -12,17 +12,13 @@ use Rattle.group_join.proofs.entry.Joining.{joined_at, joined-before}
 use Rattle.group_join.proofs.entry.enter.Statement.{statement}
 use Rattle.group_join.proofs.entry.enter.Tie as tie
 
--- where the function begins, from where the entry is read
-abbrev start : tie.After-shared_slice_known-4-1 → tie.Start
-start c = c.before.before.before.before.before
-
 -- where the first of what it gives is worked out
 abbrev first : tie.After-blue_pixels-blue_pixels → tie.After-red_green-red_green
 first c = c.before.before.before
 
 -- where the function begins, from where both are
 abbrev st : tie.After-blue_pixels-blue_pixels → tie.Start
-st c = start (first c).before
+st c = c.before.before.before.before.before.before.before.before.before
 
 -- the group of each entry, once the member is set
 abbrev groups : tie.Start → ℕ → ℕ

@@ -26,7 +26,7 @@ first c = c.before.before.before
 
 -- where the function begins, from where both are
 abbrev st : tie.After-blue_pixels-blue_pixels → tie.Start
-st c = start (leaves (first c)).before
+st c = c.before.before.before.before.before.before.before.before.before.before.before
 
 -- the members, before and once the entry's is set
 abbrev members : tie.Start → List ℕ
@@ -102,16 +102,15 @@ blue-pixels-requires c κs =
 lower-requires : tie.Need-lower-requires
 lower-requires c κs =
     let b = c.before in
-    let s = st b in
-    let p = s.requires in
+    let p = b.requires in
     let few = p.1.below _ p.3 in
-    let f = leaves-fit s.args.keys.now s.args.weights.now p.2 (goes-there b) p.3 few in
+    let f = leaves-fit b.args.keys.now b.args.weights.now p.2 (goes-there b) p.3 few in
     rw (b.blue_pixels-blue_pixels.ensures, b.red_green-red_green.ensures) (few, f.0, f.1)
 
 raise-requires : tie.Need-raise-requires
 raise-requires c κs =
     let b = c.before.before.before in
-    let p = (st b).requires in
+    let p = b.requires in
     let e = there (st b) in
     let f = joins-fit p.0 p.2 (goes-there b) p.3 (rw e p.4) in
     rw (c.lower.ensures, b.blue_pixels-blue_pixels.ensures, b.red_green-red_green.ensures) (p.4, rw e at f.0, rw e at f.1)

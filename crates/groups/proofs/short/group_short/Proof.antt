@@ -35,13 +35,6 @@ abbrev decreases-loop : tie.decreases-loop-i
 decreases-loop keys weights used shades count rows few members₀ anew sums₀ total₀ distances₀ i₀ members sums total distances i =
     used - i
 
--- where the grouping begins
-abbrev start : tie.After-slice_known-1 invariant-loop decreases-loop → tie.Start invariant-loop decreases-loop
-start c = c.before.before.before.before.before
-
-abbrev st : tie.At-loop-i invariant-loop decreases-loop → tie.Start invariant-loop decreases-loop
-st c = start c.before
-
 -- the turn in which the entry's shade is found
 abbrev turn : tie.After-rejoin-met invariant-loop decreases-loop → tie.In-loop-i invariant-loop decreases-loop
 turn c = c.before
@@ -57,7 +50,7 @@ cost c = c.before.before.before.before
 -- what is found for the entry, once it is worked out
 abbrev finds-at : (c : tie.After-cost-total invariant-loop decreases-loop)
     → let l = (turn (found c)).before in
-    let a = (st l).args in
+    let a = l.args in
     Finds a.keys.now a.weights.now a.shades.now a.count l.loop-i.i c.rejoin-met.result.number
     c.cost-total.result
 finds-at c = finds-of c.rejoin-met.ensures.0 c.rejoin-met.ensures.1.0 c.cost-total.ensures
@@ -65,20 +58,19 @@ finds-at c = finds-of c.rejoin-met.ensures.0 c.rejoin-met.ensures.1.0 c.cost-tot
 -- the distances that its search worked out
 abbrev worked-at : (c : tie.After-rejoin-met invariant-loop decreases-loop)
     → let l = (turn c).before in
-    let a = (st l).args in
+    let a = l.args in
     c.rejoin-met.result.distances
     ≡ short_works a.keys.now a.shades.now a.count a.members.now l.loop-i.i
 worked-at c =
     let l = (turn c).before in
-    short-worked (st l).requires.0 l.loop-i.invariant.0 _ c.rejoin-met.ensures.1.1
+    short-worked l.requires.0 l.loop-i.invariant.0 _ c.rejoin-met.ensures.1.1
 
 loop-holds : tie.Need-loop-i-init invariant-loop decreases-loop
 loop-holds c = let p = c.requires in (turned-start (short-fitted p.0), p.2)
 
 rejoin-requires : tie.Need-rejoin-met-requires invariant-loop decreases-loop
 rejoin-requires c κs =
-    let l = c.before.before in
-    (short-again (st l).requires.0 l.loop-i.invariant.0, (st l).requires.1, c.loop-i-test.true)
+    (short-again c.requires.0 c.loop-i.invariant.0, c.requires.1, c.loop-i-test.true)
 
 mul-cost : tie.Need-offset_bounds-weights-i invariant-loop decreases-loop
 mul-cost c = omega arith
@@ -88,31 +80,27 @@ shared-slice-read-cost c = omega (arith, c.loop-i.invariant.0.fitted.table.weigh
 
 cost-requires : tie.Need-cost-total-requires invariant-loop decreases-loop
 cost-requires c κs =
-    let t = turn c.before in
-    turned-low t.loop-i.invariant.0 t.loop-i-test.taken _ c.rejoin-met.ensures.1.0
+    turned-low c.loop-i.invariant.0 c.loop-i-test.true _ c.rejoin-met.ensures.1.0
 
 add_total : tie.Need-overflow_add-total invariant-loop decreases-loop
 add_total c =
     let t = turn (found c) in
-    omega (arith, total-fits t.loop-i.invariant.0 t.loop-i-test.taken (finds-at c))
+    omega (arith, total-fits t.loop-i.invariant.0 t.loop-i-test.true (finds-at c))
 
 add-distances : tie.Need-overflow_add-distances invariant-loop decreases-loop
 add-distances c =
     let f = found c.before in
-    let t = turn f in
-    omega (arith, distances-fit t.loop-i.invariant.0 t.loop-i-test.taken _ (worked-at f))
+    omega (arith, distances-fit f.loop-i.invariant.0 f.loop-i-test.true _ (worked-at f))
 
 join-requires : tie.Need-join-requires invariant-loop decreases-loop
 join-requires c κs =
-    let f = found c.before.before.before in
-    let t = turn f in
-    let l = t.loop-i.invariant in
-    let h = t.loop-i-test.taken in (
+    let l = c.loop-i.invariant in
+    let h = c.loop-i-test.true in (
       l.0.fitted.table,
-      short-assigned (st t.before).requires.0 l.0,
+      short-assigned c.requires.0 l.0,
       l.1,
       h,
-      rw f.rejoin-met.ensures.0 (number-below l.0 h),
+      rw c.rejoin-met.ensures.0 (number-below l.0 h),
     )
 
 add-i : tie.Need-overflow_add-i invariant-loop decreases-loop
@@ -124,10 +112,9 @@ loop-less c = omega arith
 loop-again : tie.Need-loop-i-preserved invariant-loop decreases-loop
 loop-again c =
     let j = c.before.before in
-    let f = found (cost j) in
-    let t = turn f in (
+    let f = found (cost j) in (
       rw j.join.ensures.0
-          (turned-step t.loop-i.invariant.0 t.loop-i-test.taken (finds-at (cost j)) _ (worked-at f)),
+          (turned-step f.loop-i.invariant.0 f.loop-i-test.true (finds-at (cost j)) _ (worked-at f)),
       j.join.ensures.1,
     )
 
@@ -138,7 +125,7 @@ returns : tie.Need-returns invariant-loop decreases-loop
 returns c =
     let x = c.loop-i.invariant.0 in
     let h = c.loop-i-test.false in
-    (turned-done x h (joined-sums (st c.before).args.anew x h c.loop-i.invariant.1), turned-distances x h)
+    (turned-done x h (joined-sums c.args.anew x h c.loop-i.invariant.1), turned-distances x h)
 
 pub group_short_spec : {M : Type 1} → statement M
 group_short_spec =

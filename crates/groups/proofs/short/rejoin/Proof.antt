@@ -5,13 +5,6 @@ use Rattle.groups.proofs.Tracking.{tracks-gaps, tracks-rows}
 use Rattle.groups.proofs.short.rejoin.Statement.{statement}
 use Rattle.groups.proofs.short.rejoin.Tie as tie
 
--- where the function begins
-abbrev start : tie.After-shared_slice_known-5-1 → tie.Start
-start c = c.before.before.before.before.before
-
-abbrev st : tie.After-colour_of-c → tie.Start
-st c = start c.before.before.before
-
 mul-p : tie.Need-offset_bounds-members-i
 mul-p c = search rules
 
@@ -32,7 +25,7 @@ colour-of-requires c κs = search rules
 
 walk-gaps-requires : tie.Need-walk_gaps-requires
 walk-gaps-requires c κs =
-    let p = (st c.before).requires in
+    let p = c.requires in
     record {
       former = p.0.joined _ p.2;
       shades = p.0.shades;
@@ -47,7 +40,7 @@ returns c =
 
 walk-requires : tie.Need-walk-requires
 walk-requires c κs =
-    let p = (st c.before).requires in
+    let p = c.requires in
     record {
       former = p.0.joined _ p.2;
       shades = p.0.shades;

@@ -49,8 +49,7 @@ same-length-2 c = search rules
 
 returns-2 : tie.Need-returns
 returns-2 c =
-    let e = past c.before.before.before.before.before in
-    rw (text-lines e.args.work e.if-number-ne-DONE.left) c.put_lines.ensures
+    rw (text-lines c.args.work c.if-number-ne-DONE.false) c.put_lines.ensures
 
 pub write_work_spec : {M : Type 1} → statement M
 write_work_spec =

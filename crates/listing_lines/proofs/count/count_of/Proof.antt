@@ -1,6 +1,5 @@
 -- `count_of` meets its contract: the loop counts the places that hold the number.
 use Prim.Native.Nat.{◌-◌}
-use mathlib.Core.Logic.{⊎_elim}
 use native.Mathlib.Omega.{arith}
 use lib.Dec.{eqb}
 use lib.ListN.{get_or, length}
@@ -8,6 +7,7 @@ use borrow.Author.Rules.{rules}
 use borrow.Author.Tests.{eq-eqb, ne_eqb}
 use Rattle.number.proofs.Tallies.{Counting, counting-start, counting-next, counting-done}
 use Rattle.listing_lines.proofs.count.count_of.Statement.{statement}
+use Rattle.listing_lines.proofs.count.count_of.Lts.{then-index-i, else-index-i}
 use Rattle.listing_lines.proofs.count.count_of.Tie as tie
 
 abbrev invariant-loop : tie.invariant-loop-i
@@ -31,8 +31,7 @@ cast-if1 c = omega (arith, c.shared_slice_known-1.given c.loop-i.i)
 
 add-count : tie.Need-overflow_add-count invariant-loop decreases-loop
 add-count c =
-    let t = turn c.before in
-    omega (arith, t.loop-i.invariant.few, t.loop-i-test.taken)
+    omega (arith, c.loop-i.invariant.few, c.loop-i-test.true)
 
 add-i : tie.Need-overflow_add-i invariant-loop decreases-loop
 add-i c = search rules
@@ -42,11 +41,13 @@ loop-less c = omega arith
 
 loop-again : tie.Need-loop-i-preserved invariant-loop decreases-loop
 loop-again c =
-    let t = turn c.before in
-    let b = get_or t.args.index.now t.loop-i.i 0 in
-    let q = t.args.q in
-    counting-next t.loop-i.invariant t.loop-i-test.taken
-    (⊎_elim (λ t. rw (eq-eqb b q t.0.taken) t.1) (λ t. rw (ne_eqb b q t.0.left) t.1) c.if-index-i.branch)
+    let b = get_or c.args.index.now c.loop-i.i 0 in
+    let q = c.args.q in
+    counting-next c.loop-i.invariant c.loop-i-test.true
+    (elim c.if-index-i.branch [
+      | then-index-i w ↦ rw (eq-eqb b q w.if-index-i.true) w.count-is
+      | else-index-i w ↦ rw (ne_eqb b q w.if-index-i.false) w.count-is
+    ])
 
 returns : tie.Need-returns invariant-loop decreases-loop
 returns c = counting-done c.loop-i.invariant c.loop-i-test.false

@@ -54,7 +54,7 @@ loop-less c = omega arith
 loop-again : tie.Need-loop-i-preserved invariant-loop decreases-loop
 loop-again c =
     let t = turn (put c) in
-    turn_step t.loop-i.invariant (omega (arith, t.loop-i-test.taken)) c.put_field-a.ensures
+    turn_step t.loop-i.invariant (omega (arith, t.loop-i-test.true)) c.put_field-a.ensures
 
 mul-put-last : tie.Need-offset_bounds-fields-last invariant-loop decreases-loop
 mul-put-last c = search rules
@@ -72,7 +72,7 @@ same_length c = search rules
 returns : tie.Need-returns invariant-loop decreases-loop
 returns c =
     let l = after (end c) in
-    turn-done l.loop-i.invariant l.loop-i-test.left c.put_last.ensures
+    turn-done l.loop-i.invariant l.loop-i-test.false c.put_last.ensures
 
 pub put_line_spec : {M : Type 1} → statement M
 put_line_spec =

@@ -8,16 +8,13 @@ use Rattle.listing_lines.proofs.line.put_refusal.Tie as tie
 abbrev word : tie.After-put_last → tie.After-put_word-a
 word c = c.before.before.before.before
 
-slice-aggregate-put-word : tie.Need-put_word-a-requires
-slice-aggregate-put-word c = search rules
-
-put-word-requires : tie.Need-put_last-requires
+put-word-requires : tie.Need-put_word-a-requires
 put-word-requires c κs = search rules
 
-put-last-requires : tie.Need-shape_of-out
+put-last-requires : tie.Need-put_last-requires
 put-last-requires c κs = search rules
 
-same_length : tie.Need-returns
+same_length : tie.Need-shape_of-out
 same_length c = search rules
 
 returns : tie.Need-returns
@@ -27,4 +24,4 @@ returns c =
 pub put_refusal_spec : {M : Type 1} → statement M
 put_refusal_spec =
     tie.close
-    (tie.spec slice-aggregate-put-word put-word-requires put-last-requires same_length returns)
+    (tie.spec put-word-requires put-last-requires same_length returns)

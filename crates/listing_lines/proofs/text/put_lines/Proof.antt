@@ -68,7 +68,7 @@ put-rows-requires c κs =
     let h = c.before.before.before.before in
     let put = h.put_head-a.ensures in
     let s = st (counted h) in (
-      omega (arith, h.count_shades.auto.1.1.0, length-replicate {A = ℕ} 64 0, s.requires.0),
+      omega (arith, h.count_shades.auto.counts, length-replicate {A = ℕ} 64 0, s.requires.0),
       omega (arith, put.ends, put-length put, head-length s.args.summary, s.requires.0, s.requires.1),
     )
 
@@ -78,17 +78,16 @@ put-last-requires c κs =
     let k = counted (headed l) in
     let head = l.put_head-a.ensures in
     let rows = l.put_rows-b.ensures in
-    let s = st k in
     omega (
       arith,
       head.ends,
       put-length head,
-      head-length s.args.summary,
+      head-length k.args.summary,
       rows.ends,
       put-length rows,
       rows-length (length (palette k) / 3) (palette k) (count k),
-      s.requires.0,
-      s.requires.1,
+      k.requires.0,
+      k.requires.1,
     )
 
 same_length : tie.Need-shape_of-out

@@ -50,8 +50,8 @@ put-shade-requires c κs =
     let l = t.loop-q in
     let s = st t.before in
     let n = rows-length l.q s.args.palette.now (count s) in (
-      omega (arith, t.loop-q-test.taken),
-      omega (arith, t.loop-q-test.taken, n, l.invariant.1.ends, put-length l.invariant.1, s.requires.1),
+      omega (arith, t.loop-q-test.true),
+      omega (arith, t.loop-q-test.true, n, l.invariant.1.ends, put-length l.invariant.1, s.requires.1),
     )
 
 add-q : tie.Need-overflow_add-q invariant-loop decreases-loop
@@ -65,7 +65,7 @@ loop-again c =
     let t = turn (put c).before in
     let s = st t.before in
     let l = t.loop-q in (
-      omega (arith, t.loop-q-test.taken),
+      omega (arith, t.loop-q-test.true),
       rows_step l.q s.args.palette.now (count s) l.invariant.1 c.put_shade-a.ensures,
     )
 

@@ -91,14 +91,14 @@ work-run-requires c κs =
     let e = shared c in
     let r = ran e in
     let w = ready (p r) (k r) (raster-is r) r.add_strip-added.ensures r.run-ran.ensures in
-    (ready-count w e.if-number-ne-DONE.left, ready-room w e.if-number-ne-DONE.left)
+    (ready-count w e.if-number-ne-DONE.false, ready-room w e.if-number-ne-DONE.false)
 
 returns-2 : tie.Need-returns
 returns-2 c =
     let e = shared c.before in
     let r = ran e in
     let w = ready (p r) (k r) (raster-is r) r.add_strip-added.ensures r.run-ran.ensures in
-    ready-left w c.work_run.ensures (raster-is r) e.if-number-ne-DONE.left
+    ready-left w c.work_run.ensures (raster-is r) e.if-number-ne-DONE.false
 
 pub work_picture_spec : {M : Type 1} → statement M
 work_picture_spec =

@@ -35,7 +35,7 @@ array-share-prefix-palette c = search rules
 
 slice-aggregate-map-strip : tie.Need-slice_bounds-map_strip-end
 slice-aggregate-map-strip c =
-    let long = c.palette_from_groups.auto.1.1.1.1.1.1.0 ∙ length-replicate {A = ℕ} 192 0 in
+    let long = c.palette_from_groups.auto.palette ∙ length-replicate {A = ℕ} 192 0 in
     sym (length-take-le _ _ (omega (arith, long, c.requires.0)))
 
 slice-aggregate-map-strip-2 : tie.Need-slice_bounds-map_strip-end-2

@@ -17,74 +17,50 @@ lists c = c.before.before.before.before.before
 
 -- where the slices to read are known
 abbrev known : tie.After-gather-slots → tie.After-shared_slice_known-2-1
-known c = (lists c).before.before.before.before.before
-
--- where the function begins
-abbrev st : tie.After-gather-slots → tie.Start
-st c = (known c).before.before
+known c = c.before.before.before.before.before.before.before.before.before.before
 
 -- where the pixels are gathered, before their slots are counted
 abbrev here : tie.After-slice_known-9-1 → tie.After-gather-slots
 here c = c.before.before.before.before
 
--- where the lists are lent to map few slots
-abbrev few-lent : tie.After-map-few-arg7 → tie.After-map_few-arg-then-slots-le256-1
-few-lent c = c.before.before.before.before.before
-
 -- where the slots are few
-abbrev few-slots : tie.After-map-few-arg7 → tie.Then-slots-le256
-few-slots c = (few-lent c).before.before
-
--- where the lists come back
-abbrev few-back : tie.After-slice_known-then-slots-le256-6-1 → tie.After-blues-1
-few-back c = c.before.before.before.before.before
-
--- the first of them
-abbrev few-first : tie.After-blues-1 → tie.After-slice_known-then-slots-le256-1
-few-first c = c.before.before.before.before.before
+abbrev few-slots : tie.After-map_few-arg-then-slots-le256-5-1 → tie.Then-slots-le256
+few-slots c = c.before.before.before.before.before.before
 
 -- where few slots are mapped
 abbrev few : tie.After-slice_known-then-slots-le256-6-1 → tie.After-map_few
-few c = (few-first (few-back c)).before.before
-
--- where the lists are lent to map many slots
-abbrev many-lent : tie.After-map-many-arg7 → tie.After-map_many-arg-else-slots-le256-1
-many-lent c = c.before.before.before.before.before
+few c = c.before.before.before.before.before.before.before.before.before.before.before.before
 
 -- where the slots are many
-abbrev many-slots : tie.After-map-many-arg7 → tie.Else-slots-le256
-many-slots c = (many-lent c).before.before
-
--- where the lists come back
-abbrev many-back : tie.After-slice_known-else-slots-le256-5-1 → tie.After-blues-else-slots-le256-1
-many-back c = c.before.before.before.before.before
+abbrev many-slots : tie.After-map_many-arg-else-slots-le256-4-1 → tie.Else-slots-le256
+many-slots c = c.before.before.before.before.before
 
 -- where many slots are mapped
 abbrev many : tie.After-slice_known-else-slots-le256-5-1 → tie.After-map_many
-many c = (many-back c).before.before.before.before.before
+many c = c.before.before.before.before.before.before.before.before.before.before
 
 -- the strip is of bytes
-bytes : (c : tie.After-gather-slots) → Bytes (st c).args.strip.now
-bytes c i = omega (arith, (known c).shared_slice_known-1.given i)
+bytes : (c : tie.After-gather-slots) → Bytes c.args.strip.now
+bytes c i = omega (arith, c.shared_slice_known-1.given i)
 
 -- the pixels are gathered, one for each place of the index
 gathered : (c : tie.After-gather-slots)
-    → Gathered (pixel_key (st c).args.strip.now) (length (st c).args.index.now) c.gather-slots.new.keys
+    → Gathered (pixel_key c.args.strip.now) (length c.args.index.now) c.gather-slots.new.keys
     c.gather-slots.new.which c.gather-slots.result
 gathered c =
-    let n : length (st c).args.strip.now / 3 ≡ length (st c).args.index.now = omega (arith, (st c).requires.0) in
+    let n : length c.args.strip.now / 3 ≡ length c.args.index.now = omega (arith, c.requires.0) in
     rw n at c.gather-slots.ensures
 
 -- there is room to work
 room : (c : tie.After-gather-slots)
-    → let a = (st c).args in
+    → let a = c.args in
     Room (length a.index.now) c.gather-slots.new.keys c.gather-slots.new.which a.reds.now
     a.greens.now a.blues.now a.best.now
 room c =
-    let p = (st c).requires.4 in
+    let p = c.requires.4 in
     record {
-      key = omega (arith, p.key, c.gather-slots.auto.1.0);
-      slot = omega (arith, p.slot, c.gather-slots.auto.1.1.0);
+      key = omega (arith, p.key, c.gather-slots.auto.keys);
+      slot = omega (arith, p.slot, c.gather-slots.auto.which);
       point = p.point;
       number = p.number;
     }
@@ -96,13 +72,13 @@ map-few-requires : tie.Need-map_few-requires
 map-few-requires c κs =
     let taken = few-slots c in
     let g = here taken.before in
-    let p = (st g).requires in
-    (p.1, p.2, p.3, gathered-taken (gathered g) (omega (arith, taken.if-slots-le256.taken)), room g)
+    let p = g.requires in
+    (p.1, p.2, p.3, gathered-taken (gathered g) (omega (arith, taken.if-slots-le256.true)), room g)
 
 map-many-requires : tie.Need-map_many-requires
 map-many-requires c κs =
     let g = here (many-slots c).before in
-    let p = (st g).requires in
+    let p = g.requires in
     (p.0, p.1, p.2, p.3, room g, gathered g)
 
 same_length : tie.Need-shape_of-keys-then-slots-le256
@@ -130,7 +106,7 @@ returns : tie.Need-returns-then-slots-le256
 returns c =
     let m = few c in
     let g = here (few-slots m.before).before in
-    let a = (st g).args in
+    let a = g.args in
     let e = m.map_few.ensures in (
       gathered-index a.strip.now (bytes g) (gathered g) a.shades.now a.count a.index.now e.0,
       gathered-errors a.strip.now (bytes g) (gathered g) a.shades.now a.count e.1,
@@ -158,7 +134,7 @@ same-length-14 : tie.Need-shape_of-index-else-slots-le256
 same-length-14 c = search rules
 
 returns-2 : tie.Need-returns-else-slots-le256
-returns-2 c = (many c).map_many.ensures
+returns-2 c = c.map_many.ensures
 
 pub map_block_spec : {M : Type 1} → statement M
 map_block_spec =

@@ -22,11 +22,11 @@ lists c = c.before.before.before.before.before
 
 -- where the slices to read are known
 abbrev known : tie.After-search_slots-arg-4-1 → tie.After-shared_slice_known-3-1
-known c = (lists c).before.before.before.before.before
+known c = c.before.before.before.before.before.before.before.before.before.before
 
 -- where the function begins
 abbrev st : tie.After-search_slots-arg-4-1 → tie.Start
-st c = (known c).before.before.before
+st c = c.before.before.before.before.before.before.before.before.before.before.before.before.before
 
 -- where the lists to work in come back
 abbrev back : tie.After-settle-arg-1 → tie.After-blues-1
@@ -34,27 +34,27 @@ back c = c.before.before.before.before
 
 -- where the slots are searched
 abbrev found : tie.After-settle-arg-1 → tie.After-search_slots
-found c = (back c).before.before.before.before.before
+found c = c.before.before.before.before.before.before.before.before.before
 
 -- the strip is of bytes
-bytes : (c : tie.After-search_slots-arg-4-1) → Bytes (st c).args.strip.now
-bytes c i = omega (arith, (known c).shared_slice_known-1.given i)
+bytes : (c : tie.After-search_slots-arg-4-1) → Bytes c.args.strip.now
+bytes c i = omega (arith, c.shared_slice_known-1.given i)
 
 -- the slots are searched
 all : (c : tie.After-search_slots)
-    → let a = (st c.before).args in
+    → let a = c.args in
     Searched (pixel_at a.strip.now) a.shades.now a.count (length a.index.now) a.which.now
     c.search_slots.new.best
 all c =
-    let a = (st c.before).args in
-    let p = (st c.before).requires in
+    let a = c.args in
+    let p = c.requires in
     searched-all p.1 p.2 p.5
     (λ i q l. levels-of-pixel a.strip.now a.keys.now i q (bytes c.before)) a.best.now
     (omega (arith, p.4.number, p.5.few)) c.search_slots.ensures
 
 search-slots-requires : tie.Need-search_slots-requires
 search-slots-requires c κs =
-    let p = (st c).requires in
+    let p = c.requires in
     let few = p.5.few in
     (p.1, p.2, omega (arith, few, p.4.key), omega (arith, few, p.4.number), room_for few p.4.point)
 
@@ -83,7 +83,7 @@ returns : tie.Need-returns
 returns c =
     let f = found c.before.before.before in
     let e = c.settle.ensures in
-    (searched-index (all f) (st f.before).args.index.now e.0, searched-errors (all f) e.1)
+    (searched-index (all f) f.args.index.now e.0, searched-errors (all f) e.1)
 
 pub map_many_spec : {M : Type 1} → statement M
 map_many_spec =

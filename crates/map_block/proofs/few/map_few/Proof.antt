@@ -24,23 +24,23 @@ lists c = c.before.before.before.before.before
 
 -- where the slots of the pixels are known
 abbrev known : tie.After-join-joined → tie.After-shared_slice_known-1
-known c = (lists c).before.before.before.before.before
+known c = c.before.before.before.before.before.before.before.before.before.before
 
 -- where the function begins
 abbrev st : tie.After-join-joined → tie.Start
-st c = (known c).before
+st c = c.before.before.before.before.before.before.before.before.before.before.before
 
 -- where the lists are lent to search
-abbrev lent : tie.After-search-slots-arg5 → tie.After-link-2-1
-lent c = c.before.before.before.before.before
+abbrev lent : tie.After-search_slots-arg-4-1 → tie.After-link-2-1
+lent c = c.before.before.before.before
 
 -- where the slots are joined
-abbrev linked : tie.After-search-slots-arg5 → tie.After-join-joined
-linked c = (lent c).before.before.before
+abbrev linked : tie.After-search_slots-arg-4-1 → tie.After-join-joined
+linked c = c.before.before.before.before.before.before.before
 
 -- and from their search
 abbrev here : tie.After-search_slots → tie.After-join-joined
-here c = linked c.before
+here c = c.before.before.before.before.before.before.before.before
 
 -- where the lists have come back
 abbrev back : tie.After-told-1 → tie.After-best-1
@@ -52,7 +52,7 @@ first c = c.before.before.before.before.before
 
 -- where the joined slots are searched
 abbrev found : tie.After-told-1 → tie.After-search_slots
-found c = (first (back c)).before.before
+found c = c.before.before.before.before.before.before.before.before.before.before
 
 -- where they are told of, from the function's end
 abbrev end : tie.After-slice_known-12-1 → tie.After-told-2-1
@@ -60,35 +60,35 @@ end c = c.before.before.before.before.before
 
 -- the slots are joined
 joined : (c : tie.After-join-joined)
-    → Gathered (slot_key (st c).args.keys.now) (st c).args.slots c.join-joined.new.keys c.join-joined.new.link
+    → Gathered (slot_key c.args.keys.now) c.args.slots c.join-joined.new.keys c.join-joined.new.link
     c.join-joined.result
 joined c = c.join-joined.ensures
 
 -- in no more than there are pixels
-fewer : (c : tie.After-join-joined) → c.join-joined.result ≤ length (st c).args.index.now
-fewer c = omega (arith, (joined c).few, (st c).requires.3.few)
+fewer : (c : tie.After-join-joined) → c.join-joined.result ≤ length c.args.index.now
+fewer c = omega (arith, (joined c).few, c.requires.3.few)
 
 -- they are searched
 all : (c : tie.After-search_slots)
-    → let g = here c in
-    let a = (st g).args in
-    Searched (levels_at a.keys.now) a.shades.now a.count a.slots g.join-joined.last.1.1.0
+    →
+    let a = c.args in
+    Searched (levels_at a.keys.now) a.shades.now a.count a.slots c.join-joined.new.link
     c.search_slots.new.best
 all c =
     let g = here c in
-    let p = (st g).requires in
+    let p = g.requires in
     searched-all p.0 p.1 (joined g)
-    (λ i q l. levels-same g.join-joined.last.0 (st g).args.keys.now i q) (st g).args.best.now
+    (λ i q l. levels-same g.join-joined.new.keys g.args.keys.now i q) g.args.best.now
     (omega (arith, fewer g, p.4.number)) c.search_slots.ensures
 
 -- and told of
 told : (c : tie.After-tell)
-    → let a = (st (here (found c.before))).args in
+    → let a = c.args in
     NearestTold (levels_at a.keys.now) a.shades.now a.count a.slots c.tell.new.told
 told c =
     let f = found c.before in
     let g = here f in
-    joined-told (st g).args.keys.now (joined g) (all f) _ (omega (arith, (st g).requires.3.at_most)) c.tell.ensures
+    joined-told g.args.keys.now (joined g) (all f) _ (omega (arith, g.requires.3.at_most)) c.tell.ensures
 
 slice-aggregate-join : tie.Need-slice_bounds-join-end
 slice-aggregate-join c = search rules
@@ -99,10 +99,10 @@ join-requires c κs = search rules
 search-slots-requires : tie.Need-search_slots-requires
 search-slots-requires c κs =
     let g = linked c in
-    let p = (st g).requires in (
+    let p = g.requires in (
       p.0,
       p.1,
-      omega (arith, fewer g, p.4.key, g.join-joined.kept.0),
+      omega (arith, fewer g, p.4.key, g.join-joined.auto.keys),
       omega (arith, fewer g, p.4.number),
       room_for (fewer g) p.4.point,
     )
@@ -117,10 +117,10 @@ tell-requires : tie.Need-tell-requires
 tell-requires c κs =
     let f = found c in
     let g = here f in
-    let p = (st g).requires in
-    joined-tellable (st g).args.keys.now (joined g) (all f) p.0 p.1
-    (omega (arith, p.3.at_most, g.join-joined.kept.1.1.0))
-    (omega (arith, fewer g, p.4.key, g.join-joined.kept.0)) _
+    let p = g.requires in
+    joined-tellable g.args.keys.now (joined g) (all f) p.0 p.1
+    (omega (arith, p.3.at_most, g.join-joined.auto.link))
+    (omega (arith, fewer g, p.4.key, g.join-joined.auto.keys)) _
     (omega (arith, p.3.at_most))
 
 slice-aggregate-add-told : tie.Need-slice_bounds-add_told-end
@@ -129,13 +129,13 @@ slice-aggregate-add-told c = search rules
 add-told-requires : tie.Need-add_told-requires
 add-told-requires c κs =
     let t = c.before.before.before in
-    let p = (st (here (found t.before))).requires in
+    let p = t.requires in
     told-asked (told t) _ _ p.3 p.0 p.1 p.4.slot (omega (arith, p.2))
 
 same_length : tie.Need-shape_of-keys
 same_length c =
     let t = (end c).before in
-    (here (found t.before)).join-joined.auto.0
+    t.join-joined.auto.keys
 
 same-length-2 : tie.Need-shape_of-reds
 same-length-2 c = search rules

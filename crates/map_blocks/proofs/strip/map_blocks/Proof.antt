@@ -37,13 +37,9 @@ turn c = c.before.before.before.before
 abbrev lent : tie.After-best-1 invariant-loop decreases-loop → tie.After-keys-1 invariant-loop decreases-loop
 lent c = c.before.before.before.before.before
 
--- where the block's end is told, from the same
-abbrev ended : tie.After-best-1 invariant-loop decreases-loop → tie.After-block_end-e invariant-loop decreases-loop
-ended c = (lent c).before.before
-
 -- and from its mapping
 abbrev told : tie.After-map_block-block invariant-loop decreases-loop → tie.After-block_end-e invariant-loop decreases-loop
-told c = ended c.before.before
+told c = c.before.before.before.before.before.before.before.before.before
 
 -- where the lists have come back
 abbrev back : tie.After-slice_known-in-loop-i-1 invariant-loop decreases-loop → tie.After-reds-in-loop-i-1 invariant-loop decreases-loop
@@ -51,7 +47,7 @@ back c = c.before.before.before.before.before
 
 -- where the block is mapped
 abbrev mapped : tie.After-slice_known-in-loop-i-1 invariant-loop decreases-loop → tie.After-map_block-block invariant-loop decreases-loop
-mapped c = (back c).before.before.before
+mapped c = c.before.before.before.before.before.before.before.before
 
 -- the strip is of bytes
 bytes : (c : tie.At-loop-i invariant-loop decreases-loop) → Bytes c.args.strip.now
@@ -109,44 +105,42 @@ slice-aggregate-map-block-6 : tie.Need-slice_bounds-map_block-end-in-loop-i-6 in
 slice-aggregate-map-block-6 c = omega (arith, c.loop-i.invariant.1.best_long)
 
 sub-map-block-2 : tie.Need-slice_bounds-map_block-count-in-loop-i invariant-loop decreases-loop
-sub-map-block-2 c = omega (arith, (ended c).block_end-e.ensures)
+sub-map-block-2 c = omega (arith, c.block_end-e.ensures)
 
 part-map-block-start-2 : tie.Need-slice_bounds-map_block-start-in-loop-i invariant-loop decreases-loop
-part-map-block-start-2 c = omega (arith, (ended c).block_end-e.ensures)
+part-map-block-start-2 c = omega (arith, c.block_end-e.ensures)
 
 part-map-block-end-2 : tie.Need-slice_bounds-map_block-end-in-loop-i-7 invariant-loop decreases-loop
 part-map-block-end-2 c =
-    let b = ended c in
-    omega (arith, b.block_end-e.ensures, mapped-long b.loop-i.invariant.0)
+    omega (arith, c.block_end-e.ensures, mapped-long c.loop-i.invariant.0)
 
 map-block-requires : tie.Need-map_block-block-requires invariant-loop decreases-loop
 map-block-requires c κs =
-    let b = ended c.before in
-    let e = b.block_end-e.ensures in
-    block-asked b.loop-i.invariant.0 b.block_end-e.result (omega arith) e.within b.requires b.loop-i.invariant.1
+    let e = c.block_end-e.ensures in
+    block-asked c.loop-i.invariant.0 c.block_end-e.result (omega arith) e.within c.requires c.loop-i.invariant.1
     e.few
 
 plus-requires : tie.Need-plus-errors-requires invariant-loop decreases-loop
 plus-requires c κs =
     let at = mapped c in
-    let b = (told at).block_end-e in
+    let b = at.block_end-e in
     let l = (told at).before.before in
     errors-small l.loop-i.invariant.0 b.result (omega (arith, b.ensures)) b.ensures.within l.requires (bytes l)
     at.map_block-block.ensures.1
 
 loop-less : tie.Need-loop-i-smaller invariant-loop decreases-loop
 loop-less c =
-    let b = (told (mapped c.before)).block_end-e in
+    let b = c.block_end-e in
     omega (arith, b.ensures)
 
 loop-again : tie.Need-loop-i-preserved invariant-loop decreases-loop
 loop-again c =
     let at = mapped c.before in
     let m = at.map_block-block in
-    let b = (told at).block_end-e in
+    let b = at.block_end-e in
     let l = (told at).before.before in
     let w = l.loop-i.invariant.1 in
-    let kept = m.kept.1.1.1 in (
+    let kept = m.auto.1.1.1 in (
       rw c.plus-errors.ensures
           (mapped-step l.loop-i.invariant.0 b.result (omega (arith, b.ensures)) b.ensures.within m.ensures.0
           m.ensures.1),

@@ -20,10 +20,9 @@ slice-aggregate-map-blocks c = search rules
 
 map-blocks-requires : tie.Need-map_blocks-requires
 map-blocks-requires c κs =
-    let w = widened c in
-    let p = w.requires in (
+    let p = c.requires in (
       p.pixels,
-      widened-shades p w.widen.ensures (λ i. omega (arith, w.shared_slice_known-2-1.given i)),
+      widened-shades p c.widen.ensures (λ i. omega (arith, c.shared_slice_known-2-1.given i)),
       p.some,
       p.few,
     )
@@ -33,11 +32,10 @@ same_length c = search rules
 
 returns : tie.Need-returns
 returns c =
-    let w = widened c.before.before.before in
-    let p = w.requires in
+    let p = c.requires in
     let e = c.map_blocks.ensures in (
-      widened-index p w.widen.ensures w.args.index.now e.0,
-      widened-errors p w.widen.ensures e.1,
+      widened-index p c.widen.ensures c.args.index.now e.0,
+      widened-errors p c.widen.ensures e.1,
     )
 
 pub map_pixels_spec : {M : Type 1} → statement M

@@ -28,14 +28,6 @@ invariant-loop strip which s best index₀ n red₀ green₀ blue₀ i₀ index 
 abbrev decreases-loop : tie.decreases-loop-i
 decreases-loop strip which s best index₀ n red₀ green₀ blue₀ i₀ index red green blue i = length index₀ - i
 
--- where the function begins, from the loop's beginning
-abbrev begin : tie.After-slice_known-1 invariant-loop decreases-loop → tie.Start invariant-loop decreases-loop
-begin c = c.before.before.before.before.before
-
--- and from a turn
-abbrev st : tie.At-loop-i invariant-loop decreases-loop → tie.Start invariant-loop decreases-loop
-st c = begin c.before
-
 -- where the turn begins, from its first miss
 abbrev turn : tie.After-miss-red invariant-loop decreases-loop → tie.In-loop-i invariant-loop decreases-loop
 turn c = c.before.before.before.before.before
@@ -46,9 +38,9 @@ first c = c.before.before.before
 
 -- the shade with the number found is in s
 inside : (c : tie.In-loop-i invariant-loop decreases-loop)
-    → let a = (st c.before).args in
+    → let a = c.args in
     3 * found_number a.which.now a.best.now c.loop-i.i + 2 < length a.shades.now
-inside c = (st c.before).requires.inside c.loop-i.i (omega arith)
+inside c = c.requires.inside c.loop-i.i (omega arith)
 
 -- the errors so far are small
 small : (c : tie.At-loop-i invariant-loop decreases-loop)
@@ -56,10 +48,10 @@ small : (c : tie.At-loop-i invariant-loop decreases-loop)
     let m = most_coordinate * most_coordinate in
     (l.red ≤ l.i * m) × (l.green ≤ l.i * m) × (l.blue ≤ l.i * m)
 small c =
-    let a = (st c).args in
+    let a = c.args in
     let known = c.shared_slice_known-1.given in
     let low = misses-low most_coordinate (pixel_at a.strip.now) a.shades.now
-    (found_number a.which.now a.best.now) (λ q. shade-within a.shades.now q (st c).requires.shades) in
+    (found_number a.which.now a.best.now) (λ q. shade-within a.shades.now q c.requires.shades) in
     let on = pixels-on-grid a.strip.now (length a.index.now) (λ p. omega (arith, known p)) in
     settled-small c.loop-i.invariant (most_coordinate * most_coordinate) (λ j l. low j (on j l))
 
@@ -72,10 +64,10 @@ loop-holds c =
     settled-start f (miss_at 0 p s f) (miss_at 1 p s f) (miss_at 2 p s f) a.index.now
 
 mul-number : tie.Need-offset_bounds-which-i invariant-loop decreases-loop
-mul-number c = omega (arith, (st c.before).requires.room)
+mul-number c = omega (arith, c.requires.room)
 
 shared-slice-read-number : tie.Need-bounds-which-i invariant-loop decreases-loop
-shared-slice-read-number c = omega (arith, (st c.before.before).requires.room)
+shared-slice-read-number c = omega (arith, c.requires.room)
 
 cast-number : tie.Need-overflow_cast-number invariant-loop decreases-loop
 cast-number c = omega (arith, c.shared_slice_known-in-loop-i-1.given c.loop-i.i)
@@ -85,8 +77,7 @@ mul-number-2 c = omega (arith, c.shared_slice_known-in-loop-i-1.given c.loop-i.i
 
 shared-slice-read-number-2 : tie.Need-bounds-best-which invariant-loop decreases-loop
 shared-slice-read-number-2 c =
-    let l = c.before.before.before in
-    (st l).requires.slotted l.loop-i.i (omega arith)
+    c.requires.slotted c.loop-i.i (omega arith)
 
 cast-index : tie.Need-overflow_cast-index invariant-loop decreases-loop
 cast-index c = omega arith
@@ -95,7 +86,7 @@ slice-write-index : tie.Need-bounds-index-i invariant-loop decreases-loop
 slice-write-index c = omega (arith, settled-long c.loop-i.invariant)
 
 mul-from : tie.Need-overflow_mul-from invariant-loop decreases-loop
-mul-from c = omega (arith, (st c.before.before.before).requires.pixels)
+mul-from c = omega (arith, c.requires.pixels)
 
 cast-at : tie.Need-overflow_cast-at invariant-loop decreases-loop
 cast-at c = omega arith
@@ -104,7 +95,7 @@ mul_at : tie.Need-overflow_mul-at invariant-loop decreases-loop
 mul_at c = omega arith
 
 shared-slice-read-miss : tie.Need-bounds-strip-from invariant-loop decreases-loop
-shared-slice-read-miss c = omega (arith, (st c.before.before.before.before).requires.pixels)
+shared-slice-read-miss c = omega (arith, c.requires.pixels)
 
 mul-miss : tie.Need-offset_bounds-shades-at invariant-loop decreases-loop
 mul-miss c = omega arith
@@ -113,18 +104,18 @@ shared-slice-read-miss-2 : tie.Need-bounds-shades-at invariant-loop decreases-lo
 shared-slice-read-miss-2 c = omega (arith, inside c.before.before.before.before)
 
 miss-requires : tie.Need-miss-red-requires invariant-loop decreases-loop
-miss-requires c κs = (st c.before.before.before.before.before).requires.shades _
+miss-requires c κs = c.requires.shades _
 
 add-red : tie.Need-overflow_add-red invariant-loop decreases-loop
 add-red c =
     let l = (turn c).before in
-    omega (arith, small l, (st l).requires.few, c.miss-red.ensures.1)
+    omega (arith, small l, l.requires.few, c.miss-red.ensures.1)
 
 add-miss : tie.Need-overflow_add-from invariant-loop decreases-loop
-add-miss c = omega (arith, (st (turn c).before).requires.pixels)
+add-miss c = omega (arith, c.requires.pixels)
 
 shared-slice-read-miss-3 : tie.Need-bounds-strip-from-in-loop-i invariant-loop decreases-loop
-shared-slice-read-miss-3 c = omega (arith, (st (turn c.before).before).requires.pixels)
+shared-slice-read-miss-3 c = omega (arith, c.requires.pixels)
 
 add-miss-2 : tie.Need-overflow_add-at invariant-loop decreases-loop
 add-miss-2 c = omega arith
@@ -136,18 +127,18 @@ shared-slice-read-miss-4 : tie.Need-bounds-shades-at-in-loop-i invariant-loop de
 shared-slice-read-miss-4 c = omega (arith, inside (turn c.before.before))
 
 miss-requires-2 : tie.Need-miss-green-requires invariant-loop decreases-loop
-miss-requires-2 c κs = (st (turn c.before.before).before).requires.shades _
+miss-requires-2 c κs = c.requires.shades _
 
 add-green : tie.Need-overflow_add-green invariant-loop decreases-loop
 add-green c =
     let l = (turn (first c)).before in
-    omega (arith, small l, (st l).requires.few, c.miss-green.ensures.1)
+    omega (arith, small l, l.requires.few, c.miss-green.ensures.1)
 
 add-miss-3 : tie.Need-overflow_add-from-in-loop-i invariant-loop decreases-loop
-add-miss-3 c = omega (arith, (st (turn (first c)).before).requires.pixels)
+add-miss-3 c = omega (arith, c.requires.pixels)
 
 shared-slice-read-miss-5 : tie.Need-bounds-strip-from-in-loop-i-2 invariant-loop decreases-loop
-shared-slice-read-miss-5 c = omega (arith, (st (turn (first c.before)).before).requires.pixels)
+shared-slice-read-miss-5 c = omega (arith, c.requires.pixels)
 
 add-miss-4 : tie.Need-overflow_add-at-in-loop-i invariant-loop decreases-loop
 add-miss-4 c = omega arith
@@ -159,12 +150,12 @@ shared-slice-read-miss-6 : tie.Need-bounds-shades-at-in-loop-i-2 invariant-loop 
 shared-slice-read-miss-6 c = omega (arith, inside (turn (first c.before.before)))
 
 miss-requires-3 : tie.Need-miss-blue-requires invariant-loop decreases-loop
-miss-requires-3 c κs = (st (turn (first c.before.before)).before).requires.shades _
+miss-requires-3 c κs = c.requires.shades _
 
 add-blue : tie.Need-overflow_add-blue invariant-loop decreases-loop
 add-blue c =
     let l = (turn (first c.before.before.before)).before in
-    omega (arith, small l, (st l).requires.few, c.miss-blue.ensures.1)
+    omega (arith, small l, l.requires.few, c.miss-blue.ensures.1)
 
 add-i : tie.Need-overflow_add-i invariant-loop decreases-loop
 add-i c = omega arith

@@ -80,8 +80,7 @@ loop-less c = omega arith
 
 loop-again : tie.Need-loop-i-preserved invariant-loop decreases-loop
 loop-again c =
-    let l = turn c.before.before.before.before.before in
-    fronts-step l.loop-i.invariant (omega arith) l.requires.1
+    fronts-step c.loop-i.invariant (omega arith) c.requires.1
     record { r = c.short_of.result; g = c.short_of-in-loop-i.result; b = c.short_of-in-loop-i-2.result }
     (rw (
       c.short_of.ensures.0 ∙ c.red_of.ensures.0,

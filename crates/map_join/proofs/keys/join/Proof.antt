@@ -16,10 +16,6 @@ invariant-loop keys₀ n link₀ sites₀ taken₀ i₀ keys link sites taken i 
 abbrev decreases-loop : tie.decreases-loop-i
 decreases-loop keys₀ n link₀ sites₀ taken₀ i₀ keys link sites taken i = n - i
 
--- the loop, from the slot that the key takes
-abbrev turn : tie.After-slot_for-slot invariant-loop decreases-loop → tie.At-loop-i invariant-loop decreases-loop
-turn c = c.before.before.before
-
 -- the slots taken are fewer than the keys, and fewer than may be joined
 fewer : (c : tie.In-loop-i invariant-loop decreases-loop)
     → let l = c.loop-i in (l.taken < length l.keys) × (l.taken < few_slots)
@@ -54,13 +50,13 @@ array-read-slot-for : tie.Need-bounds-sites-site invariant-loop decreases-loop
 array-read-slot-for c = omega (arith, c.loop-i.invariant.1)
 
 slot-for-requires : tie.Need-slot_for-slot-requires invariant-loop decreases-loop
-slot-for-requires c κs = omega (arith, (fewer c.before.before).0)
+slot-for-requires c κs = omega (arith, (fewer c.before).0)
 
 mul-keys : tie.Need-offset_bounds-keys-slot invariant-loop decreases-loop
-mul-keys c = omega (arith, most c, (fewer c.before.before.before).1)
+mul-keys c = omega (arith, most c, (fewer c.before.before).1)
 
 slice-write-keys : tie.Need-bounds-keys-slot invariant-loop decreases-loop
-slice-write-keys c = omega (arith, most c, (fewer c.before.before.before).0)
+slice-write-keys c = omega (arith, most c, (fewer c.before.before).0)
 
 mul-sites : tie.Need-offset_bounds-sites-site-in-loop-i invariant-loop decreases-loop
 mul-sites c = omega arith
@@ -69,13 +65,13 @@ array-write-sites : tie.Need-bounds-sites-site-in-loop-i invariant-loop decrease
 array-write-sites c = omega (arith, c.loop-i.invariant.1)
 
 cast-link : tie.Need-overflow_cast-link invariant-loop decreases-loop
-cast-link c = omega (arith, most c, (fewer c.before.before.before).1)
+cast-link c = omega (arith, most c, (fewer c.before.before).1)
 
 slice-write-link : tie.Need-bounds-link-i invariant-loop decreases-loop
 slice-write-link c = omega (arith, c.loop-i.invariant.0.link_long, c.requires.1)
 
 with-slot-requires : tie.Need-with_slot-taken-requires invariant-loop decreases-loop
-with-slot-requires c κs = (most c, omega (arith, (fewer c.before.before.before).1))
+with-slot-requires c κs = (most c, omega (arith, (fewer c.before.before).1))
 
 add-i : tie.Need-overflow_add-i invariant-loop decreases-loop
 add-i c = omega arith
@@ -86,12 +82,11 @@ loop-less c = omega arith
 loop-again : tie.Need-loop-i-preserved invariant-loop decreases-loop
 loop-again c =
     let at = c.before in
-    let l = turn at in
     let e = c.with_slot-taken.ensures in (
-      joining-step l.loop-i.invariant.0 (omega arith) at.slot_for-slot.ensures
-          (omega (arith, most at, (fewer at.before.before.before).0))
-          (omega (arith, l.loop-i.invariant.0.link_long, l.requires.1)) e.0 e.1 e.2,
-      length-set l.loop-i.sites (slot_key l.loop-i.keys l.loop-i.i % 251) at.slot_for-slot.result ∙ l.loop-i.invariant.1,
+      joining-step at.loop-i.invariant.0 (omega arith) at.slot_for-slot.ensures
+          (omega (arith, most at, (fewer at.before.before).0))
+          (omega (arith, at.loop-i.invariant.0.link_long, at.requires.1)) e.0 e.1 e.2,
+      length-set at.loop-i.sites (slot_key at.loop-i.keys at.loop-i.i % 251) at.slot_for-slot.result ∙ at.loop-i.invariant.1,
     )
 
 same_length : tie.Need-shape_of-keys invariant-loop decreases-loop

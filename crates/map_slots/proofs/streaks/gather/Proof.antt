@@ -16,30 +16,22 @@ invariant-loop strip keys₀ which₀ n slots₀ last₀ i₀ keys which slots l
 abbrev decreases-loop : tie.decreases-loop-i
 decreases-loop strip keys₀ which₀ n slots₀ last₀ i₀ keys which slots last i = length strip / 3 - i
 
--- the loop, from the key of the turn's pixel
-abbrev keyed : tie.After-key_of-key invariant-loop decreases-loop → tie.At-loop-i invariant-loop decreases-loop
-keyed c = c.before.before.before.before.before
-
--- and from the test whether the key differs
-abbrev turn : tie.After-bit invariant-loop decreases-loop → tie.At-loop-i invariant-loop decreases-loop
-turn c = keyed c.before
-
 -- the slot of the turn's pixel
 abbrev slot : tie.After-bit invariant-loop decreases-loop → ℕ
-slot c = (turn c).loop-i.slots + c.bit.result - 1
+slot c = c.loop-i.slots + c.bit.result - 1
 
 -- it takes that slot
 takes : (c : tie.After-bit invariant-loop decreases-loop)
-    → let l = (turn c).loop-i in (0 < l.slots + c.bit.result)
+    → let l = c.loop-i in (0 < l.slots + c.bit.result)
     × (l.slots + c.bit.result ≤ l.slots + 1)
     × Takes l.keys l.slots c.key_of-key.result (slot c)
-takes c = gathering-takes (turn c).loop-i.invariant c.key_of-key.ensures.1 c.bit.ensures.0
+takes c = gathering-takes c.loop-i.invariant c.key_of-key.ensures.1 c.bit.ensures.0
 
 -- and has room there
-room : (c : tie.After-bit invariant-loop decreases-loop) → slot c < length (turn c).loop-i.keys
+room : (c : tie.After-bit invariant-loop decreases-loop) → slot c < length c.loop-i.keys
 room c =
-    let w = (turn c).loop-i.invariant in
-    omega (arith, takes c, w.gathered.few, w.keys_long, (turn c).requires.0)
+    let w = c.loop-i.invariant in
+    omega (arith, takes c, w.gathered.few, w.keys_long, c.requires.0)
 
 loop-holds : tie.Need-loop-i-init invariant-loop decreases-loop
 loop-holds c =
@@ -74,25 +66,25 @@ cast-slots : tie.Need-overflow_cast-slots invariant-loop decreases-loop
 cast-slots c = search rules
 
 add-slots : tie.Need-overflow_add-slots invariant-loop decreases-loop
-add-slots c = omega (arith, takes c, (turn c).loop-i.invariant.gathered.few)
+add-slots c = omega (arith, takes c, c.loop-i.invariant.gathered.few)
 
 sub-slot : tie.Need-overflow_sub-slot invariant-loop decreases-loop
 sub-slot c = omega (arith, takes c)
 
 mul-keys : tie.Need-offset_bounds-keys-slot invariant-loop decreases-loop
-mul-keys c = omega (arith, takes c, (turn c).loop-i.invariant.gathered.few, (turn c).requires.2)
+mul-keys c = omega (arith, takes c, c.loop-i.invariant.gathered.few, c.requires.2)
 
 slice-write-keys : tie.Need-bounds-keys-slot invariant-loop decreases-loop
 slice-write-keys c = omega (arith, room c)
 
 cast-which : tie.Need-overflow_cast-which invariant-loop decreases-loop
-cast-which c = omega (arith, takes c, (turn c).loop-i.invariant.gathered.few, (turn c).requires.2)
+cast-which c = omega (arith, takes c, c.loop-i.invariant.gathered.few, c.requires.2)
 
 mul-which : tie.Need-offset_bounds-which-i invariant-loop decreases-loop
 mul-which c = omega arith
 
 slice-write-which : tie.Need-bounds-which-i invariant-loop decreases-loop
-slice-write-which c = omega (arith, (turn c).loop-i.invariant.which_long, (turn c).requires.1)
+slice-write-which c = omega (arith, c.loop-i.invariant.which_long, c.requires.1)
 
 add-i : tie.Need-overflow_add-i invariant-loop decreases-loop
 add-i c = omega arith
@@ -102,9 +94,8 @@ loop-less c = omega arith
 
 loop-again : tie.Need-loop-i-preserved invariant-loop decreases-loop
 loop-again c =
-    let l = turn c in
-    gathering-step l.loop-i.invariant (omega arith) c.key_of-key.ensures.0 (takes c).2
-    (omega (arith, takes c)) (omega arith) (takes c).1 (room c) (omega (arith, l.loop-i.invariant.which_long, l.requires.1))
+    gathering-step c.loop-i.invariant (omega arith) c.key_of-key.ensures.0 (takes c).2
+    (omega (arith, takes c)) (omega arith) (takes c).1 (room c) (omega (arith, c.loop-i.invariant.which_long, c.requires.1))
 
 same_length : tie.Need-shape_of-keys invariant-loop decreases-loop
 same_length c = c.loop-i.invariant.keys_long

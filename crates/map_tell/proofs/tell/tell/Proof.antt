@@ -16,14 +16,6 @@ invariant-loop keys link best n s told₀ i₀ told i = Telling (levels_of keys 
 abbrev decreases-loop : tie.decreases-loop-i
 decreases-loop keys link best n s told₀ i₀ told i = n - i
 
--- where the function begins, from the loop's beginning
-abbrev begin : tie.After-slice_known-1 invariant-loop decreases-loop → tie.Start invariant-loop decreases-loop
-begin c = c.before.before.before.before.before
-
--- and from a turn
-abbrev st : tie.At-loop-i invariant-loop decreases-loop → tie.Start invariant-loop decreases-loop
-st c = begin c.before
-
 -- where the turn begins, from its red level
 abbrev turn : tie.After-red_of invariant-loop decreases-loop → tie.In-loop-i invariant-loop decreases-loop
 turn c = c.before.before.before.before
@@ -38,13 +30,13 @@ second c = c.before.before.before
 
 -- there is room for the turn's cells
 room : (c : tie.In-loop-i invariant-loop decreases-loop) → 4 * c.loop-i.i + 3 < length c.loop-i.told
-room c = omega (arith, telling-long c.loop-i.invariant, (st c.before).requires.room, c.loop-i-test.true)
+room c = omega (arith, telling-long c.loop-i.invariant, c.requires.room, c.loop-i-test.true)
 
 -- the shade with the number found is in s
 inside : (c : tie.In-loop-i invariant-loop decreases-loop)
-    → let a = (st c.before).args in
+    → let a = c.args in
     3 * found_number a.link.now a.best.now c.loop-i.i + 2 < length a.shades.now
-inside c = (st c.before).requires.inside c.loop-i.i (omega arith)
+inside c = c.requires.inside c.loop-i.i (omega arith)
 
 loop-holds : tie.Need-loop-i-init invariant-loop decreases-loop
 loop-holds c =
@@ -54,7 +46,7 @@ loop-holds c =
     a.told.now
 
 shared-slice-read-slot : tie.Need-bounds-link-i invariant-loop decreases-loop
-shared-slice-read-slot c = omega (arith, (st c.before.before).requires.links)
+shared-slice-read-slot c = omega (arith, c.requires.links)
 
 cast-slot : tie.Need-overflow_cast-slot invariant-loop decreases-loop
 cast-slot c = omega (arith, c.shared_slice_known-in-loop-i-1.given c.loop-i.i)
@@ -64,16 +56,14 @@ mul-key c = omega (arith, c.shared_slice_known-in-loop-i-1.given c.loop-i.i)
 
 shared-slice-read-key : tie.Need-bounds-keys-slot invariant-loop decreases-loop
 shared-slice-read-key c =
-    let l = c.before.before.before in
-    (st l).requires.keyed l.loop-i.i (omega arith)
+    c.requires.keyed c.loop-i.i (omega arith)
 
 mul-number : tie.Need-offset_bounds-best-slot invariant-loop decreases-loop
 mul-number c = omega (arith, c.shared_slice_known-in-loop-i-1.given c.loop-i.i)
 
 shared-slice-read-number : tie.Need-bounds-best-slot invariant-loop decreases-loop
 shared-slice-read-number c =
-    let l = c.before.before.before.before in
-    (st l).requires.slotted l.loop-i.i (omega arith)
+    c.requires.slotted c.loop-i.i (omega arith)
 
 cast-from : tie.Need-overflow_cast-from invariant-loop decreases-loop
 cast-from c = omega arith
@@ -94,7 +84,7 @@ shared-slice-read-square : tie.Need-bounds-shades-from invariant-loop decreases-
 shared-slice-read-square c = omega (arith, inside (turn c.before))
 
 square-requires : tie.Need-square-requires invariant-loop decreases-loop
-square-requires c κs = (omega (arith, c.red_of.ensures.1), (st (turn c.before).before).requires.shades _)
+square-requires c κs = (omega (arith, c.red_of.ensures.1), c.requires.shades _)
 
 mul-told : tie.Need-offset_bounds-told-at invariant-loop decreases-loop
 mul-told c = omega (arith, room (turn c.before.before))
@@ -117,7 +107,7 @@ shared-slice-read-square-2 c = omega (arith, inside (turn c.before.before.before
 square-requires-2 : tie.Need-square-requires-in-loop-i invariant-loop decreases-loop
 square-requires-2 c κs =
     let l = (turn c.before.before.before.before).before in
-    (omega (arith, c.green_of.ensures.1), (st l).requires.shades _)
+    (omega (arith, c.green_of.ensures.1), l.requires.shades _)
 
 add-told : tie.Need-overflow_add-told invariant-loop decreases-loop
 add-told c = omega (arith, room (turn (first c).before.before))
@@ -143,7 +133,7 @@ shared-slice-read-square-3 c = omega (arith, inside (turn (first c.before.before
 square-requires-3 : tie.Need-square-requires-in-loop-i-2 invariant-loop decreases-loop
 square-requires-3 c κs =
     let l = (turn (first c.before.before).before.before).before in
-    (omega (arith, c.blue_of.ensures.1), (st l).requires.shades _)
+    (omega (arith, c.blue_of.ensures.1), l.requires.shades _)
 
 add-told-2 : tie.Need-overflow_add-told-in-loop-i invariant-loop decreases-loop
 add-told-2 c = omega (arith, room (turn (first (second c)).before.before))
@@ -176,7 +166,7 @@ loop-again c =
     let two = second c in
     let one = first two in
     let l = (turn one.before.before).before in
-    telling-step l.loop-i.invariant (omega arith) (st l).requires.room
+    telling-step l.loop-i.invariant (omega arith) l.requires.room
     one.red_of.ensures.0 two.green_of.ensures.0
     c.blue_of.ensures.0 one.square.ensures.0 two.square-in-loop-i.ensures.0
     c.square-in-loop-i-2.ensures.0
@@ -187,7 +177,7 @@ same_length c = telling-long c.loop-i.invariant
 returns : tie.Need-returns invariant-loop decreases-loop
 returns c =
     let l = c.loop-i in
-    let e : l.i ≡ (st c.before).args.slots = omega (arith, l.invariant.within) in
+    let e : l.i ≡ c.args.slots = omega (arith, l.invariant.within) in
     rw e at l.invariant.is
 
 pub tell_spec : {M : Type 1} → statement M

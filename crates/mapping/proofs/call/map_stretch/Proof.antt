@@ -9,10 +9,6 @@ use Rattle.mapping.proofs.Ways.{stretch-mapped}
 use Rattle.mapping.proofs.call.map_stretch.Statement.{statement}
 use Rattle.mapping.proofs.call.map_stretch.Tie as tie
 
--- where the function begins
-abbrev st : tie.After-map_pixels → tie.Start
-st c = c.before.before.before.before.before
-
 add-end : tie.Need-overflow_add-end
 add-end c = search rules
 
@@ -33,15 +29,13 @@ same_length c = search rules
 
 returns : tie.Need-returns
 returns c =
-    let at = c.before.before in
-    let m = at.map_pixels in
-    let start = st at in
-    let a = start.args in (
+    let m = c.map_pixels in
+    let a = c.args in (
       stretch-mapped a.first a.pixels (entry_for a.palette.now a.strip.now) a.index.now _
-          start.requires.1 m.ensures.0,
+          c.requires.1 m.ensures.0,
       m.ensures.1
           ∙ ap (errors_of a.palette.now a.strip.now)
-          (mid_len a.first (a.first + a.pixels) a.index.now start.requires.1 ∙ omega arith),
+          (mid_len a.first (a.first + a.pixels) a.index.now c.requires.1 ∙ omega arith),
     )
 
 pub map_stretch_spec : {M : Type 1} → statement M

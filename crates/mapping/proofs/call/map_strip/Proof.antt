@@ -6,7 +6,7 @@ use native.Mathlib.Omega.{arith}
 use Prim.Native.Nat.{ℕ, ◌≤◌}
 use lib.Dec.{ltb}
 use borrow.Author.Tests.{eq-eqb, ne_eqb, lt-ltb, le-ltb}
-use Rattle.refusal.specs.{BAD-STRIP, BAD-PALETTE, TWIN_SHADE, MANY-PIXELS, SHORT-ROOM}
+use Rattle.refusal.specs.{BAD_STRIP, BAD_PALETTE, TWIN_SHADE, MANY_PIXELS, SHORT_ROOM}
 use Rattle.colour.specs.{bad_strip, most_pixels}
 use Rattle.palette.specs.{bad_palette}
 use Rattle.palette_twins.specs.{Twins, twin_shade}
@@ -71,7 +71,7 @@ refused-requires c κs = search rules
 returns : tie.Need-returns-then-strip-ne0
 returns c =
     let t = c.before.before in
-    map-meets-refused (s t) (p t) (d t) (a t) BAD-STRIP _ (simp (ne_eqb _ _ c.if-strip-ne0.true))
+    map-meets-refused (s t) (p t) (d t) (a t) BAD_STRIP _ (simp (ne_eqb _ _ c.if-strip-ne0.true))
     c.refused.ensures
 
 bad-palette-requires : tie.Need-bad_palette-requires
@@ -84,7 +84,7 @@ returns-2 : tie.Need-returns-then-bad_palette
 returns-2 c =
     let w = c.before.before.before in
     let t = w.before in
-    map-meets-refused (s t) (p t) (d t) (a t) BAD-PALETTE _
+    map-meets-refused (s t) (p t) (d t) (a t) BAD_PALETTE _
     (simp (whole w, sym c.bad_palette.ensures ∙ c.if-bad_palette.true)) c.refused-then-bad_palette.ensures
 
 twin-of-requires : tie.Need-twin_of-twins-requires
@@ -112,7 +112,7 @@ returns-4 c =
     let e = second u.before in
     let w = first e in
     let t = w.before in
-    map-meets-refused (s t) (p t) (d t) (a t) MANY-PIXELS _
+    map-meets-refused (s t) (p t) (d t) (a t) MANY_PIXELS _
     (simp (whole w, colours e, unlike u, lt-ltb _ _ c.if-count-gt-MOST_PIXELS.true)) c.refused-then-count-gt-MOST_PIXELS.ensures
 
 refused-requires-5 : tie.Need-refused-requires-then-room-pixels
@@ -125,7 +125,7 @@ returns-5 c =
     let e = second u.before in
     let w = first e in
     let t = w.before in
-    map-meets-refused (s t) (p t) (d t) (a t) SHORT-ROOM _
+    map-meets-refused (s t) (p t) (d t) (a t) SHORT_ROOM _
     (short-room (s t) (p t) (d t) (a t) (whole w) (colours e) (unlike u) (few f) (omega arith)) c.refused-then-room-pixels.ensures
 
 refused-requires-6 : tie.Need-refused-requires-then-last-first
@@ -138,7 +138,7 @@ returns-6 c =
     let e = second u.before in
     let w = first e in
     let t = w.before in
-    map-meets-refused (s t) (p t) (d t) (a t) SHORT-ROOM _
+    map-meets-refused (s t) (p t) (d t) (a t) SHORT_ROOM _
     (short-room (s t) (p t) (d t) (a t) (whole w) (colours e) (unlike u) (few f) (omega arith)) c.refused-then-last-first.ensures
 
 map-stretch-requires : tie.Need-map_stretch-errors-requires

@@ -38,7 +38,7 @@ slice-aggregate-result c = search rules
 returns : tie.Need-returns-then-number-ne-DONE
 returns c =
     let is = ap (λ (p : Picture). p.refusal) c.read_picture-picture.ensures in
-    sym (raster-nothing (s c.before.before) (λ ok. c.if-number-ne-DONE.true (is ∙ ok)))
+    sym (raster-nothing (s c.before) (λ ok. c.if-number-ne-DONE.true (is ∙ ok)))
 
 sub-result : tie.Need-slice_bounds-result-count
 sub-result c = omega (arith, inside c)

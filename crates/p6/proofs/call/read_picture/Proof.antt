@@ -5,7 +5,7 @@ use mathlib.Core.List.{List}
 use mathlib.Core.Path.{◌≡◌, sym, ap, ◌∙◌}
 use borrow.Author.Rules.{rules}
 use borrow.Author.Tests.{ne_eqb}
-use Rattle.refusal.specs.{BAD-HEADER, number_of}
+use Rattle.refusal.specs.{BAD_HEADER, number_of}
 use Rattle.p6_header.specs.{header_of, offset_in}
 use Rattle.p6_header.specs.declared.Header.TheVariants.{Read}
 use Rattle.p6_header.proofs.Headers.{start-inside}
@@ -82,7 +82,7 @@ returns c =
     let r = c.before.before.before.before in
     let failed = c.enum_told-1.given.1 in
     c.refused.ensures
-    ∙ ap (refused_picture (number_of BAD-HEADER)) (c.bad_at.ensures ∙ ap offset_in failed)
+    ∙ ap (refused_picture (number_of BAD_HEADER)) (c.bad_at.ensures ∙ ap offset_in failed)
     ∙ sym (picture-bad-header (input r) _ (sym r.read_header-header.ensures ∙ failed))
 
 bad-size-requires : tie.Need-bad_size-requires

@@ -6,7 +6,7 @@ use native.Mathlib.Omega.{arith}
 use Prim.Native.Nat.{ℕ}
 use lib.ListN.{length}
 use borrow.Author.Tests.{lt-ltb}
-use Rattle.refusal.specs.{BAD-COUNT, BAD-CENTRE, SHORT-ROOM}
+use Rattle.refusal.specs.{BAD_COUNT, BAD_CENTRE, SHORT_ROOM}
 use Rattle.shades.specs.{bad_coordinates, bad_centre}
 use Rattle.shades.proofs.Checks.{coordinates-at-most, bad-centre-exactly}
 use Rattle.palette.proofs.Ways.{short-palette, palette-meets-refused, palette-meets-made}
@@ -36,7 +36,7 @@ bad-coordinates-requires c κs = search rules
 returns : tie.Need-returns-then-bad_coordinates
 returns c =
     let t = c.before in
-    palette-meets-refused (s t) (d t) BAD-COUNT (simp (sym t.bad_coordinates.ensures ∙ c.if-bad_coordinates.true))
+    palette-meets-refused (s t) (d t) BAD_COUNT (simp (sym t.bad_coordinates.ensures ∙ c.if-bad_coordinates.true))
 
 bad-centre-requires : tie.Need-bad_centre-requires
 bad-centre-requires c κs = coordinates-at-most _ (whole c)
@@ -44,7 +44,7 @@ bad-centre-requires c κs = coordinates-at-most _ (whole c)
 returns-2 : tie.Need-returns-then-bad_centre
 returns-2 c =
     let t = c.before.before.before in
-    palette-meets-refused (s t) (d t) BAD-CENTRE
+    palette-meets-refused (s t) (d t) BAD_CENTRE
     (simp (whole c.before.before, sym c.bad_centre.ensures ∙ c.if-bad_centre.true))
 
 returns-3 : tie.Need-returns-then-palette-coordinates
@@ -52,7 +52,7 @@ returns-3 c =
     let e = c.before in
     let w = e.before.before in
     let t = w.before in
-    palette-meets-refused (s t) (d t) SHORT-ROOM
+    palette-meets-refused (s t) (d t) SHORT_ROOM
     (simp (whole w, centre e, short-palette (s t) (d t) (whole w) ∙ lt-ltb _ _ c.if-palette-coordinates.true))
 
 fill-palette-requires : tie.Need-fill_palette-requires

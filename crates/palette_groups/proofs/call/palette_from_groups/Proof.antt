@@ -6,7 +6,7 @@ use mathlib.Core.Path.{◌≡◌, sym, ◌∙◌}
 use lib.ListN.{length}
 use borrow.Author.Tests.{lt-ltb, le-ltb, le-leb, lt-leb}
 use borrow.Author.Rules.{rules}
-use Rattle.refusal.specs.{BAD-TABLE, BAD-COUNT, BAD-CENTRE, SHORT-ROOM, BAD-MEMBER}
+use Rattle.refusal.specs.{BAD_TABLE, BAD_COUNT, BAD_CENTRE, SHORT_ROOM, BAD_MEMBER}
 use Rattle.table_test.specs.{Record, bad_table}
 use Rattle.shades.specs.{bad_coordinates, bad_centre}
 use Rattle.shades.proofs.Checks.{coordinates-at-most}
@@ -46,7 +46,7 @@ abbrev counted : tie.Else-bad_coordinates → tie.After-bad_table
 counted c = c.before.before.before
 
 abbrev tested : tie.Else-bad_centre → tie.After-bad_table
-tested c = counted c.before.before.before
+tested c = c.before.before.before.before.before.before
 
 -- past each test: it fails
 table-ok : (c : tie.Else-bad_table) → bad_table (rec' c.before) (ks c.before) (ws c.before) ≡ false
@@ -91,7 +91,7 @@ bad-table-requires c κs = search rules
 returns : tie.Need-returns-then-bad_table
 returns c =
     let t = c.before in
-    groups-meets-refused (f t) (rec' t) (ks t) (ws t) (a t) (d t) BAD-TABLE
+    groups-meets-refused (f t) (rec' t) (ks t) (ws t) (a t) (d t) BAD_TABLE
     (simp (sym t.bad_table.ensures ∙ c.if-bad_table.true))
 
 bad-coordinates-requires : tie.Need-bad_coordinates-requires
@@ -100,14 +100,14 @@ bad-coordinates-requires c κs = search rules
 returns-2 : tie.Need-returns-then-bad_coordinates
 returns-2 c =
     let t = c.before.before.before in
-    groups-meets-refused (f t) (rec' t) (ks t) (ws t) (a t) (d t) BAD-COUNT
+    groups-meets-refused (f t) (rec' t) (ks t) (ws t) (a t) (d t) BAD_COUNT
     (simp (table-ok c.before.before, sym c.bad_coordinates.ensures ∙ c.if-bad_coordinates.true))
 
 returns-3 : tie.Need-returns-then-coordinates-fixed
 returns-3 c =
     let e = c.before in
     let t = counted e in
-    groups-meets-refused (f t) (rec' t) (ks t) (ws t) (a t) (d t) BAD-COUNT
+    groups-meets-refused (f t) (rec' t) (ks t) (ws t) (a t) (d t) BAD_COUNT
     (simp (table-ok e.before.before, count-ok e, le-leb _ _ c.if-coordinates-fixed.true))
 
 bad-centre-requires : tie.Need-bad_centre-requires
@@ -118,7 +118,7 @@ returns-4 c =
     let n = c.before.before in
     let e = n.before in
     let t = counted e in
-    groups-meets-refused (f t) (rec' t) (ks t) (ws t) (a t) (d t) BAD-CENTRE
+    groups-meets-refused (f t) (rec' t) (ks t) (ws t) (a t) (d t) BAD_CENTRE
     (simp (table-ok e.before.before, count-ok e, free-ok n, sym c.bad_centre.ensures ∙ c.if-bad_centre.true))
 
 returns-5 : tie.Need-returns-then-members-used
@@ -126,7 +126,7 @@ returns-5 c =
     let e = c.before in
     let t = tested e in
     let n = e.before.before in
-    groups-meets-refused (f t) (rec' t) (ks t) (ws t) (a t) (d t) SHORT-ROOM
+    groups-meets-refused (f t) (rec' t) (ks t) (ws t) (a t) (d t) SHORT_ROOM
     (simp (
       table-ok n.before.before.before,
       count-ok n.before,
@@ -141,7 +141,7 @@ returns-6 c =
     let t = tested e in
     let n = e.before.before in
     let count = count-ok n.before in
-    groups-meets-refused (f t) (rec' t) (ks t) (ws t) (a t) (d t) SHORT-ROOM
+    groups-meets-refused (f t) (rec' t) (ks t) (ws t) (a t) (d t) SHORT_ROOM
     (simp (
       table-ok n.before.before.before,
       count,
@@ -161,7 +161,7 @@ returns-7 c =
     let e = c.before.before in
     let t = tested e.before.before in
     let g = rooms-ok e in
-    groups-meets-refused (f t) (rec' t) (ks t) (ws t) (a t) (d t) BAD-MEMBER
+    groups-meets-refused (f t) (rec' t) (ks t) (ws t) (a t) (d t) BAD_MEMBER
     (simp (
       g.table,
       g.count,

@@ -60,15 +60,15 @@ shared-slice-read-raise c = omega (arith, c.requires.1.room)
 cast-raise : tie.Need-overflow_cast-members invariant-loop decreases-loop
 cast-raise c =
     let t = turn (first c.before.before) in
-    record { fits = omega (arith, t.requires.1.below t.loop-i.i t.loop-i-test.taken) }
+    record { fits = omega (arith, t.requires.1.below t.loop-i.i t.loop-i-test.true) }
 
 raise-requires : tie.Need-raise-requires invariant-loop decreases-loop
 raise-requires c κs =
     let b = c.before.before in
     let t = turn (first b) in
     let p = t.requires in
-    let few = p.1.below t.loop-i.i t.loop-i-test.taken in
-    let fit = raises-fit _ _ _ p.0 _ t.loop-i.i t.loop-i-test.taken few t.loop-i.invariant.1 in
+    let few = p.1.below t.loop-i.i t.loop-i-test.true in
+    let fit = raises-fit _ _ _ p.0 _ t.loop-i.i t.loop-i-test.true few t.loop-i.invariant.1 in
     rw (b.blue_pixels-second.ensures, b.red_green-first.ensures) (few, fit.0, fit.1)
 
 add-i : tie.Need-overflow_add-i invariant-loop decreases-loop
@@ -81,8 +81,8 @@ loop-again : tie.Need-loop-i-preserved invariant-loop decreases-loop
 loop-again c =
     let b = c.before.before.before in
     let t = turn (first b) in
-    let few = t.requires.1.below t.loop-i.i t.loop-i-test.taken in (
-      omega (arith, t.loop-i-test.taken),
+    let few = t.requires.1.below t.loop-i.i t.loop-i-test.true in (
+      omega (arith, t.loop-i-test.true),
       rw (c.raise.ensures, b.blue_pixels-second.ensures, b.red_green-first.ensures)
           (summed-more _ _ _ t.loop-i.i _ t.loop-i.invariant.1 few),
     )

@@ -40,9 +40,9 @@ array-read-equal-if-marked c = omega arith
 
 equal-if-marked-requires : tie.Need-equal_if_marked-lower-requires invariant-loop decreases-loop
 equal-if-marked-requires c κs = (
-      inside c.before,
-      λ z. unmarked c.loop-q.invariant (ap (λ k. get_or c.loop-q.marks (k % sites) 0) (sym c.entry_key.ensures) ∙ z),
-    )
+  inside c.before,
+  λ z. unmarked c.loop-q.invariant (ap (λ k. get_or c.loop-q.marks (k % sites) 0) (sym c.entry_key.ensures) ∙ z),
+)
 
 returns : tie.Need-returns-then-lower-q invariant-loop decreases-loop
 returns c =

@@ -6,10 +6,6 @@ use Rattle.method.proofs.Sizes.{fair-of-table, weight-at-most}
 use Rattle.rounds.proofs.total.entry_cost.Statement.{statement}
 use Rattle.rounds.proofs.total.entry_cost.Tie as tie
 
--- where the call began, from the entry's colour
-abbrev st : tie.After-colour_of → tie.Start
-st c = c.before.before.before.before.before.before.before.before
-
 mul-p : tie.Need-offset_bounds-members-i
 mul-p c = search rules
 
@@ -42,10 +38,9 @@ distance-to-requires c κs =
 
 cost-requires : tie.Need-cost-requires
 cost-requires c κs =
-    let s = st c.before in
-    let a = s.args in (
+    let a = c.args in (
       weight-at-most (colours_of a.used a.keys.now a.weights.now)
-          (fair-of-table s.requires.0.steppable.table) a.i s.requires.1,
+          (fair-of-table c.requires.0.steppable.table) a.i c.requires.1,
       c.distance_to.ensures.1,
     )
 

@@ -29,8 +29,8 @@ turn c = c.before.before.before
 
 -- the turn has room in the three lists
 room : (c : tie.After-colour_of-c invariant-loop decreases-loop)
-    → let l = turn c in
-    RoomFor (length l.args.keys.now) l.loop-i.reds l.loop-i.greens l.loop-i.blues
+    →
+    RoomFor (length c.args.keys.now) c.loop-i.reds c.loop-i.greens c.loop-i.blues
 room c = fronts-room c.loop-i.invariant c.requires
 
 mul-colour-of : tie.Need-offset_bounds-keys-i invariant-loop decreases-loop

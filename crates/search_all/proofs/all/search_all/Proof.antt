@@ -78,13 +78,12 @@ part-search-block-end-2 c = omega (arith, c.loop-i.invariant.0.long)
 
 search-block-requires : tie.Need-search_block-requires invariant-loop decreases-loop
 search-block-requires c κs =
-    let l = turn c.before in
-    let p = l.requires in
-    let i = l.loop-i.i in (
-      block-keys l.loop-i.invariant.0 (i + 256) (omega arith) p.1 p.0,
+    let p = c.requires in
+    let i = c.loop-i.i in (
+      block-keys c.loop-i.invariant.0 (i + 256) (omega arith) p.1 p.0,
       p.2,
       p.3,
-      block_room l.loop-i.invariant.1 l.args.keys.now i (i + 256) (omega arith) (omega arith),
+      block_room c.loop-i.invariant.1 c.args.keys.now i (i + 256) (omega arith) (omega arith),
     )
 
 loop-less : tie.Need-loop-i-smaller invariant-loop decreases-loop
@@ -92,15 +91,13 @@ loop-less c = omega arith
 
 loop-again : tie.Need-loop-i-preserved invariant-loop decreases-loop
 loop-again c =
-    let at = searched c in
-    let l = turn at.before.before in
-    let b = at.search_block in
-    let w = l.loop-i.invariant.1 in (
-      searched-step l.loop-i.invariant.0 (l.loop-i.i + 256) (omega arith) (omega arith) l.requires.1 b.ensures,
+    let b = c.search_block in
+    let w = c.loop-i.invariant.1 in (
+      searched-step c.loop-i.invariant.0 (c.loop-i.i + 256) (omega arith) (omega arith) c.requires.1 b.ensures,
       record {
-        red = b.kept.1.1.1.0 ∙ w.red;
-        green = b.kept.1.1.1.1.0 ∙ w.green;
-        blue = b.kept.1.1.1.1.1.0 ∙ w.blue;
+        red = b.auto.reds ∙ w.red;
+        green = b.auto.greens ∙ w.green;
+        blue = b.auto.blues ∙ w.blue;
       },
     )
 
@@ -139,13 +136,12 @@ part-search-block-end-4 c = omega (arith, c.loop-i.invariant.0.long)
 
 search-block-requires-2 : tie.Need-search_block-requires-2 invariant-loop decreases-loop
 search-block-requires-2 c κs =
-    let l = end c.before in
-    let p = l.requires in
-    let used = l.args.used in (
-      block-keys l.loop-i.invariant.0 used (omega arith) p.1 p.0,
+    let p = c.requires in
+    let used = c.args.used in (
+      block-keys c.loop-i.invariant.0 used (omega arith) p.1 p.0,
       p.2,
       p.3,
-      block_room l.loop-i.invariant.1 l.args.keys.now l.loop-i.i used (omega arith) (omega arith),
+      block_room c.loop-i.invariant.1 c.args.keys.now c.loop-i.i used (omega arith) (omega arith),
     )
 
 same_length : tie.Need-shape_of-members invariant-loop decreases-loop

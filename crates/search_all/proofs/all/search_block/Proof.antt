@@ -14,7 +14,7 @@ known c = c.before.before.before.before.before
 
 -- where the function begins
 abbrev st : tie.After-lay_out → tie.Start
-st c = (known c).before.before.before.before.before
+st c = c.before.before.before.before.before.before.before.before.before.before
 
 -- where the three lists have come back
 abbrev back : tie.After-search_points-arg-1 → tie.After-blues-1
@@ -22,15 +22,15 @@ back c = c.before.before
 
 -- where the colours are laid out
 abbrev laid : tie.After-search_points-arg-1 → tie.After-lay_out
-laid c = (back c).before.before.before.before.before
+laid c = c.before.before.before.before.before.before.before
 
 -- the colours are laid out
 done : (c : tie.After-lay_out)
-    → LaidOut (colour_at (st c).args.keys.now) (length (st c).args.keys.now)
+    → LaidOut (colour_at c.args.keys.now) (length c.args.keys.now)
     c.lay_out.new.reds c.lay_out.new.greens c.lay_out.new.blues
 done c =
     let e = c.lay_out.ensures in
-    fronts-done record { within = le_refl _; red = e.0; green = e.1.0; blue = e.1.1 } (st c).requires.3
+    fronts-done record { within = le_refl _; red = e.0; green = e.1.0; blue = e.1.1 } c.requires.3
 
 lay-out-requires : tie.Need-lay_out-requires
 lay-out-requires c κs = search rules
@@ -58,9 +58,9 @@ same-length-4 c = search rules
 returns : tie.Need-returns
 returns c =
     let before = laid c.before.before.before in
-    let a = (st before).args in
+    let a = before.args in
     let best = a.best.now in
-    laid-out-filled (done before) (packed_nearest a.shades.now a.count) (length best) (st before).requires.0 best
+    laid-out-filled (done before) (packed_nearest a.shades.now a.count) (length best) before.requires.0 best
     c.search_points.ensures
 
 pub search_block_spec : {M : Type 1} → statement M

@@ -20,40 +20,32 @@ decreases-loop reds greens blues s k best₀ n q₀ best q = k - q
 abbrev known : tie.After-slice_known-2-1 invariant-loop decreases-loop → tie.After-shared_slice_known-4-1 invariant-loop decreases-loop
 known c = c.before.before.before.before.before
 
--- where the function begins, from the same
-abbrev begin : tie.After-slice_known-2-1 invariant-loop decreases-loop → tie.Start invariant-loop decreases-loop
-begin c = (known c).before.before.before.before
-
--- and from a turn
-abbrev st : tie.At-loop-q invariant-loop decreases-loop → tie.Start invariant-loop decreases-loop
-st c = begin c.before
-
 -- as many places as at the start
-long : (c : tie.At-loop-q invariant-loop decreases-loop) → length c.loop-q.best ≡ length (st c).args.best.now
-long c = looked-long c.loop-q.invariant ∙ c.set_all.auto.0
+long : (c : tie.At-loop-q invariant-loop decreases-loop) → length c.loop-q.best ≡ length c.args.best.now
+long c = looked-long c.loop-q.invariant ∙ c.set_all.auto.d
 
 set-all-requires : tie.Need-set_all-requires invariant-loop decreases-loop
 set-all-requires c κs = search rules
 
 loop-holds : tie.Need-loop-q-init invariant-loop decreases-loop
-loop-holds c = looked-start (begin c).args.best.now c.set_all.ensures
+loop-holds c = looked-start c.args.best.now c.set_all.ensures
 
 shade-at-requires : tie.Need-shade_at-requires invariant-loop decreases-loop
-shade-at-requires c κs = omega (arith, (st c.before).requires.2.room)
+shade-at-requires c κs = omega (arith, c.requires.2.room)
 
 look-requires : tie.Need-look-requires invariant-loop decreases-loop
 look-requires c κs =
     let l = c.before.before.before in
-    let p = (st l).requires in (
+    let p = l.requires in (
       rw (long l) p.0,
       rw (long l) p.1,
-      rw c.shade_at.ensures (shade-within (st l).args.shades.now l.loop-q.q p.2.low),
+      rw c.shade_at.ensures (shade-within l.args.shades.now l.loop-q.q p.2.low),
       omega (arith, p.2.few),
     )
 
 add-q : tie.Need-overflow_add-q invariant-loop decreases-loop
 add-q c =
-    omega (arith, c.loop-q-test.true, (st c.before.before.before.before.before.before).requires.2.few)
+    omega (arith, c.loop-q-test.true, c.requires.2.few)
 
 loop-less : tie.Need-loop-q-smaller invariant-loop decreases-loop
 loop-less c = omega arith
@@ -68,9 +60,8 @@ same_length c = long c.before
 
 returns : tie.Need-returns invariant-loop decreases-loop
 returns c =
-    let l = c.before in
-    let p = (st l).requires in
-    looked-done l.loop-q.invariant c.loop-q-test.false p.2 p.3 (st l).args.best.now l.set_all.ensures
+    let p = c.requires in
+    looked-done c.loop-q.invariant c.loop-q-test.false p.2 p.3 c.args.best.now c.set_all.ensures
     p.1
 
 pub search_points_spec : {M : Type 1} → statement M

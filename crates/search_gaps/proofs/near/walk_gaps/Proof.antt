@@ -1,6 +1,5 @@
 -- `walk_gaps` meets its contract: the loop's invariant is `Sought`.
 use Prim.Native.Nat.{◌-◌}
-use mathlib.Core.Logic.{⊎_elim}
 use mathlib.Core.Path.{sym, ◌∙◌}
 use native.Mathlib.Omega.{arith}
 use borrow.Author.Rules.{rules}
@@ -13,6 +12,7 @@ use Rattle.search_gaps.proofs.Nears.{
   sought-done,
 }
 use Rattle.search_gaps.proofs.near.walk_gaps.Statement.{statement}
+use Rattle.search_gaps.proofs.near.walk_gaps.Lts.{then-tries, else-tries}
 use Rattle.search_gaps.proofs.near.walk_gaps.Tie as tie
 
 abbrev invariant-loop : tie.invariant-loop-q
@@ -69,11 +69,12 @@ loop-again c =
     let h = c.loop-q-test.true in
     let asked =
     sym (gap-tried y c.loop-q.q h) ∙ sym (rw c.distance_to-d.ensures.0 at c.tries.ensures) in
-    ⊎_elim
-    (λ w. rw (w.3, w.4, w.2.ensures, w.1.ensures.0)
-    (sought-tried y c.loop-q.invariant h (asked ∙ w.0.taken)))
-    (λ w. rw (w.1, w.2) (sought-left y c.loop-q.invariant h (asked ∙ w.0.left)))
-    c.if-tries.branch
+    elim c.if-tries.branch [
+      | then-tries w ↦
+          rw (w.best-is, w.others-is, w.lesser-best.ensures, w.packed.ensures.0)
+          (sought-tried y c.loop-q.invariant h (asked ∙ w.if-tries.true))
+      | else-tries w ↦ rw (w.best-is, w.others-is) (sought-left y c.loop-q.invariant h (asked ∙ w.if-tries.false))
+    ]
 
 add-t16 : tie.Need-overflow_add-result invariant-loop decreases-loop
 add-t16 c =

@@ -25,12 +25,8 @@ invariant-loop keys used base shades₀ count members₀ p₀ q₀ shades member
 abbrev decreases-loop : tie.decreases-loop-q
 decreases-loop keys used base shades₀ count members₀ p₀ q₀ shades members p q = count - q
 
--- where the call begins
-abbrev called : tie.After-set_all-arg-1 invariant-loop decreases-loop → tie.Start invariant-loop decreases-loop
-called c = c.before.before.before.before.before
-
 abbrev start : tie.After-set_all invariant-loop decreases-loop → tie.Start invariant-loop decreases-loop
-start c = called c.before
+start c = c.before.before.before.before.before.before
 
 -- the start that is to be stored
 abbrev chosen : tie.After-put_shade-arg-1 invariant-loop decreases-loop → tie.After-turn-p invariant-loop decreases-loop
@@ -40,25 +36,23 @@ set-all-requires : tie.Need-set_all-requires invariant-loop decreases-loop
 set-all-requires c κs = c.requires.5
 
 shade-at-requires : tie.Need-shade_at-p-requires invariant-loop decreases-loop
-shade-at-requires c κs = omega (arith, (start c.before.before).requires.2)
+shade-at-requires c κs = omega (arith, c.requires.2)
 
 loop-holds : tie.Need-loop-q-init invariant-loop decreases-loop
 loop-holds c =
-    let set = c.before.before.before in
-    let s = start set in
-    let a = s.args in
+    let a = c.args in
     storing-start a.keys.now a.used (listed a.base.now) a.count a.shades.now _ a.members.now
-    c.shade_at-p.result set.set_all.ensures s.requires.5 (omega (arith, s.requires.2)) c.shade_at-p.ensures
+    c.shade_at-p.result c.set_all.ensures c.requires.5 (omega (arith, c.requires.2)) c.shade_at-p.ensures
 
 turn-requires : tie.Need-turn-p-requires invariant-loop decreases-loop
 turn-requires c κs =
-    let p = (start c.before.before.before.before.before.before).requires in
+    let p = c.requires in
     (p.0, p.1, p.2, storing-room c.loop-q.invariant, c.loop-q.invariant.last, storing-same c.loop-q.invariant)
 
 put-shade-requires : tie.Need-put_shade-requires invariant-loop decreases-loop
 put-shade-requires c κs =
     let l = (chosen c).before.before.before in
-    let p = (start l.before.before.before.before).requires in
+    let p = l.requires in
     rw (storing-coordinates l.loop-q.invariant) (omega (arith, p.4))
 
 add-q : tie.Need-overflow_add-q invariant-loop decreases-loop
@@ -69,10 +63,9 @@ loop-less c = omega arith
 
 loop-again : tie.Need-loop-q-preserved invariant-loop decreases-loop
 loop-again c =
-    let turned = chosen c.before.before.before in
-    let p = (start turned.before.before.before.before.before.before.before).requires in
-    storing-step turned.loop-q.invariant turned.loop-q-test.taken p.4 _ _ turned.turn-p.result
-    turned.turn-p.ensures.0 c.put_shade.ensures turned.turn-p.ensures.1
+    let p = c.requires in
+    storing-step c.loop-q.invariant c.loop-q-test.true p.4 _ _ c.turn-p.result
+    c.turn-p.ensures.0 c.put_shade.ensures c.turn-p.ensures.1
 
 set-all-requires-2 : tie.Need-set_all-requires-2 invariant-loop decreases-loop
 set-all-requires-2 c κs = storing-room c.loop-q.invariant
@@ -82,17 +75,15 @@ same_length c = storing-coordinates c.loop-q.invariant
 
 same-length-2 : tie.Need-shape_of-members invariant-loop decreases-loop
 same-length-2 c =
-    let first = c.before.before.before.before.before.before.before.before.before in
-    let before = (start first).args.members.now in
-    ap length (storing-set c.loop-q.invariant _ _ before first.set_all.ensures c.set_all-2.ensures)
+    let before = c.args.members.now in
+    ap length (storing-set c.loop-q.invariant _ _ before c.set_all.ensures c.set_all-2.ensures)
     ∙ fill-length _ _ before
 
 returns : tie.Need-returns invariant-loop decreases-loop
 returns c =
-    let first = c.before.before.before.before.before.before.before.before.before in
-    let before = (start first).args.members.now in (
+    let before = c.args.members.now in (
       storing-done c.loop-q.invariant c.loop-q-test.false,
-      storing-set c.loop-q.invariant 0 _ before first.set_all.ensures c.set_all-2.ensures,
+      storing-set c.loop-q.invariant 0 _ before c.set_all.ensures c.set_all-2.ensures,
     )
 
 pub fill_starts_spec : {M : Type 1} → statement M

@@ -36,14 +36,14 @@ abbrev called : tie.After-lower_kept-arg-1 → tie.Start
 called c = c.before.before.before.before.before
 
 abbrev st : tie.After-lower_kept-far → tie.Start
-st c = called c.before
+st c = c.before.before.before.before.before.before
 
 -- where the distances are lowered, from where the farthest entry is looked for
-abbrev lowered : tie.After-first-of-arg → tie.After-lower_kept-far
-lowered c = c.before.before.before.before
+abbrev lowered : tie.Else-q-base → tie.After-lower_kept-far
+lowered c = c.before.before.before
 
 -- the place found is that of an entry
-found_below : (c : tie.After-first_of-at) → c.first_of-at.result < (st (lowered c.before)).args.used
+found_below : (c : tie.After-first_of-at) → c.first_of-at.result < (lowered c.before).args.used
 found_below c =
     let s = st (lowered c.before) in
     rw c.first_of-at.ensures (first_below (λ a b. ltb b a) s.args.used _ s.requires.0.some)
@@ -92,7 +92,7 @@ first-of-requires c κs =
 mul-colour-of : tie.Need-offset_bounds-keys-at
 mul-colour-of c =
     let s = st (lowered c.before) in
-    omega (arith, s.good, s.requires.0.room, found_below c)
+    omega (arith, s.well_formed, s.requires.0.room, found_below c)
 
 shared-slice-read-colour-of : tie.Need-bounds-keys-at
 shared-slice-read-colour-of c =
@@ -108,7 +108,7 @@ same-length-2 c = search rules
 returns-3 : tie.Need-returns
 returns-3 c =
     let l = lowered c.before.before.before in
-    let some = l.if-q-eq0.left in
+    let some = l.if-q-eq0.false in
     let s = st l in
     let e = l.lower_kept-far.ensures.0 in (
       c.colour_of.ensures.0 ∙ ap (colour_at s.args.keys.now) c.first_of-at.ensures

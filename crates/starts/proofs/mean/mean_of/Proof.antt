@@ -23,13 +23,13 @@ rounded-mean-requires-3 c κs = omega (arith, c.requires)
 
 returns : tie.Need-returns
 returns c = (
-      rw (c.rounded_mean.ensures.0, c.rounded_mean-2.ensures.0, c.rounded_mean-3.ensures.0),
-      record {
-        r_low = c.rounded_mean.ensures.1;
-        g_low = c.rounded_mean-2.ensures.1;
-        b_low = c.rounded_mean-3.ensures.1;
-      },
-    )
+  rw (c.rounded_mean.ensures.0, c.rounded_mean-2.ensures.0, c.rounded_mean-3.ensures.0),
+  record {
+    r_low = c.rounded_mean.ensures.1;
+    g_low = c.rounded_mean-2.ensures.1;
+    b_low = c.rounded_mean-3.ensures.1;
+  },
+)
 
 pub mean_of_spec : {M : Type 1} → statement M
 mean_of_spec =

@@ -14,14 +14,6 @@ invariant-loop keys used p d₀ far₀ i₀ d far i = Lowering keys used p d₀ 
 abbrev decreases-loop : tie.decreases-loop-i
 decreases-loop keys used p d₀ far₀ i₀ d far i = used - i
 
--- the loop, from where the entry's distance is worked out
-abbrev turn : tie.After-distance-x invariant-loop decreases-loop → tie.At-loop-i invariant-loop decreases-loop
-turn c = c.before.before.before.before
-
--- where it is, from where the lesser of both is taken
-abbrev measured : tie.After-lesser-y invariant-loop decreases-loop → tie.After-distance-x invariant-loop decreases-loop
-measured c = c.before.before
-
 loop-holds : tie.Need-loop-i-init invariant-loop decreases-loop
 loop-holds c = let a = c.args in lowering-start a.keys.now a.used a.p a.d.now
 
@@ -63,14 +55,11 @@ loop-less c = omega arith
 
 loop-again : tie.Need-loop-i-preserved invariant-loop decreases-loop
 loop-again c =
-    let y = c.before in
-    let x = measured y in
-    let l = turn x in
-    lowering-step l.loop-i.invariant (omega arith) (omega arith) x.distance-x.result y.lesser-y.result
+    lowering-step c.loop-i.invariant (omega arith) (omega arith) c.distance-x.result c.lesser-y.result
     c.greater-far.result
-    (x.distance-x.ensures.0
-    ∙ ap (λ q. distance q l.args.p) x.colour_of.ensures.0)
-    y.lesser-y.ensures c.greater-far.ensures
+    (c.distance-x.ensures.0
+    ∙ ap (λ q. distance q c.args.p) c.colour_of.ensures.0)
+    c.lesser-y.ensures c.greater-far.ensures
 
 same_length : tie.Need-shape_of-d invariant-loop decreases-loop
 same_length c = lowering-room c.loop-i.invariant

@@ -29,19 +29,19 @@ past c = c.before
 
 -- after the test of the table: the entry, the record, the slices, and what the strip's test said
 abbrev st : tie.After-bad_table → tie.Start
-st c = (past c).before.before.before.before
+st c = c.before.before.before.before.before
 
 abbrev rec' : tie.After-bad_table → Record
-rec' c = (st c).args.rec
+rec' c = c.args.rec
 
 abbrev ks : tie.After-bad_table → List ℕ
-ks c = (st c).args.keys.now
+ks c = c.args.keys.now
 
 abbrev ws : tie.After-bad_table → List ℕ
-ws c = (st c).args.weights.now
+ws c = c.args.weights.now
 
 abbrev s : tie.After-bad_table → List ℕ
-s c = (st c).args.strip.now
+s c = c.args.strip.now
 
 whole : (c : tie.After-bad_table) → length (s c) % 3 ≡ 0
 whole c = c.if-strip-ne0.false
@@ -61,7 +61,7 @@ abbrev roomed : tie.After-take_strip-took → tie.After-room_of-room
 roomed c = c.before.before.before
 
 abbrev tested : tie.After-take_strip-took → tie.After-bad_table
-tested c = (roomed c).before.before
+tested c = c.before.before.before.before.before
 
 -- what `take_strip` left, once its slices are known
 abbrev taken : tie.After-slice_known-4-1 → tie.After-take_strip-took

@@ -10,10 +10,6 @@ use Rattle.table_add.specs.Trying.{piece}
 use Rattle.table_add.proofs.chunk.add_one.Statement.{statement}
 use Rattle.table_add.proofs.chunk.add_one.Tie as tie
 
--- with the key known: the entry, the piece
-abbrev st : tie.After-key_at-key → tie.Start
-st c = c.before.before.before.before
-
 one : (c : tie.After-key_at-key)
     → piece c.args.strip.now c.args.from 1 ≡ key_at c.args.strip.now (3 * c.args.from) ∷ []
 one c = strip-one c.args.from c.args.strip.now c.requires.bytes
@@ -25,8 +21,7 @@ key-at-requires : tie.Need-key_at-key-requires
 key-at-requires c κs = omega (arith, c.requires.bytes)
 
 add-pixel-requires : tie.Need-add_pixel-next-requires
-add-pixel-requires c κs =
-    let s = st c.before.before in (s.requires.table, omega (arith, s.requires.total))
+add-pixel-requires c κs = (c.requires.table, omega (arith, c.requires.total))
 
 pixel-sums-requires : tie.Need-pixel_sums-requires
 pixel-sums-requires c κs = search rules

@@ -41,8 +41,7 @@ fits : (c : tie.After-streak_pixels-pixels invariant-loop decreases-loop) (f : �
     → level ≡ f c.streak_key-key.result → sum ≤ c.loop-i.i * most_streak
     → (c.streak_pixels-pixels.result * level ≤ 4294967295) × (sum + c.streak_pixels-pixels.result * level ≤ 4294967295)
 fits c f low level sum e l =
-    let t = turn c in
-    rw (adds c f level e) (omega (arith, l, streak-low f low (streak c), t.loop-i-test.taken, t.requires.1))
+    rw (adds c f level e) (omega (arith, l, streak-low f low (streak c), c.loop-i-test.true, c.requires.1))
 
 loop-holds : tie.Need-loop-i-init invariant-loop decreases-loop
 loop-holds c = adding-start c.args.list.now c.args.len c.requires.0
@@ -125,8 +124,7 @@ loop-less c = omega arith
 loop-again : tie.Need-loop-i-preserved invariant-loop decreases-loop
 loop-again c =
     let x = c.before.before.before in
-    let t = turn x in
-    adding-step t.loop-i.invariant t.loop-i-test.taken _ _ _ _ refl
+    adding-step x.loop-i.invariant x.loop-i-test.true _ _ _ _ refl
     (adds x red_of _ c.red_of.ensures.0) (adds x green_of _ c.green_of.ensures.0)
     (adds x blue_of _ c.blue_of.ensures.0)
 

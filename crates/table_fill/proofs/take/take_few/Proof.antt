@@ -34,7 +34,7 @@ abbrev tried : tie.After-slice_known-in-loop-taken-2-1 invariant-loop decreases-
 tried c = c.before.before.before.before
 
 abbrev st : Tested → tie.Start invariant-loop decreases-loop
-st c = (lp c).before.before.before.before
+st c = c.before.before.before.before.before.before.before.before
 
 one : (c : Tested) → c.add_one-got.result.pixels ≡ 1
 one c = omega (arith, c.add_one-got.ensures.some, c.add_one-got.ensures.within)
@@ -44,10 +44,10 @@ inside c = omega (arith, one c, c.loop-taken-test.true)
 
 loop-holds : tie.Need-loop-taken-init invariant-loop decreases-loop
 loop-holds c = (
-      omega arith,
-      steps-start c.args.keys.now c.args.weights.now c.args.strip.now c.args.used c.args.room
-          c.args.end c.requires,
-    )
+  omega arith,
+  steps-start c.args.keys.now c.args.weights.now c.args.strip.now c.args.used c.args.room
+      c.args.end c.requires,
+)
 
 add-one-requires : tie.Need-add_one-got-requires invariant-loop decreases-loop
 add-one-requires c κs =
@@ -55,11 +55,11 @@ add-one-requires c κs =
 
 same_length : tie.Need-shape_of-keys-then-room-next invariant-loop decreases-loop
 same_length c =
-    let a = tried c.before in a.add_one-got.kept.0 ∙ (lp a).loop-taken.invariant.1.keys_length
+    let a = tried c.before in a.add_one-got.auto.keys ∙ (lp a).loop-taken.invariant.1.keys_length
 
 same-length-2 : tie.Need-shape_of-weights-then-room-next invariant-loop decreases-loop
 same-length-2 c =
-    let a = tried c.before in a.add_one-got.kept.1.0 ∙ (lp a).loop-taken.invariant.1.weights_length
+    let a = tried c.before in a.add_one-got.auto.weights ∙ (lp a).loop-taken.invariant.1.weights_length
 
 returns : tie.Need-returns-then-room-next invariant-loop decreases-loop
 returns c =
@@ -71,16 +71,16 @@ add-taken c = let a = tried c.before in omega (arith, inside a, one a, st a)
 
 plus-requires : tie.Need-plus-sums-requires invariant-loop decreases-loop
 plus-requires c κs =
-    let a = tried c.before in
+    let a = tried c.before.before in
     steps_low (st a).requires (lp a).loop-taken.invariant.1 a.add_one-got.ensures (inside a)
 
 loop-less : tie.Need-loop-taken-smaller invariant-loop decreases-loop
 loop-less c =
-    let a = tried c.before.before in omega (arith, a.loop-taken-test.taken)
+    let a = tried c.before.before.before in omega (arith, a.loop-taken-test.true)
 
 loop-again : tie.Need-loop-taken-preserved invariant-loop decreases-loop
 loop-again c =
-    let a = tried c.before.before in (
+    let a = tried c.before.before.before in (
       omega (arith, inside a, one a),
       rw c.plus-sums.ensures
           (steps-in-one (st a).requires (lp a).loop-taken.invariant.1 a.add_one-got.ensures (inside a) (one a)

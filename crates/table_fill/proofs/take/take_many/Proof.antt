@@ -38,7 +38,7 @@ abbrev tried : tie.After-slice_known-in-loop-taken-2-1 invariant-loop decreases-
 tried c = c.before.before.before.before
 
 abbrev st : Tested → tie.Start invariant-loop decreases-loop
-st c = (lp c).before.before.before.before
+st c = c.before.before.before.before.before.before.before.before.before
 
 abbrev p : Tested → ℕ
 p c = c.add_some-got.result.pixels
@@ -54,11 +54,11 @@ at_most c = omega (arith, c.smaller-most.ensures, c.add_some-got.ensures.within)
 
 loop-holds : tie.Need-loop-taken-init invariant-loop decreases-loop
 loop-holds c = (
-      omega arith,
-      (λ h. h),
-      steps-start c.args.keys.now c.args.weights.now c.args.strip.now c.args.used c.args.room
-          c.args.end c.requires,
-    )
+  omega arith,
+  (λ h. h),
+  steps-start c.args.keys.now c.args.weights.now c.args.strip.now c.args.used c.args.room
+      c.args.end c.requires,
+)
 
 sub-smaller : tie.Need-overflow_sub-end invariant-loop decreases-loop
 sub-smaller c = omega (arith, c.loop-taken-test.true)
@@ -79,16 +79,16 @@ add-taken c = let a = tried c.before in omega (arith, inside a, st a)
 
 plus-requires : tie.Need-plus-sums-requires invariant-loop decreases-loop
 plus-requires c κs =
-    let a = tried c.before in
+    let a = tried c.before.before in
     steps_low (st a).requires (lp a).loop-taken.invariant.2 a.add_some-got.ensures (inside a)
 
 loop-less : tie.Need-loop-taken-smaller-then-next-room invariant-loop decreases-loop
 loop-less c =
-    let a = tried c.before.before in omega (arith, inside a, a.add_some-got.ensures.some)
+    let a = tried c.before.before.before in omega (arith, inside a, a.add_some-got.ensures.some)
 
 loop-again : tie.Need-loop-taken-preserved-then-next-room invariant-loop decreases-loop
 loop-again c =
-    let a = tried c.before.before in
+    let a = tried c.before.before.before in
     let i = (lp a).loop-taken.invariant in (
       inside a,
       (λ h. i.1 (turn a)),
@@ -99,12 +99,12 @@ loop-again c =
 
 same_length : tie.Need-shape_of-keys-then-pixels-lt2 invariant-loop decreases-loop
 same_length c =
-    let a = tried c.before.before in a.add_some-got.kept.0 ∙ (lp a).loop-taken.invariant.2.keys_length
+    let a = tried c.before.before in a.add_some-got.auto.keys ∙ (lp a).loop-taken.invariant.2.keys_length
 
 same-length-2 : tie.Need-shape_of-weights-then-pixels-lt2 invariant-loop decreases-loop
 same-length-2 c =
     let a = tried c.before.before in
-    a.add_some-got.kept.1.0 ∙ (lp a).loop-taken.invariant.2.weights_length
+    a.add_some-got.auto.weights ∙ (lp a).loop-taken.invariant.2.weights_length
 
 returns : tie.Need-returns-then-pixels-lt2 invariant-loop decreases-loop
 returns c =

@@ -18,7 +18,7 @@ st n = n.before.before.before.before
 
 -- the same past the test of few pixels
 abbrev many : tie.Else-is_few → tie.Start
-many c = st c.before.before
+many c = c.before.before.before.before.before.before
 
 -- what the total allows, and how many pixels the strip has
 abbrev space : tie.Start → ℕ

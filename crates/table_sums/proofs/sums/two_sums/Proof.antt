@@ -64,7 +64,7 @@ times-requires c κs = weight-low c.before.before
 add-first : tie.Need-overflow_add-first invariant-loop decreases-loop
 add-first c =
     let t = turn c in
-    let fits = summing-fits t.requires.0 t.loop-i.invariant t.loop-i-test.taken (key-low t) in
+    let fits = summing-fits t.requires.0 t.loop-i.invariant t.loop-i-test.true (key-low t) in
     omega (arith, (fits _ _ c.times-first.ensures refl).0)
 
 mul-times-3 : tie.Need-offset_bounds-weights-i-in-loop-i invariant-loop decreases-loop
@@ -88,7 +88,7 @@ times-requires-2 c κs = weight-low c.before.before.before.before.before.before
 add-second : tie.Need-overflow_add-second invariant-loop decreases-loop
 add-second c =
     let t = turn (first c) in
-    let fits = summing-fits t.requires.0 t.loop-i.invariant t.loop-i-test.taken (key-low t) in
+    let fits = summing-fits t.requires.0 t.loop-i.invariant t.loop-i-test.true (key-low t) in
     omega (arith, (fits _ _ refl (second_is c)).1)
 
 add-i : tie.Need-overflow_add-i invariant-loop decreases-loop
@@ -100,7 +100,7 @@ loop-less c = omega arith
 loop-again : tie.Need-loop-i-preserved invariant-loop decreases-loop
 loop-again c =
     let t = turn (first c) in
-    summing-step t.requires.0 t.loop-i.invariant t.loop-i-test.taken (key-low t) _ _
+    summing-step t.requires.0 t.loop-i.invariant t.loop-i-test.true (key-low t) _ _
     c.times-first.ensures (second_is c)
 
 returns : tie.Need-returns invariant-loop decreases-loop

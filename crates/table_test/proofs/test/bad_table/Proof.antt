@@ -21,10 +21,6 @@ use Rattle.table_test.proofs.test.Ways.{
 use Rattle.table_test.proofs.test.bad_table.Statement.{statement}
 use Rattle.table_test.proofs.test.bad_table.Tie as tie
 
--- with the room known
-abbrev st : tie.After-room_of-room → tie.Start
-st c = c.before.before.before
-
 -- past the first test the used entries are within the room
 in_room : (c : tie.Else-room-used)
     → InRoom c.args.rec c.args.keys.now c.args.weights.now
@@ -43,9 +39,8 @@ room-of-requires c κs = search rules
 
 returns : tie.Need-returns-then-room-used
 returns c =
-    let s = st c.before in
     sym
-    (bad-over-room s.args.rec s.args.keys.now s.args.weights.now
+    (bad-over-room c.args.rec c.args.keys.now c.args.weights.now
     (omega (arith, c.room_of-room.ensures)))
 
 returns-2 : tie.Need-returns-then-pixels-ne0
@@ -100,29 +95,26 @@ returns-8 c = sym (bad-of-many (in_room (within (keyed c.before.before.before)))
 
 -- past all of these tests: where the keys were looked at, and where the call began
 abbrev looked : tie.Else-pixels-gt-MOST_PIXELS → tie.After-faults
-looked c = keyed c.before.before.before
-
-abbrev called : tie.Else-pixels-gt-MOST_PIXELS → tie.Start
-called c = st (within (looked c)).before
+looked c = c.before.before.before.before.before.before.before
 
 -- nothing is at fault
 faultless : (c : tie.Else-pixels-gt-MOST_PIXELS)
-    → (let a = (called c).args in Faultless a.rec.used a.keys.now a.weights.now)
+    → (let a = c.args in Faultless a.rec.used a.keys.now a.weights.now)
 faultless c =
     record {
-      rising = sym (looked c).faults.ensures ∙ c.if-faults-ne0.false;
+      rising = sym c.faults.ensures ∙ c.if-faults-ne0.false;
       weighted = sym c.weigh-weighed.ensures.0 ∙ c.if-zeros-ne0.false;
       greatest = λ l. c.if-keys-last-gt-MOST_KEY.false;
     }
 
 -- the weights come to the pixels
 summed : (c : tie.Else-pixels-gt-MOST_PIXELS)
-    → (let a = (called c).args in sum a.rec.used (weight_at a.weights.now) ≡ a.rec.pixels)
+    → (let a = c.args in sum a.rec.used (weight_at a.weights.now) ≡ a.rec.pixels)
 summed c = sym c.weigh-weighed.ensures.1 ∙ c.if-sum-pixels.false
 
 -- so the entries are a table's
 tabled : (c : tie.Else-pixels-gt-MOST_PIXELS)
-    → (let a = (called c).args in Tabled a.rec.used a.keys.now a.weights.now)
+    → (let a = c.args in Tabled a.rec.used a.keys.now a.weights.now)
 tabled c = tabled-in-room (in_room (within (looked c))) (summed c) c.if-pixels-gt-MOST_PIXELS.false
 
 two-sums-requires : tie.Need-two_sums-sums-requires

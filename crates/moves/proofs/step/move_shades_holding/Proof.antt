@@ -1,4 +1,4 @@
--- `move_shades` moves shade after shade from the first that is not held, and counts those that it takes elsewhere.
+-- `move_shades_holding` moves shade after shade from the first that is not held, and counts those that it takes elsewhere.
 use Prim.Native.Nat.{◌-◌, ◌*◌, ◌≤◌}
 use mathlib.Core.Bool.{not}
 use mathlib.Core.Path.{◌≡◌, ap, ◌∙◌}
@@ -9,9 +9,9 @@ use Rattle.number.proofs.Fills.{fill-length}
 use Rattle.number.proofs.Tallies.{Counting, counting-from, counting-done, counting-next}
 use Rattle.method.specs.{move_of, holding_move}
 use Rattle.moves.specs.Reading.{goes, stays}
-use Rattle.moves.proofs.Turns.{held-shades, held_stays, turn-shades, turn-counted}
-use Rattle.moves.proofs.step.move_shades.Statement.{statement}
-use Rattle.moves.proofs.step.move_shades.Tie as tie
+use Rattle.moves.proofs.Turns.{held-shades, held_stays, turn-shades-holding, turn-counted-holding}
+use Rattle.moves.proofs.step.move_shades_holding.Statement.{statement}
+use Rattle.moves.proofs.step.move_shades_holding.Tie as tie
 
 abbrev invariant-loop : tie.invariant-loop-q
 invariant-loop sums shades₀ held count leaps moved₀ q₀ shades moved q =
@@ -47,9 +47,9 @@ loop-again c =
     let a = c.args in
     let free = c.loop-q.invariant.2 in (
       counting-next c.loop-q.invariant.0 (omega (arith, c.loop-q-test.true))
-          (turn-counted a.held (move_of a.leaps) a.sums.now a.shades.now c.loop-q.q free c.loop-q.invariant.1
+          (turn-counted-holding a.held (move_of a.leaps) a.sums.now a.shades.now c.loop-q.q free c.loop-q.invariant.1
           c.loop-q.moved c.move_shade-moved.ensures.1),
-      turn-shades a.held (move_of a.leaps) a.sums.now a.shades.now c.loop-q.q free c.loop-q.invariant.1
+      turn-shades-holding a.held (move_of a.leaps) a.sums.now a.shades.now c.loop-q.q free c.loop-q.invariant.1
           (omega arith) c.move_shade-moved.ensures.0,
       omega arith,
     )
@@ -62,8 +62,8 @@ returns c =
     let e : c.loop-q.q ≡ c.args.count = omega (arith, c.loop-q.invariant.0.within) in
     (rw e at c.loop-q.invariant.1, counting-done c.loop-q.invariant.0 (omega (arith, c.loop-q-test.false)))
 
-pub move_shades_spec : {M : Type 1} → statement M
-move_shades_spec =
+pub move_shades_holding_spec : {M : Type 1} → statement M
+move_shades_holding_spec =
     tie.close
     (tie.spec
     invariant-loop

@@ -1,4 +1,4 @@
--- `make_rounds` meets its contract: the loop's invariant is `Going`, with the sums of the groups that the members tell,
+-- `make_rounds_holding` meets its contract: the loop's invariant is `Going`, with the sums of the groups that the members tell,
 -- or none yet.
 use Prim.Native.Nat.{◌-◌, ◌<◌}
 use mathlib.Core.Path.{◌≡◌, refl}
@@ -21,8 +21,8 @@ use Rattle.rounds_many.proofs.Turns.{
   going_next,
   going_done,
 }
-use Rattle.rounds_many.proofs.many.make_rounds.Statement.{statement}
-use Rattle.rounds_many.proofs.many.make_rounds.Tie as tie
+use Rattle.rounds_many.proofs.many.make_rounds_holding.Statement.{statement}
+use Rattle.rounds_many.proofs.many.make_rounds_holding.Tie as tie
 
 abbrev invariant-loop : tie.invariant-loop-r
 invariant-loop keys weights used shades₀ held count leaps limit members₀ totals₀ rows₀ sums₀ anew₀ r₀ go₀ moved₀ distances₀
@@ -38,7 +38,7 @@ decreases-loop keys weights used shades₀ held count leaps limit members₀ tot
     limit - r
 
 -- the turn that a round is made in, and the state of the loop before it
-abbrev turn : tie.After-next_step-a invariant-loop decreases-loop → tie.In-loop-r invariant-loop decreases-loop
+abbrev turn : tie.After-next_step_holding-a invariant-loop decreases-loop → tie.In-loop-r invariant-loop decreases-loop
 turn c = c.before.before.before.before.before
 
 -- the round is below the limit
@@ -54,10 +54,10 @@ loop-holds c = (
   summed-none _ _ _,
 )
 
-slice-aggregate-next-step : tie.Need-slice_bounds-next_step-end invariant-loop decreases-loop
+slice-aggregate-next-step : tie.Need-slice_bounds-next_step_holding-end invariant-loop decreases-loop
 slice-aggregate-next-step c = search rules
 
-next-step-requires : tie.Need-next_step-a-requires invariant-loop decreases-loop
+next-step-requires : tie.Need-next_step_holding-a-requires invariant-loop decreases-loop
 next-step-requires c κs =
     let a = c.args in
     let good = holding-good a.held (kind-good a.leaps) in (
@@ -70,7 +70,7 @@ next-step-requires c κs =
 mul-totals : tie.Need-offset_bounds-totals-r invariant-loop decreases-loop
 mul-totals c =
     let i = turn c.before.before.before.before.before in
-    omega (arith, i.good, i.requires.3, below i)
+    omega (arith, i.well_formed, i.requires.3, below i)
 
 slice-write-totals : tie.Need-bounds-totals-r invariant-loop decreases-loop
 slice-write-totals c =
@@ -79,13 +79,11 @@ slice-write-totals c =
 
 add-distances : tie.Need-overflow_add-distances invariant-loop decreases-loop
 add-distances c =
-    let n = c.before.before.before.before.before.before in
-    let i = turn n in
-    let p = i.requires.0.steppable in
+    let p = c.requires.0.steppable in
     omega (
       arith,
-      going-counted _ _ _ _ _ i.loop-r.invariant.0 i.loop-r-test.taken (fair-of-table p.table)
-          p.fit.shades.few i.requires.3 _ n.next_step-a.ensures.0.distances_is,
+      going-counted _ _ _ _ _ c.loop-r.invariant.0 c.loop-r-test.true (fair-of-table p.table)
+          p.fit.shades.few c.requires.3 _ c.next_step_holding-a.ensures.0.distances_is,
     )
 
 add_r : tie.Need-overflow_add-r invariant-loop decreases-loop
@@ -101,9 +99,9 @@ loop-again : tie.Need-loop-r-preserved invariant-loop decreases-loop
 loop-again c =
     let n = c.before.before.before.before.before.before.before in
     let i = turn n in
-    let e = n.next_step-a.ensures in
+    let e = n.next_step_holding-a.ensures in
     let b = below i in (
-      going_next _ _ _ _ _ i.loop-r.invariant.0 i.loop-r-test.taken (omega (arith, i.requires.4)) e.0
+      going_next _ _ _ _ _ i.loop-r.invariant.0 i.loop-r-test.true (omega (arith, i.requires.4)) e.0
           c.bound-go.ensures,
       omega arith,
       omega arith,
@@ -128,8 +126,8 @@ returns c =
     going_done _ _ _ _ _ c.loop-r.invariant.0 (omega (arith, c.loop-r-test.false)) c.requires.2 _
     c.none.ensures
 
-pub make_rounds_spec : {M : Type 1} → statement M
-make_rounds_spec =
+pub make_rounds_holding_spec : {M : Type 1} → statement M
+make_rounds_holding_spec =
     tie.close
     (tie.spec
     invariant-loop

@@ -1,4 +1,4 @@
--- `run_from` meets its contract: the starting shades begin the run, and the rounds' laws end it.
+-- `run_from_holding` meets its contract: the starting shades begin the run, and the rounds' laws end it.
 use Prim.Native.Nat.{ℕ}
 use mathlib.Core.Path.{◌≡◌}
 use native.Mathlib.Omega.{arith}
@@ -10,8 +10,8 @@ use Rattle.method.proofs.Rules.{kind-good, holding-good}
 use Rattle.method.proofs.Startings.{listed-within}
 use Rattle.rounds_many.specs.{SeriesMeets}
 use Rattle.rounds.proofs.Beginnings.{begin-walkable, begun, series-walkable}
-use Rattle.rounds.proofs.run.run_from.Statement.{statement}
-use Rattle.rounds.proofs.run.run_from.Tie as tie
+use Rattle.rounds.proofs.run.run_from_holding.Statement.{statement}
+use Rattle.rounds.proofs.run.run_from_holding.Tie as tie
 
 -- where the run is called
 abbrev st : tie.After-fill_starts → tie.Start
@@ -33,20 +33,20 @@ given-low : (s : tie.Start) (q : ℕ) → Within most_coordinate ((listed s.args
 given-low s = listed-within s.args.base.now s.requires.1
 
 -- the rounds begin where the starting shades are stored
-abbrev starting : tie.After-make_rounds-a → tie.After-fill_starts
+abbrev starting : tie.After-make_rounds_holding-a → tie.After-fill_starts
 starting c = c.before.before.before.before.before.before.before.before
 
 -- and are those of a run that begins there
-series : (c : tie.After-make_rounds-a)
+series : (c : tie.After-make_rounds_holding-a)
     → (let a = c.args in
     SeriesMeets (holding a.held (kind_of a.leaps)) (colours_of a.used a.keys.now a.weights.now)
     a.count a.limit
     (begin_from (listed a.base.now) (colours_of a.used a.keys.now a.weights.now) a.count
     a.members.now)
-    (state_of c.make_rounds-a.new.shades c.make_rounds-a.new.members)
-    a.totals.now c.make_rounds-a.new.totals
-    c.make_rounds-a.result.rounds c.make_rounds-a.result.settled c.make_rounds-a.result.distances)
-series c = rw (has-begun (starting c)) at c.make_rounds-a.ensures
+    (state_of c.make_rounds_holding-a.new.shades c.make_rounds_holding-a.new.members)
+    a.totals.now c.make_rounds_holding-a.new.totals
+    c.make_rounds_holding-a.result.rounds c.make_rounds_holding-a.result.settled c.make_rounds_holding-a.result.distances)
+series c = rw (has-begun (starting c)) at c.make_rounds_holding-a.ensures
 
 fill-starts-requires : tie.Need-fill_starts-requires
 fill-starts-requires c κs =
@@ -59,7 +59,7 @@ fill-starts-requires c κs =
       p.0.members_room,
     )
 
-make-rounds-requires : tie.Need-make_rounds-a-requires
+make-rounds-requires : tie.Need-make_rounds_holding-a-requires
 make-rounds-requires c κs =
     let f = c.before.before.before.before.before.before.before in
     let p = f.requires.0 in (
@@ -91,8 +91,8 @@ returns c =
     let r = c.before.before.before.before.before.before.before.before.before in
     (series r, c.final_total-total.ensures)
 
-pub run_from_spec : {M : Type 1} → statement M
-run_from_spec =
+pub run_from_holding_spec : {M : Type 1} → statement M
+run_from_holding_spec =
     tie.close
     (tie.spec
     fill-starts-requires
