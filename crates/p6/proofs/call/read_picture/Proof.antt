@@ -22,37 +22,29 @@ use Rattle.p6.proofs.Ways.{
 use Rattle.p6.proofs.call.read_picture.Statement.{statement}
 use Rattle.p6.proofs.call.read_picture.Tie as tie
 
--- the input, where the header is read
-abbrev input : tie.After-read_header-header → List ℕ
-input c = c.args.input.now
-
--- where the header is read, at the size's test
-abbrev read_at : tie.After-bad_size → tie.After-read_header-header
-read_at c = c.before.before.before.before
-
 -- the input, at the size's test
 abbrev s : tie.After-bad_size → List ℕ
-s c = input (read_at c)
+s c = c.args.input.now
 
 -- the header's width
 abbrev width : tie.After-bad_size → ℕ
-width c = c.header-1.given.0.0
+width c = c.in-Read.width
 
 -- its height
 abbrev height : tie.After-bad_size → ℕ
-height c = c.header-1.given.0.1.0
+height c = c.in-Read.height
 
 -- its depth
 abbrev depth : tie.After-bad_size → ℕ
-depth c = c.header-1.given.0.1.1.0
+depth c = c.in-Read.depth
 
 -- the first place after it
 abbrev start : tie.After-bad_size → ℕ
-start c = c.header-1.given.0.1.1.1.0
+start c = c.in-Read.start
 
 -- what the header is
 header : (c : tie.After-bad_size) → header_of (s c) ≡ Read (width c) (height c) (depth c) (start c)
-header c = sym c.read_header-header.ensures ∙ c.header-1.given.1
+header c = sym c.read_header-header.ensures ∙ c.in-Read.is
 
 -- past the size's test: it fails
 size_ok : (c : tie.Else-bad_size) → bad_size (width c.before) (height c.before) ≡ false
@@ -79,11 +71,10 @@ refused-requires c κs = search rules
 
 returns : tie.Need-returns-in_default
 returns c =
-    let r = c.before.before.before.before in
-    let failed = c.enum_told-1.given.1 in
+    let failed = c.in_default.is in
     c.refused.ensures
     ∙ ap (refused_picture (number_of BAD_HEADER)) (c.bad_at.ensures ∙ ap offset_in failed)
-    ∙ sym (picture-bad-header (input r) _ (sym r.read_header-header.ensures ∙ failed))
+    ∙ sym (picture-bad-header c.args.input.now _ (sym c.read_header-header.ensures ∙ failed))
 
 bad-size-requires : tie.Need-bad_size-requires
 bad-size-requires c κs = search rules
