@@ -13,7 +13,8 @@ VERSION := $(shell sed -n '/^\[workspace\.package\]/,/^$$/s/^version = "\(.*\)"$
 SONAME := libkohlenfloh.so.$(basename $(VERSION))
 LIBRARY := target/library
 COMMAND := target/release/kohlenfloh
-SOURCES := crates.txt Cargo.toml $(addprefix tools/,library prove below jobs native-lib) $(shell find crates -type f)
+SOURCES := crates.txt Cargo.toml $(addprefix tools/,library below) \
+    $(shell find crates -type f -not -path "*/out/*")
 
 # What made the library, by name.
 made = $(shell sed -n 's/^$(1): //p' $(LIBRARY)/libkohlenfloh.made)

@@ -91,10 +91,10 @@ int main(int argc, char **argv)
     check("the run", kf_run(record, keys, entries, weights, entries, count, 0, members, entries, totals, KF_USUAL_LIMIT,
                             shades, run));
 
-    /* the palette, from the groups that the run left, no shade fixed, and the index picture */
+    /* the palette, from the groups that the run left, and the index picture */
     uint8_t palette[KF_MOST_COORDINATES];
     check("the palette", kf_palette_from_groups(record, keys, entries, weights, entries, shades, 3 * count, members,
-                                                entries, 0, palette, sizeof palette));
+                                                entries, palette, sizeof palette));
     uint8_t *index = room(pixels);
     uint64_t mapping[KF_MAP_STRIP_PLACES];
     double means[KF_MAP_STRIP_MEAN_PLACES];

@@ -238,7 +238,7 @@ uint32_t kf_run_jancey(const uint64_t record[KF_RECORD_PLACES], const uint32_t *
  * Table colours may equal fixed shades, and fixed shades may equal each other; of two equal ones the higher number gets
  * no colour, and kf_map_strip refuses their palette. With no shade to fix use kf_run: an empty list is refused.
  * Reads the fixed bytes; besides these it reads and writes what kf_run does, and the places of its answer are the same.
- * For the palette, kf_palette_from_groups is told how many shades are fixed, a third of fixed_len.
+ * For the palette, kf_palette_from_groups_fixed is told how many shades are fixed, a third of fixed_len.
  * Refuses, in this order: KF_BAD_TABLE, KF_BAD_PALETTE (fixed_len not 3 to 189 or not a multiple of 3), KF_BAD_COUNT
  * (also a count that is not above the number of fixed shades), KF_FEW_COLOURS (fewer used entries unlike every fixed
  * shade than there are free shades; weights do not matter, and the count may be above the used entries), KF_BAD_LIMIT,
@@ -259,19 +259,27 @@ uint32_t kf_palette_from_shades(const uint32_t *coordinates, size_t coordinates_
 /* The palette of a run, rounded once: three bytes a shade, in each channel the level nearest to the exact mean of the
  * shade's group, halves up. The group of shade q is the used entries whose member is q; with W the sum of their weights
  * and S that of weight times level, the byte is (2 S + W) / (2 W). A shade with no group has (coordinate + 8) / 16, as
- * by kf_palette_from_shades, and so have the first shades, as many as fixed tells, group or none: after kf_run_fixed
- * their own bytes.
+ * by kf_palette_from_shades.
  * Lend table, members and shades as the run left them, of the shades the first 3 * count coordinates: the count is a
- * third of coordinates_len. fixed is the number of fixed shades of that run, 0 after kf_run and kf_run_jancey. The
- * members are taken as they are, whichever round or caller they come from; those past the used entries are not looked
- * at. Reads record, keys, weights, coordinates, members. Writes palette; its bytes past the last shade's stay.
- * Refuses, in this order: KF_BAD_TABLE, KF_BAD_COUNT (also where fixed is not below the count), KF_BAD_CENTRE (also
- * where the shade has a group), KF_SHORT_ROOM (members fewer than the used entries, or palette bytes fewer than 3 for
- * each shade), KF_BAD_MEMBER. */
+ * third of coordinates_len. The members are taken as they are, whichever round or caller they come from; those past the
+ * used entries are not looked at. Reads record, keys, weights, coordinates, members. Writes palette; its bytes past the
+ * last shade's stay.
+ * Refuses, in this order: KF_BAD_TABLE, KF_BAD_COUNT, KF_BAD_CENTRE (also where the shade has a group), KF_SHORT_ROOM
+ * (members fewer than the used entries, or palette bytes fewer than 3 for each shade), KF_BAD_MEMBER. */
 uint32_t kf_palette_from_groups(const uint64_t record[KF_RECORD_PLACES], const uint32_t *keys, size_t keys_len,
                                 const uint32_t *weights, size_t weights_len, const uint32_t *coordinates,
-                                size_t coordinates_len, const uint32_t *members, size_t members_len, size_t fixed,
-                                uint8_t *palette, size_t palette_len);
+                                size_t coordinates_len, const uint32_t *members, size_t members_len, uint8_t *palette,
+                                size_t palette_len);
+
+/* The palette of a run with fixed shades: like kf_palette_from_groups in everything but the first shades, as many as
+ * fixed tells. These have (coordinate + 8) / 16, as by kf_palette_from_shades, group or none: after kf_run_fixed their
+ * own bytes. fixed is a third of that run's fixed_len; for 0 it is the palette of kf_palette_from_groups.
+ * Reads and writes what kf_palette_from_groups does.
+ * Refuses what that does, in the same order; KF_BAD_COUNT also where fixed is not below the count. */
+uint32_t kf_palette_from_groups_fixed(const uint64_t record[KF_RECORD_PLACES], const uint32_t *keys, size_t keys_len,
+                                      const uint32_t *weights, size_t weights_len, const uint32_t *coordinates,
+                                      size_t coordinates_len, const uint32_t *members, size_t members_len, size_t fixed,
+                                      uint8_t *palette, size_t palette_len);
 
 /* The places of the answer of kf_map_strip. */
 enum kf_map_strip_place {

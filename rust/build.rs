@@ -50,11 +50,15 @@ fn build(built: &Path) {
     if processor("TARGET") != processor("HOST") {
         fail("the library is built for the processor at hand; KOHLENFLOH_ARCHIVE can name one for another");
     }
-    for source in ["crates", "crates.txt", "Cargo.toml"] {
+    for source in ["crates.txt", "Cargo.toml", "tools/library", "tools/below"] {
         println!("cargo:rerun-if-changed={}", top.join(source).display());
     }
-    for tool in ["library", "prove", "below", "jobs", "native-lib"] {
-        println!("cargo:rerun-if-changed={}", top.join("tools").join(tool).display());
+    // Not the crates' whole folders: in out/ stands what rt keeps there.
+    for name in crates_below(top) {
+        let folder = top.join("crates").join(name);
+        for part in ["src", "specs", "proofs"].map(|part| folder.join(part)).iter().filter(|part| part.exists()) {
+            println!("cargo:rerun-if-changed={}", part.display());
+        }
     }
     let mut command = Command::new(top.join("tools/library"));
     command.arg(built);
@@ -66,6 +70,18 @@ fn build(built: &Path) {
         Ok(done) => fail(&String::from_utf8_lossy(&[done.stdout, done.stderr].concat())),
         Err(why) => fail(&format!("{command:?} could not be started: {why}")),
     }
+}
+
+/// The crates that the library is made of, by their names.
+fn crates_below(top: &Path) -> Vec<String> {
+    let below = Command::new(top.join("tools/below")).arg("kohlenfloh_c").current_dir(top).output();
+    let said = match below {
+        Ok(done) if done.status.success() => String::from_utf8_lossy(&done.stdout).into_owned(),
+        other => fail(&format!("tools/below could not tell what the library is made of: {other:?}")),
+    };
+    // A line is `HEIGHT NAME ..: ..`.
+    let name = |line: &str| line.split([' ', ':']).nth(1).map(String::from);
+    said.lines().filter_map(name).collect()
 }
 
 /// The terminal on which a person sees what cargo says, if it is one: cargo itself keeps what this script prints.

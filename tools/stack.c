@@ -72,8 +72,12 @@ static void short_round(void) {
 static void palette_from_shades(void) { refusal = kf_palette_from_shades(shades, 192, palette, 192); }
 
 static void palette_from_groups(void) {
-    refusal = kf_palette_from_groups(record, keys, PIXELS, weights, PIXELS, shades, 192, members, PIXELS, 0, palette,
-                                     192);
+    refusal = kf_palette_from_groups(record, keys, PIXELS, weights, PIXELS, shades, 192, members, PIXELS, palette, 192);
+}
+
+static void palette_from_groups_fixed(void) {
+    refusal = kf_palette_from_groups_fixed(record, keys, PIXELS, weights, PIXELS, shades, 192, members, PIXELS,
+                                           SHADES - 1, palette, 192);
 }
 
 static void map_strip(void) {
@@ -117,6 +121,7 @@ int main(void) {
         {"kf_short_round", short_round},
         {"kf_palette_from_shades", palette_from_shades},
         {"kf_palette_from_groups", palette_from_groups},
+        {"kf_palette_from_groups_fixed", palette_from_groups_fixed},
         {"kf_map_strip", map_strip},
     };
     size_t idle, i;

@@ -210,28 +210,53 @@ pub fn palette(ask: &Palette) -> Seen {
     Ok(Outcome { refusal, fields: vec![("palette", Values::Bytes(palette.taken_back()?))] })
 }
 
-/// `kf_palette_from_groups`.
+/// `kf_palette_from_groups_fixed`; with no fixed shade `kf_palette_from_groups` too, which must leave the same.
 pub fn palette_from_groups(ask: &PaletteFromGroups) -> Seen {
+    let told = palette_of_groups(ask, true)?;
+    if ask.fixed == 0 {
+        palette_of_groups(ask, false)?.against(&told)?;
+    }
+    Ok(told)
+}
+
+/// A palette from groups, by the call that is told the number of fixed shades or by the one that is not.
+fn palette_of_groups(ask: &PaletteFromGroups, told: bool) -> Seen {
     let (record, keys, weights) = lent(&ask.table);
     let coordinates = Guarded::new("coordinates", &ask.coordinates, WORD);
     let members = Guarded::new("members", &ask.members, WORD);
     let mut palette = Guarded::new("palette", &ask.palette, BYTE);
     // SAFETY: the pointers are those of live, apart buffers of the lengths told.
     let refusal = unsafe {
-        raw::kf_palette_from_groups(
-            record.begin().cast(),
-            keys.begin(),
-            keys.len(),
-            weights.begin(),
-            weights.len(),
-            coordinates.begin(),
-            coordinates.len(),
-            members.begin(),
-            members.len(),
-            ask.fixed,
-            palette.begin_mut(),
-            palette.len(),
-        )
+        if told {
+            raw::kf_palette_from_groups_fixed(
+                record.begin().cast(),
+                keys.begin(),
+                keys.len(),
+                weights.begin(),
+                weights.len(),
+                coordinates.begin(),
+                coordinates.len(),
+                members.begin(),
+                members.len(),
+                ask.fixed,
+                palette.begin_mut(),
+                palette.len(),
+            )
+        } else {
+            raw::kf_palette_from_groups(
+                record.begin().cast(),
+                keys.begin(),
+                keys.len(),
+                weights.begin(),
+                weights.len(),
+                coordinates.begin(),
+                coordinates.len(),
+                members.begin(),
+                members.len(),
+                palette.begin_mut(),
+                palette.len(),
+            )
+        }
     };
     kept(&ask.table, (record, keys, weights))?;
     coordinates.as_before(&ask.coordinates)?;

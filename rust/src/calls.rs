@@ -18,7 +18,7 @@
 //! assert_eq!((ran.rounds, ran.settled, ran.shades[3]), (2, true, 160));
 //!
 //! let (mut palette, mut index) = ([0; 6], [0; 4]);
-//! calls::palette_from_groups(record, &keys, &weights, &ran.shades[..6], &members, 0, &mut palette)?;
+//! calls::palette_from_groups(record, &keys, &weights, &ran.shades[..6], &members, &mut palette)?;
 //! assert_eq!(calls::map_strip(&strip, &palette, &mut index, 0)?.error, 0);
 //! assert_eq!(index, [0, 0, 0, 1]);
 //! # Ok(())
@@ -238,7 +238,7 @@ pub fn run_jancey(
 ///
 /// // The palette is told that one shade is fixed, which keeps its own level.
 /// let mut palette = [0; 6];
-/// calls::palette_from_groups(record, &keys, &weights, &ran.shades[..6], &members, 1, &mut palette)?;
+/// calls::palette_from_groups_fixed(record, &keys, &weights, &ran.shades[..6], &members, 1, &mut palette)?;
 /// assert_eq!(palette, [2, 0, 0, 10, 0, 0]);
 /// # Ok(())
 /// # }
@@ -348,9 +348,8 @@ pub fn palette_from_shades(coordinates: &[u32], palette: &mut [u8]) -> Result<()
 
 /// The palette of a run, three bytes a shade, each the level nearest to the exact mean of the shade's group, halves up;
 /// bytes past the last shade's stay. The group of a shade is the used entries whose member is its number. A shade with
-/// no group is rounded from its coordinates, as by [`palette_from_shades`], and so are the first shades, as many as
-/// `fixed` tells, group or none: after [`run_fixed`] they have their own bytes. After the other runs it is 0. The
-/// members are taken as they are, and those past the used entries are not looked at.
+/// no group is rounded from its coordinates, as by [`palette_from_shades`]. The members are taken as they are, and those
+/// past the used entries are not looked at.
 ///
 /// ```
 /// use kohlenfloh::{calls, Record, RunOptions};
@@ -363,7 +362,7 @@ pub fn palette_from_shades(coordinates: &[u32], palette: &mut [u8]) -> Result<()
 /// assert_eq!(ran.shades[..3], [168, 0, 0]);
 ///
 /// let mut palette = [9; 4];
-/// calls::palette_from_groups(record, &keys, &weights, &ran.shades[..3], &members, 0, &mut palette)?;
+/// calls::palette_from_groups(record, &keys, &weights, &ran.shades[..3], &members, &mut palette)?;
 /// assert_eq!(palette, [10, 0, 0, 9]);
 /// calls::palette_from_shades(&ran.shades[..3], &mut palette)?;
 /// assert_eq!(palette, [11, 0, 0, 9]);
@@ -372,10 +371,60 @@ pub fn palette_from_shades(coordinates: &[u32], palette: &mut [u8]) -> Result<()
 /// ```
 ///
 /// # Refusals
-/// BAD TABLE; BAD COUNT, also where `fixed` is not below the count; BAD CENTRE, also where the shade has a group; SHORT
-/// ROOM, for members fewer than the used entries or palette bytes fewer than 3 for each shade; BAD MEMBER.
+/// BAD TABLE; BAD COUNT; BAD CENTRE, also where the shade has a group; SHORT ROOM, for members fewer than the used
+/// entries or palette bytes fewer than 3 for each shade; BAD MEMBER.
 #[inline]
 pub fn palette_from_groups(
+    record: Record,
+    keys: &[u32],
+    weights: &[u32],
+    coordinates: &[u32],
+    members: &[u32],
+    palette: &mut [u8],
+) -> Result<(), Refusal> {
+    // SAFETY: each pointer and length is that of a slice or array of this call, and the palette is exclusive.
+    let number = unsafe {
+        kf_palette_from_groups(
+            &record.to_array(),
+            keys.as_ptr(),
+            keys.len(),
+            weights.as_ptr(),
+            weights.len(),
+            coordinates.as_ptr(),
+            coordinates.len(),
+            members.as_ptr(),
+            members.len(),
+            palette.as_mut_ptr(),
+            palette.len(),
+        )
+    };
+    answer_to(number, NOTHING)
+}
+
+/// The palette of a run with fixed shades: as by [`palette_from_groups`], but that the first shades, as many as `fixed`
+/// tells, are rounded from their coordinates, as by [`palette_from_shades`], group or none: after [`run_fixed`] they
+/// have their own bytes. For no fixed shade it is the palette of [`palette_from_groups`].
+///
+/// ```
+/// use kohlenfloh::{calls, Record, RunOptions};
+///
+/// # fn main() -> Result<(), kohlenfloh::Refusal> {
+/// // 17 pixels (10,0,0) and 15 pixels (11,0,0), beside a shade (11,0,0) from stock.
+/// let (record, keys, weights) = (Record::new(2, 32, [335, 0, 0]), [655_360, 720_896], [17, 15]);
+/// let (mut members, mut totals) = ([0; 2], [0; RunOptions::USUAL_LIMIT]);
+/// let ran = calls::run_fixed(record, &keys, &weights, &[11, 0, 0], 2, 0, &mut members, &mut totals)?;
+///
+/// let mut palette = [9; 7];
+/// calls::palette_from_groups_fixed(record, &keys, &weights, &ran.shades[..6], &members, 1, &mut palette)?;
+/// assert_eq!(palette, [11, 0, 0, 10, 0, 0, 9]);
+/// # Ok(())
+/// # }
+/// ```
+///
+/// # Refusals
+/// Those of [`palette_from_groups`]; BAD COUNT also where `fixed` is not below the count.
+#[inline]
+pub fn palette_from_groups_fixed(
     record: Record,
     keys: &[u32],
     weights: &[u32],
@@ -386,7 +435,7 @@ pub fn palette_from_groups(
 ) -> Result<(), Refusal> {
     // SAFETY: each pointer and length is that of a slice or array of this call, and the palette is exclusive.
     let number = unsafe {
-        kf_palette_from_groups(
+        kf_palette_from_groups_fixed(
             &record.to_array(),
             keys.as_ptr(),
             keys.len(),

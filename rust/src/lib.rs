@@ -63,7 +63,8 @@
 //! | [`Table::plain_round`] | 7 SHORT ROOM |
 //! | [`Table::short_round`] | 7 SHORT ROOM, 9 BAD MEMBER |
 //! | [`Table::palette_of`] | none |
-//! | [`Table::palette_from_groups`] | 4 BAD COUNT, 7 SHORT ROOM, 9 BAD MEMBER |
+//! | [`Table::palette_from_groups`] | 7 SHORT ROOM, 9 BAD MEMBER |
+//! | [`Table::palette_from_groups_fixed`] | 4 BAD COUNT, 7 SHORT ROOM, 9 BAD MEMBER |
 //! | [`Shades::palette`] | none |
 //! | [`Palette::map`] | 1 BAD STRIP, 18 TWIN SHADE, 11 MANY PIXELS |
 //! | [`Palette::map_into`] | 1 BAD STRIP, 18 TWIN SHADE, 11 MANY PIXELS, 7 SHORT ROOM |

@@ -135,18 +135,46 @@ impl Table {
     /// ```
     ///
     /// # Refusals
-    /// None is met with a run of this table as it was left; with another's those of [`Table::palette_from_groups`].
+    /// None is met with a run of this table as it was left; with another's those of
+    /// [`Table::palette_from_groups_fixed`].
     pub fn palette_of(&self, run: &Run) -> Result<Palette, Refusal> {
-        self.palette_from_groups(&run.shades, &run.members, run.fixed)
+        self.palette_from_groups_fixed(&run.shades, &run.members, run.fixed)
     }
 
-    /// The palette of shades, of which the first `fixed` are fixed, and of members that need not be a run's: each shade
-    /// in whole levels. A fixed shade is rounded from its coordinates, as by [`Shades::palette`]. Every other one has
-    /// in each channel the level nearest to the exact mean of its group, halves up, where its group is the entries
-    /// whose member is its number; one with no group is rounded from its coordinates too.
+    /// The palette of a run of this table: each shade in whole levels, in each channel the level nearest to the exact
+    /// mean of the shade's group, halves up. The group of a shade is the entries whose member is its number. A shade
+    /// with no group is rounded from its coordinates, as by [`Shades::palette`].
     ///
-    /// Shades and members are taken as they are: nothing tests that they belong together. Members past the used entries
-    /// are not looked at. After a run, [`Table::palette_of`] hands on what belongs together.
+    /// Shades and members are those that the run left. They are taken as they are: nothing tests that they belong
+    /// together. Members past the used entries are not looked at.
+    ///
+    /// ```
+    /// use kohlenfloh::{RunOptions, Table};
+    ///
+    /// // 17 pixels (10,0,0) and 15 pixels (11,0,0): the mean is 10 and 15/32, nearer to 10 than to 11. The nearest
+    /// // sixteenth is 168, as near to 11 as to 10.
+    /// let mut table = Table::with_room(2);
+    /// table.add(&[[10, 0, 0].repeat(17), [11, 0, 0].repeat(15)].concat())?;
+    /// let run = table.run(RunOptions::shades(1))?;
+    /// assert_eq!(run.shades.coordinates(), [168, 0, 0]);
+    /// assert_eq!(table.palette_from_groups(&run.shades, &run.members)?.bytes(), [10, 0, 0]);
+    /// assert_eq!(run.shades.palette()?.bytes(), [11, 0, 0]);
+    /// # Ok::<(), kohlenfloh::Refusal>(())
+    /// ```
+    ///
+    /// # Refusals
+    /// SHORT ROOM, for members fewer than the used entries; BAD MEMBER.
+    pub fn palette_from_groups(&self, shades: &Shades, members: &[u32]) -> Result<Palette, Refusal> {
+        let coordinates = shades.coordinates();
+        let mut bytes = vec![0; coordinates.len()];
+        calls::palette_from_groups(self.record(), self.keys(), self.weights(), coordinates, members, &mut bytes)?;
+        Ok(Palette::held(bytes))
+    }
+
+    /// The palette of a run of this table with fixed shades: as by [`Table::palette_from_groups`], but that the first
+    /// `fixed` shades are rounded from their coordinates, as by [`Shades::palette`], group or none: after
+    /// [`Table::run_fixed`] they have their own levels. After a run, [`Table::palette_of`] hands on what belongs
+    /// together.
     ///
     /// ```
     /// use kohlenfloh::{Refusal, Shades, Table};
@@ -154,20 +182,25 @@ impl Table {
     /// let mut table = Table::with_room(2);
     /// table.add(&[10, 0, 0, 20, 0, 0])?;
     /// let shades = Shades::from_coordinates(&[160, 0, 0, 4080, 0, 0])?;
-    /// assert_eq!(table.palette_from_groups(&shades, &[0, 0], 0)?.bytes(), [15, 0, 0, 255, 0, 0]);
-    /// assert_eq!(table.palette_from_groups(&shades, &[0, 0], 1)?.bytes(), [10, 0, 0, 255, 0, 0]);
-    /// assert_eq!(table.palette_from_groups(&shades, &[0, 0], 2), Err(Refusal::BadCount));
+    /// assert_eq!(table.palette_from_groups_fixed(&shades, &[0, 0], 0)?.bytes(), [15, 0, 0, 255, 0, 0]);
+    /// assert_eq!(table.palette_from_groups_fixed(&shades, &[0, 0], 1)?.bytes(), [10, 0, 0, 255, 0, 0]);
+    /// assert_eq!(table.palette_from_groups_fixed(&shades, &[0, 0], 2), Err(Refusal::BadCount));
     /// # Ok::<(), Refusal>(())
     /// ```
     ///
     /// # Refusals
     /// BAD COUNT, for as many fixed shades as there are shades, or more; SHORT ROOM, for members fewer than the used
     /// entries; BAD MEMBER.
-    pub fn palette_from_groups(&self, shades: &Shades, members: &[u32], fixed: usize) -> Result<Palette, Refusal> {
+    pub fn palette_from_groups_fixed(
+        &self,
+        shades: &Shades,
+        members: &[u32],
+        fixed: usize,
+    ) -> Result<Palette, Refusal> {
         let coordinates = shades.coordinates();
         let mut bytes = vec![0; coordinates.len()];
         let (record, keys, weights) = (self.record(), self.keys(), self.weights());
-        calls::palette_from_groups(record, keys, weights, coordinates, members, fixed, &mut bytes)?;
+        calls::palette_from_groups_fixed(record, keys, weights, coordinates, members, fixed, &mut bytes)?;
         Ok(Palette::held(bytes))
     }
 }

@@ -181,9 +181,24 @@ extern "C" {
         palette_len: usize,
     ) -> u32;
 
+    /// The palette of a run, three bytes a shade, each rounded once from the shade's group.
+    pub fn kf_palette_from_groups(
+        record: *const [u64; KF_RECORD_PLACES],
+        keys: *const u32,
+        keys_len: usize,
+        weights: *const u32,
+        weights_len: usize,
+        coordinates: *const u32,
+        coordinates_len: usize,
+        members: *const u32,
+        members_len: usize,
+        palette: *mut u8,
+        palette_len: usize,
+    ) -> u32;
+
     /// The palette of a run, three bytes a shade: the first `fixed` shades from their coordinates, the others rounded
     /// once from their groups.
-    pub fn kf_palette_from_groups(
+    pub fn kf_palette_from_groups_fixed(
         record: *const [u64; KF_RECORD_PLACES],
         keys: *const u32,
         keys_len: usize,

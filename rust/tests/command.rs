@@ -107,7 +107,7 @@ fn a_picture_of_several_strips_is_mapped_as_a_whole() {
     let mut table = Table::with_room(raster.len() / 3);
     table.add(&raster).unwrap();
     let found = table.run(RunOptions::shades(5)).unwrap();
-    let mapped = table.palette_of(&found).unwrap().map(&raster).unwrap();
+    let mapped = table.palette_from_groups(&found.shades, &found.members).unwrap().map(&raster).unwrap();
 
     let output = run(&["shades", "5", "--index", &folder.path("index.pgm")], &input);
     assert!(printed(&output).contains(&format!("\ncolours            {}\n", table.used())));

@@ -79,7 +79,10 @@ fn the_table_and_the_object_say_so() {
         assert!(json.contains(line), "{json}");
     }
     assert!(json.contains("\n  \"distances\": 3,\n  \"final_total\": 3072,\n  \"error\": 12,\n"), "{json}");
-    assert!(small(&["2", "--json", "-"]).contains("\n  \"fixed\": [],\n"));
+    // Where none is fixed, nothing is told of it.
+    let json = small(&["2", "--json", "-"]);
+    assert!(json.contains("\n  \"wanted_in_use\": null,\n  \"limit\": 100,\n") && !json.contains("stock"), "{json}");
+    assert!(!small(&["2", "--csv", "-"]).contains("stock"));
 }
 
 #[test]
@@ -293,4 +296,22 @@ fn fixed_shades_are_what_the_pixels_are_mapped_to() {
     assert_eq!(folder.read("preview.ppm"), b"P6\n4 1\n255\n\x02\0\0\x02\0\0\x02\0\0\x0a\0\0");
     let palette = Palette::from_bytes(&[2, 0, 0, 255, 255, 255, 10, 0, 0]).unwrap();
     assert_eq!(palette.map(&SMALL[11..]).unwrap().figures.error, 12);
+}
+
+#[test]
+fn the_help_tells_of_fixed_shades() {
+    let help = run(&["--help"], b"");
+    let (wrong, words) = (run(&["shades"], b""), printed(&help).split_whitespace().collect::<Vec<_>>().join(" "));
+    assert!(said(&wrong).contains("[--fixed SHADES]"));
+    for part in [
+        "with --fixed 1e3059,71473f the shades 0 and 1 are these two, and the others are looked for beside them",
+        "--fixed SHADES shades from stock, which never move: six hexadecimal digits RRGGBB each",
+        "Fixed shades are counted like others, so those without a pixel are not in use",
+        "With --fixed there is a column more, stock: whether the shade is fixed",
+        "fixed, a list of the fixed shades as # and six hexadecimal digits",
+        "4 BAD COUNT: K is not 1 to 64, or not above the number of fixed shades",
+        "with fixed shades, fewer that are unlike these than K leaves free",
+    ] {
+        assert!(words.contains(part), "{part}");
+    }
 }

@@ -64,7 +64,7 @@ fn the_shades_are_those_of_the_library() {
     table.add(raster).unwrap();
     for (count, limit) in [(6, 0), (7, 0), (20, 2), (20, 200)] {
         let found = table.run_jancey(RunOptions::shades(count).limit(limit)).unwrap();
-        let palette = table.palette_of(&found).unwrap();
+        let palette = table.palette_from_groups(&found.shades, &found.members).unwrap();
         let mapped = palette.map(raster).unwrap();
         let index = folder.path("index.pgm");
         let (count, limit) = (count.to_string(), limit.to_string());

@@ -56,7 +56,7 @@ fn the_sheet_has_the_palette_from_the_runs_groups() {
     let mut lower = 0;
     for (count, limit) in [(3, "1"), (9, "0"), (40, "4"), (64, "0")] {
         let found = table.run(RunOptions::shades(count).limit(limit.parse().unwrap())).unwrap();
-        let palette = table.palette_of(&found).unwrap();
+        let palette = table.palette_from_groups(&found.shades, &found.members).unwrap();
         let path = folder.path("palette.ppm");
         let output = run(&["shades", &count.to_string(), "--limit", limit, "--palette", &path], &input);
         assert_eq!(output.status.code(), Some(0), "{}", said(&output));

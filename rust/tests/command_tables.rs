@@ -53,9 +53,9 @@ fn figure<'a>(sheet: &'a str, name: &str) -> &'a str {
     line.unwrap_or_else(|| panic!("no {name}")).trim()
 }
 
-/// A shade's values as a line, with the word that says whether it is used, and the one that says that it is not fixed.
-fn line_of(shade: &[&str], [yes, no]: [&str; 2]) -> String {
-    format!("{} {} {no}", shade.join(" "), if shade[5] == "0" { no } else { yes })
+/// A shade's values as a line, with the word that says whether it is used.
+fn line_of(shade: &[&str], words: [&str; 2]) -> String {
+    format!("{} {}", shade.join(" "), words[usize::from(shade[5] == "0")])
 }
 
 #[test]
@@ -66,12 +66,12 @@ fn the_table_tells_what_the_sheet_tells() {
     assert_eq!((said(&output), output.status.code()), ("", Some(0)));
     let shades = shades_of(printed(&output));
     assert_eq!(shades.len(), 7);
-    let mut lines = vec!["shade red green blue hex pixels share used stock".to_string()];
+    let mut lines = vec!["shade red green blue hex pixels share used".to_string()];
     lines.extend(shades.iter().map(|shade| line_of(shade, ["yes", "no"])));
     assert_eq!(python(READ_CSV, &path), lines);
     let text = String::from_utf8(folder.read("order.csv")).unwrap();
-    assert!(text.starts_with("shade,red,green,blue,hex,pixels,share,used,stock\n0,108,81,69,#6c5145,0,0.00,no,no\n"));
-    assert!(text.ends_with(",yes,no\n") && !text.contains('\r'));
+    assert!(text.starts_with("shade,red,green,blue,hex,pixels,share,used\n0,108,81,69,#6c5145,0,0.00,no\n"));
+    assert!(text.ends_with(",yes\n") && !text.contains('\r'));
 }
 
 #[test]
@@ -94,8 +94,7 @@ fn the_object_tells_what_the_sheet_tells() {
     assert_eq!(figure(sheet, "average colour"), "108  81  69  #6c5145");
     lines.push(format!("average: {}", figure(sheet, "average colour")));
     assert_eq!(figure(sheet, "shades"), "6 of 7 shades in use");
-    lines.extend(["shades: 7", "in_use: 6", "wanted_in_use: None", "fixed: []"].map(String::from));
-    lines.extend(["limit: 100", "jancey: False"].map(String::from));
+    lines.extend(["shades: 7", "in_use: 6", "wanted_in_use: None", "limit: 100", "jancey: False"].map(String::from));
     lines.push(format!("rounds: {}", figure(sheet, "rounds")));
     assert_eq!(figure(sheet, "settled"), "yes");
     lines.extend(["settled: True".into(), "distances: 302".into(), "final_total: 21345408".into()]);
@@ -105,7 +104,7 @@ fn the_object_tells_what_the_sheet_tells() {
     let made = printed(&version).replacen("kohlenfloh", "version", 1);
     lines.extend(made.lines().map(|line| line.replacen(' ', ": ", 1)));
     for shade in shades_of(sheet) {
-        lines.push("shade red green blue hex pixels share used stock".into());
+        lines.push("shade red green blue hex pixels share used".into());
         lines.push(line_of(&shade, ["True", "False"]));
     }
     assert_eq!(python(READ_JSON, &path), lines);
@@ -168,7 +167,7 @@ fn the_help_tells_of_every_option_and_of_what_is_refused() {
         assert!(usage.contains(&format!("[{option} FILE]")), "{option}");
         assert!(printed(&help).contains(&format!("\n  {option} FILE ")), "{option}");
     }
-    assert!(["[--limit N]", "[--jancey]", "[--fixed SHADES]"].iter().all(|option| usage.contains(option)));
+    assert!(usage.contains("[--limit N]") && usage.contains("[--jancey]"));
     assert!([printed(&help), usage].iter().all(|text| text.lines().all(|line| line.len() <= 80)));
     let words = printed(&help).split_whitespace().collect::<Vec<_>>().join(" ");
     for part in [
@@ -185,13 +184,7 @@ fn the_help_tells_of_every_option_and_of_what_is_refused() {
         "An output that is the picture is refused",
         "two outputs that are one file",
         "A file that is not writable is not replaced.",
-        "shade,red,green,blue,hex,pixels,share,used,stock",
-        "with --fixed 1e3059,71473f the shades 0 and 1 are these two, and the others are looked for beside them",
-        "--fixed SHADES shades from stock, which never move: six hexadecimal digits RRGGBB each",
-        "Fixed shades are counted like others, so those without a pixel are not in use",
-        "fixed (a list of the fixed shades as # and six hexadecimal digits), limit",
-        "4 BAD COUNT: K is not 1 to 64, or not above the number of fixed shades",
-        "with fixed shades, fewer that are unlike these than K leaves free",
+        "shade,red,green,blue,hex,pixels,share,used",
         "picture, width, height, pixels, colours, average (an object with red, green, blue and hex), shades, in_use",
         "the average colour is that of the picture: in each channel the level nearest to the mean of all pixels",
         "The levels of a shade are rounded alike, once, from the mean of the pixels whose colours the last round put",

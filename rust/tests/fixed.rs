@@ -191,7 +191,7 @@ fn the_palette_of_a_run_has_the_fixed_bytes_in_front() {
             let palette = table.palette_of(&run).unwrap();
             assert!(palette.entries().take(stock.len()).eq(stock.iter().copied()));
             // With none fixed, the groups would change some of them; free shades have the same levels.
-            let free = table.palette_from_groups(&run.shades, &run.members, 0).unwrap();
+            let free = table.palette_from_groups(&run.shades, &run.members).unwrap();
             assert_eq!(palette.bytes()[3 * stock.len()..], free.bytes()[3 * stock.len()..]);
             grouped += usize::from(palette != free);
             alone += (0..stock.len()).filter(|number| !run.members.contains(&(*number as u32))).count();
@@ -304,6 +304,6 @@ fn a_run_with_none_fixed_says_so() {
     let table = reds(&[(0, 1), (10, 1)]);
     for run in [table.run(RunOptions::shades(2)).unwrap(), table.run_jancey(RunOptions::shades(2)).unwrap()] {
         assert_eq!(run.fixed, 0);
-        assert_eq!(table.palette_of(&run), table.palette_from_groups(&run.shades, &run.members, 0));
+        assert_eq!(table.palette_of(&run), table.palette_from_groups(&run.shades, &run.members));
     }
 }

@@ -1,11 +1,9 @@
 //! The palette from groups: each level rounded once, from the exact mean of a shade's group; and its refusals.
 use kohlenfloh::{calls, Record, Refusal, RunOptions, Shades, Table};
 
-/// The refusals in their order, BAD COUNT by coordinates and by fixed shades, SHORT ROOM by members and by palette
-/// bytes.
-const ORDER: [Refusal; 7] = [
+/// The refusals in their order, SHORT ROOM by members and by palette bytes.
+const ORDER: [Refusal; 6] = [
     Refusal::BadTable,
-    Refusal::BadCount,
     Refusal::BadCount,
     Refusal::BadCentre,
     Refusal::ShortRoom,
@@ -19,42 +17,34 @@ fn table_of(entries: &[(u32, u32)]) -> Table {
     Table::from_entries(keys, weights).unwrap()
 }
 
-/// A palette's answer, and its bytes then.
-type Made = (Result<(), Refusal>, Vec<u8>);
-
-/// The palette that is made of a table, coordinates and members, no shade fixed, in so many bytes of 9.
-fn made(table: &Table, coordinates: &[u32], members: &[u32], bytes: usize) -> Made {
-    made_with_fixed(0, table, coordinates, members, bytes)
-}
-
-/// The same with so many shades fixed.
-fn made_with_fixed(fixed: usize, table: &Table, coordinates: &[u32], members: &[u32], bytes: usize) -> Made {
+/// The palette that is made of a table, coordinates and members, in so many bytes of 9.
+fn made(table: &Table, coordinates: &[u32], members: &[u32], bytes: usize) -> (Result<(), Refusal>, Vec<u8>) {
     let mut palette = vec![9; bytes];
     let (record, keys, weights) = (table.record(), table.keys(), table.weights());
-    (calls::palette_from_groups(record, keys, weights, coordinates, members, fixed, &mut palette), palette)
+    (calls::palette_from_groups(record, keys, weights, coordinates, members, &mut palette), palette)
 }
 
 /// The palette of three pixels (0,0,255) in shade 0 and two of (1,2,3) in shade 1, where these of the refusals hold.
-fn with_faults(faults: [bool; 7]) -> Made {
-    let [table, count, fixed, centre, members, bytes, member] = faults;
+fn with_faults(faults: [bool; 6]) -> (Result<(), Refusal>, Vec<u8>) {
+    let [table, count, centre, members, bytes, member] = faults;
     let record = Record::new(2, 5 + u64::from(table), [2, 4, 771]);
     let mut coordinates = vec![0, 0, 0, 16, 16, 16];
     coordinates.extend(count.then_some(0));
     coordinates[4] += 4065 * u32::from(centre);
     let lent = [2 * u32::from(member), 1];
     let mut palette = vec![9; 7 - 2 * usize::from(bytes)];
-    let (lent, fixed) = (&lent[..2 - usize::from(members)], 2 * usize::from(fixed));
-    let answer = calls::palette_from_groups(record, &[255, 66_051], &[3, 2], &coordinates, lent, fixed, &mut palette);
+    let lent = &lent[..2 - usize::from(members)];
+    let answer = calls::palette_from_groups(record, &[255, 66_051], &[3, 2], &coordinates, lent, &mut palette);
     (answer, palette)
 }
 
 #[test]
 fn the_refusal_is_the_first_of_those_that_hold_and_writes_nothing() {
-    for case in 0..128 {
-        let faults = [1, 2, 4, 8, 16, 32, 64].map(|bit| case & bit != 0);
+    for case in 0..64 {
+        let faults = [1, 2, 4, 8, 16, 32].map(|bit| case & bit != 0);
         let first = ORDER.into_iter().zip(faults).find(|(_, holds)| *holds);
         let due = match first {
-            Some((refusal, _)) => (Err(refusal), vec![9; 7 - 2 * usize::from(faults[5])]),
+            Some((refusal, _)) => (Err(refusal), vec![9; 7 - 2 * usize::from(faults[4])]),
             None => (Ok(()), vec![0, 0, 255, 1, 2, 3, 9]),
         };
         assert_eq!(with_faults(faults), due, "{faults:?}");
@@ -107,43 +97,11 @@ fn members_are_taken_as_they_are() {
     let table = table_of(&[(0, 1), (255, 1)]);
     let shades = Shades::from_coordinates(&[0, 0, 0, 0, 0, 4080]).unwrap();
     for (members, blues) in [([0, 1], [0, 255]), ([1, 0], [255, 0]), ([0, 0], [128, 255]), ([1, 1], [0, 128])] {
-        let palette = table.palette_from_groups(&shades, &members, 0).unwrap();
+        let palette = table.palette_from_groups(&shades, &members).unwrap();
         assert_eq!(palette.bytes(), [0, 0, blues[0], 0, 0, blues[1]], "{members:?}");
     }
-    assert_eq!(table.palette_from_groups(&shades, &[0], 0), Err(Refusal::ShortRoom));
-    assert_eq!(table.palette_from_groups(&shades, &[0, 2], 0), Err(Refusal::BadMember));
-}
-
-#[test]
-fn the_first_shades_are_rounded_from_their_coordinates_as_many_as_are_fixed() {
-    // Shades 0 and 2 have a group, shade 1 has none.
-    let (table, coordinates) = (table_of(&[(0, 1), (255, 1)]), [7, 8, 24, 4071, 4072, 4080, 23, 40, 4056]);
-    for (fixed, due) in [
-        (0, [0, 0, 0, 254, 255, 255, 0, 0, 255]),
-        (1, [0, 1, 2, 254, 255, 255, 0, 0, 255]),
-        (2, [0, 1, 2, 254, 255, 255, 0, 0, 255]),
-    ] {
-        assert_eq!(made_with_fixed(fixed, &table, &coordinates, &[0, 2], 9), (Ok(()), due.to_vec()), "{fixed} fixed");
-    }
-    // The last shade's group is all there is.
-    assert_eq!(made_with_fixed(2, &table, &coordinates, &[2, 2], 9).1[6..], [0, 0, 128]);
-    assert_eq!(made_with_fixed(2, &table, &coordinates, &[0, 0], 9).1[6..], [1, 3, 254]);
-}
-
-#[test]
-fn one_shade_at_least_is_free() {
-    let table = table_of(&[(0, 1)]);
-    for shades in [1, 2, 63, 64] {
-        let coordinates = vec![16; 3 * shades];
-        let made = |fixed: usize| made_with_fixed(fixed, &table, &coordinates, &[shades as u32 - 1], 192);
-        for fixed in [0, shades - 1] {
-            assert_eq!(made(fixed).0, Ok(()), "{fixed} of {shades}");
-            assert_eq!(made(fixed).1[3 * shades - 3..3 * shades], [0; 3], "{fixed} of {shades}");
-        }
-        for fixed in [shades, shades + 1, 64, 65, 1 << 8, 1 << 32, (1 << 32) + 1, usize::MAX] {
-            assert_eq!(made(fixed), (Err(Refusal::BadCount), vec![9; 192]), "{fixed} of {shades}");
-        }
-    }
+    assert_eq!(table.palette_from_groups(&shades, &[0]), Err(Refusal::ShortRoom));
+    assert_eq!(table.palette_from_groups(&shades, &[0, 2]), Err(Refusal::BadMember));
 }
 
 #[test]
@@ -154,9 +112,7 @@ fn of_an_empty_table_every_shade_is_rounded_from_its_coordinates() {
         assert_eq!(made(&table, &coordinates, members, 7), (Ok(()), vec![0, 1, 1, 2, 254, 255, 9]));
     }
     let shades = Shades::from_coordinates(&coordinates).unwrap();
-    for fixed in [0, 1] {
-        assert_eq!(table.palette_from_groups(&shades, &[], fixed), shades.palette());
-    }
+    assert_eq!(table.palette_from_groups(&shades, &[]), shades.palette());
 }
 
 #[test]
@@ -212,7 +168,7 @@ fn the_levels_of_a_run_are_nearest_to_the_means_of_its_last_groups() {
     let mut lower = 0;
     for (count, limit) in [(1, 0), (2, 1), (7, 3), (16, 0), (64, 1), (64, 0)] {
         let run = table.run(RunOptions::shades(count).limit(limit)).unwrap();
-        let palette = table.palette_of(&run).unwrap();
+        let palette = table.palette_from_groups(&run.shades, &run.members).unwrap();
         let twice = run.shades.palette().unwrap();
         for (number, levels) in palette.entries().enumerate() {
             let joined = table.entries().zip(&run.members).filter(|(_, member)| **member as usize == number);

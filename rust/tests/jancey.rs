@@ -1,11 +1,20 @@
 //! The run by Jancey's rule, beside the run by Lloyd's: small tables worked out apart from the library, what is
 //! promised of every run, and each refusal with what it leaves.
 #![allow(unsafe_code)]
-mod tables;
-
 use kohlenfloh::raw::{kf_run_jancey, KF_MOST_COORDINATES, KF_RUN_PLACES};
 use kohlenfloh::{calls, Record, Refusal, Run, RunOptions, Table};
-use tables::{reds, table_of, tables};
+
+/// The table of some colours, each with its pixels.
+fn table_of(colours: &[([u8; 3], u32)]) -> Table {
+    let key = |[red, green, blue]: [u8; 3]| u32::from_be_bytes([0, red, green, blue]);
+    let (keys, weights) = colours.iter().map(|(levels, pixels)| (key(*levels), *pixels)).unzip();
+    Table::from_entries(keys, weights).unwrap()
+}
+
+/// The table of some levels R, each with its pixels; G and B are 0.
+fn reds(levels: &[(u8, u32)]) -> Table {
+    table_of(&levels.iter().map(|(red, pixels)| ([*red, 0, 0], *pixels)).collect::<Vec<_>>())
+}
 
 /// So many shades of a table by both rules, Lloyd's first; both runs are settled.
 fn both(table: &Table, count: usize) -> [Run; 2] {
@@ -60,6 +69,16 @@ fn a_shade_with_no_group_stays() {
     let [lloyd, jancey] = both(&reds(&[(250, 7), (251, 1), (255, 6)]), 3);
     assert_eq!(jancey, lloyd);
     assert_eq!((jancey.members, jancey.shades.shade(0)), (vec![2, 2, 1], Some([4035, 0, 0])));
+}
+
+/// Tables of up to 300 colours that look random.
+fn tables() -> impl Iterator<Item = Table> {
+    (1..=300_u64).map(|seed| {
+        let mut table = Table::with_room(300);
+        let level = |n: u64| (n * n / 7 % (1 + seed * 13 % 256)) as u8;
+        table.add(&(0..3 * seed).map(|place| level(place * seed + 5 * place)).collect::<Vec<u8>>()).unwrap();
+        table
+    })
 }
 
 #[test]

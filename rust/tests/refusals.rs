@@ -106,7 +106,9 @@ fn bad_table_by_a_channel_sum_in_every_call_that_takes_a_table() {
         }
         let run = calls::run_fixed(untrue, &keys, &weights, &[9; 3], 2, 0, &mut members, &mut totals);
         assert_eq!(run, Err(Refusal::BadTable), "{sums:?}");
-        let made = calls::palette_from_groups(untrue, &keys, &weights, &shades, &members, 0, &mut palette);
+        let made = calls::palette_from_groups(untrue, &keys, &weights, &shades, &members, &mut palette);
+        assert_eq!((made, palette), (Err(Refusal::BadTable), [9; 3]), "{sums:?}");
+        let made = calls::palette_from_groups_fixed(untrue, &keys, &weights, &shades, &members, 0, &mut palette);
         assert_eq!((made, palette), (Err(Refusal::BadTable), [9; 3]), "{sums:?}");
         assert_eq!((keys, weights), (vec![255, 66_051], vec![3, 2]));
     }

@@ -39,7 +39,7 @@ fn sheet_b_one_shade() {
 fn sheet_c_its_palette_and_figures() {
     let table = table_of(&RASTER);
     let run = table.run(RunOptions::shades(1)).unwrap();
-    let palette = table.palette_of(&run).unwrap();
+    let palette = table.palette_from_groups(&run.shades, &run.members).unwrap();
     assert_eq!(palette.bytes(), [3, 0, 0]);
     assert_eq!(run.shades.palette(), Ok(palette.clone()));
     let mapped = palette.map(&RASTER).unwrap();
@@ -104,7 +104,7 @@ fn sheet_h_a_mean_that_is_rounded_twice_and_once() {
     assert_eq!(twice.entry(0), Some([11, 0, 0]));
     assert_eq!(twice.map(&raster).unwrap().figures.error, 17);
     // Once, from 335 / 32; the average is rounded so too.
-    let once = table.palette_of(&run).unwrap();
+    let once = table.palette_from_groups(&run.shades, &run.members).unwrap();
     assert_eq!(once.entry(0), Some([10, 0, 0]));
     assert_eq!(once.map(&raster).unwrap().figures.error, 15);
     assert_eq!(table.average(), Some([10, 0, 0]));

@@ -35,7 +35,7 @@ fn run_of(raster: &[u8]) -> Run {
 /// The palette of that run.
 fn palette_of(raster: &[u8]) -> Palette {
     let (table, run) = (table_in_strips(raster, raster.len()), run_of(raster));
-    table.palette_of(&run).unwrap()
+    table.palette_from_groups(&run.shades, &run.members).unwrap()
 }
 
 #[test]

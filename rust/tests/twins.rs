@@ -120,7 +120,7 @@ fn two_shades_of_a_run_come_out_equal_by_both_palettes() {
     let mut table = Table::with_room(5);
     table.add(&FIVE).unwrap();
     let run = table.run(RunOptions::shades(4)).unwrap();
-    let from_groups = table.palette_of(&run).unwrap();
+    let from_groups = table.palette_from_groups(&run.shades, &run.members).unwrap();
     for palette in [run.shades.palette().unwrap(), from_groups] {
         assert_eq!(palette.bytes(), [1, 2, 2, 0, 1, 0, 2, 0, 1, 1, 2, 2]);
         assert_eq!(palette.twins(), Some((0, 3)));
@@ -128,7 +128,7 @@ fn two_shades_of_a_run_come_out_equal_by_both_palettes() {
     }
     for (count, error) in [(1, 8), (2, 6), (3, 2), (5, 0)] {
         let run = table.run(RunOptions::shades(count)).unwrap();
-        let palette = table.palette_of(&run).unwrap();
+        let palette = table.palette_from_groups(&run.shades, &run.members).unwrap();
         assert_eq!(palette.twins(), None, "{count} shades");
         assert_eq!(palette.map(&FIVE).unwrap().figures.error, error, "{count} shades");
     }
@@ -141,7 +141,7 @@ fn rounds_and_palettes_take_equal_shades() {
     let mut shades = Shades::from_coordinates(&[16; 6]).unwrap();
     assert_eq!(shades.palette().unwrap().twins(), Some((0, 1)));
     let mut members = [1; 5];
-    assert_eq!(table.palette_from_groups(&shades, &members, 0).unwrap().bytes(), [1; 6]);
+    assert_eq!(table.palette_from_groups(&shades, &members).unwrap().bytes(), [1; 6]);
     assert!(table.short_round(&mut shades.clone(), &mut members.clone()).is_ok());
     assert!(table.plain_round(&mut shades, &mut members).is_ok());
     assert_eq!(members, [0; 5]);

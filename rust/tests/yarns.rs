@@ -30,7 +30,7 @@ fn drawing(lot: &mut Lot, yarns: usize) -> (Vec<u8>, Vec<u8>) {
 /// How many shades the yarns have, where so many are asked for: fewer than the yarns where two share one.
 fn shades_of(colours: &[u8], table: &Table, count: usize) -> usize {
     let run = table.run(RunOptions::shades(count)).unwrap();
-    let palette = table.palette_of(&run).unwrap();
+    let palette = table.palette_from_groups(&run.shades, &run.members).unwrap();
     palette.map(colours).unwrap().pixels().iter().filter(|pixels| **pixels > 0).count()
 }
 

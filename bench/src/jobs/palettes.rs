@@ -14,10 +14,10 @@ fn lent<'a>(table: &'a Table, after: &'a State) -> Lent<'a> {
     Lent { record: table.record, keys: &table.keys, weights: &table.weights, coordinates, members }
 }
 
-/// Makes a palette by the proved library, no shade fixed, in bytes that are lent.
+/// Makes a palette by the proved library, in bytes that are lent.
 pub fn proved(lent: Lent, palette: &mut [u8]) {
     let Lent { record, keys, weights, coordinates, members } = lent;
-    calls::palette_from_groups(record, keys, weights, coordinates, members, 0, palette).expect(ACCEPTED);
+    calls::palette_from_groups(record, keys, weights, coordinates, members, palette).expect(ACCEPTED);
 }
 
 /// A palette of a table and a state by a form: the seconds, and the palette.

@@ -7,8 +7,7 @@ ghost use Rattle.kohlenfloh.specs.Crossing.{AddCrosses};
 // there as it is then; `taken` receives the pixels taken.
 // Refuses, in this order: 1 BAD STRIP, 2 BAD TABLE, 3 FULL. 1 and 2 leave everything as it came and
 // 0 taken; 3 leaves the record and the table of the pixels taken.
-#[unsafe(no_mangle)]
-pub extern "C" fn kf_add_strip(
+pub fn kf_add_strip(
     rec: &mut [u64; 5],
     keys: &mut [u32],
     weights: &mut [u32],

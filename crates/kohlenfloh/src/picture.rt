@@ -9,8 +9,7 @@ ghost use Rattle.kohlenfloh.specs.Crossing.{MapCrosses, PictureCrosses};
 
 // The palette of some shades: palette::palette_from_shades.
 // Refuses, in this order: 4 BAD COUNT, 8 BAD CENTRE, 7 SHORT ROOM, with the palette as it came.
-#[unsafe(no_mangle)]
-pub extern "C" fn kf_palette_from_shades(coordinates: &[u32], palette: &mut [u8]) -> u32
+pub fn kf_palette_from_shades(coordinates: &[u32], palette: &mut [u8]) -> u32
     ensures { PaletteMeets
         (palette_from_shades coordinates.now palette.old)
         result palette.new }
@@ -21,8 +20,7 @@ pub extern "C" fn kf_palette_from_shades(coordinates: &[u32], palette: &mut [u8]
 // The palette of the groups that the members tell: palette_groups::palette_from_groups.
 // Refuses, in this order: 2 BAD TABLE, 4 BAD COUNT, 8 BAD CENTRE, 7 SHORT ROOM, 9 BAD MEMBER, with
 // the palette as it came.
-#[unsafe(no_mangle)]
-pub extern "C" fn kf_palette_from_groups(
+pub fn kf_palette_from_groups(
     rec: &[u64; 5],
     keys: &[u32],
     weights: &[u32],
@@ -44,8 +42,7 @@ pub extern "C" fn kf_palette_from_groups(
 // palette_groups::palette_from_groups_fixed.
 // Refuses, in this order: 2 BAD TABLE, 4 BAD COUNT, 8 BAD CENTRE, 7 SHORT ROOM, 9 BAD MEMBER, with
 // the palette as it came.
-#[unsafe(no_mangle)]
-pub extern "C" fn kf_palette_from_groups_fixed(
+pub fn kf_palette_from_groups_fixed(
     rec: &[u64; 5],
     keys: &[u32],
     weights: &[u32],
@@ -77,8 +74,7 @@ pub extern "C" fn kf_palette_from_groups_fixed(
 // the twins; `means` the mean and those of R, G and B.
 // Refuses, in this order: 1 BAD STRIP, 10 BAD PALETTE, 18 TWIN SHADE, 11 MANY PIXELS, 7 SHORT ROOM,
 // with zeros in answer and means, but for the twins of 18, and the index picture as it came.
-#[unsafe(no_mangle)]
-pub extern "C" fn kf_map_strip(
+pub fn kf_map_strip(
     strip: &[u8],
     palette: &[u8],
     index: &mut [u8],
@@ -100,8 +96,7 @@ pub extern "C" fn kf_map_strip(
 // place of the raster.
 // Refuses, in this order: 12 BAD HEADER, 13 BAD SIZE, 14 BAD DEPTH, 15 BAD RASTER, with zeros in
 // the answer, but for the offset of 12.
-#[unsafe(no_mangle)]
-pub extern "C" fn kf_read_picture(input: &[u8], answer: &mut [u64; 4]) -> u32
+pub fn kf_read_picture(input: &[u8], answer: &mut [u64; 4]) -> u32
     ensures { PictureCrosses (read_picture input.now) result answer.new }
 {
     let a = p6::read_picture(input);

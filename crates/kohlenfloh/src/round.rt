@@ -9,8 +9,7 @@ ghost use Rattle.kohlenfloh.specs.Crossing.{RoundCrosses, RunCrosses};
 // shades moved, distances.
 // Refuses, in this order: 2 BAD TABLE, 4 BAD COUNT, 8 BAD CENTRE, 7 SHORT ROOM, with zeros in the
 // answer and both slices as they came.
-#[unsafe(no_mangle)]
-pub extern "C" fn kf_plain_round(
+pub fn kf_plain_round(
     rec: &[u64; 5],
     keys: &[u32],
     weights: &[u32],
@@ -31,8 +30,7 @@ pub extern "C" fn kf_plain_round(
 // distances.
 // Refuses, in this order: 2 BAD TABLE, 4 BAD COUNT, 8 BAD CENTRE, 7 SHORT ROOM, 9 BAD MEMBER, with
 // zeros in the answer and both slices as they came.
-#[unsafe(no_mangle)]
-pub extern "C" fn kf_short_round(
+pub fn kf_short_round(
     rec: &[u64; 5],
     keys: &[u32],
     weights: &[u32],
@@ -53,8 +51,7 @@ pub extern "C" fn kf_short_round(
 // settled as 1 or 0, distances, final total.
 // Refuses, in this order: 2 BAD TABLE, 4 BAD COUNT, 5 FEW COLOURS, 6 BAD LIMIT, 7 SHORT ROOM, with
 // zeros in shades and answer, and members and totals as they came.
-#[unsafe(no_mangle)]
-pub extern "C" fn kf_run(
+pub fn kf_run(
     rec: &[u64; 5],
     keys: &[u32],
     weights: &[u32],
@@ -86,8 +83,7 @@ pub extern "C" fn kf_run(
 
 // A run with shades that step past the mean: lloyd::run_jancey. Reads, writes and refuses what
 // kf_run does.
-#[unsafe(no_mangle)]
-pub extern "C" fn kf_run_jancey(
+pub fn kf_run_jancey(
     rec: &[u64; 5],
     keys: &[u32],
     weights: &[u32],
@@ -121,8 +117,7 @@ pub extern "C" fn kf_run_jancey(
 // for each; `shades` receives the shades, the fixed ones in front, and `answer` what kf_run's does.
 // Refuses, in this order: 2 BAD TABLE, 10 BAD PALETTE, 4 BAD COUNT, 5 FEW COLOURS, 6 BAD LIMIT,
 // 7 SHORT ROOM, with zeros in shades and answer, and members and totals as they came.
-#[unsafe(no_mangle)]
-pub extern "C" fn kf_run_fixed(
+pub fn kf_run_fixed(
     rec: &[u64; 5],
     keys: &[u32],
     weights: &[u32],

@@ -177,18 +177,20 @@ impl Declared {
     }
 }
 
-/// The names that `pub use ..::NAME;` offers from another file or crate.
+/// The names that `pub use ..::NAME;` and `pub use ..::{NAME, ..};` offer from another file or crate.
 fn offers(text: &str) -> impl Iterator<Item = &str> {
-    let uses = text.lines().filter_map(|line| line.trim().strip_prefix("pub use ")?.strip_suffix(';'));
-    uses.filter_map(|path| path.rsplit("::").next())
+    let uses = text.split("\npub use ").skip(1).filter_map(|rest| Some(rest.split_once(';')?.0));
+    let names = uses.filter_map(|path| path.rsplit("::").next());
+    let each = names.flat_map(|names| names.trim_matches(['{', '}']).split(','));
+    each.map(str::trim).filter(|name| !name.is_empty())
 }
 
-/// The names that `pub use Rattle·CRATE.proofs.Promises.{..}` passes on, with the crates they come from.
+/// The names that `pub use Rattle.CRATE.proofs.Promises.{..}` passes on, with the crates they come from.
 fn passes(text: &str) -> Vec<(String, String)> {
     let code: String =
         text.lines().filter(|line| !line.trim().starts_with("--")).map(|line| line.to_string() + "\n").collect();
     let mut passed = Vec::new();
-    for from in code.split("pub use Rattle·").skip(1) {
+    for from in code.split("pub use Rattle.").skip(1) {
         let Some((path, rest)) = from.split_once(".{") else { continue };
         let Some((of, _)) = path.split_once(".proofs.Promises") else { continue };
         let names = rest.split('}').next().unwrap_or_default();
@@ -207,13 +209,13 @@ mod tests {
 use lib.List.{List}
 pub mod Other
 pub use Other.{none}
-abbrev pub keyOf : ℕ → ℕ
-keyOf x = x
+abbrev pub key_of : ℕ → ℕ
+key_of x = x
 unfoldable pub figure :
     ℕ
 pub record Meets (o : Outcome)
     (r : ℕ) : Type 0 where
-  pub answer : r ≡ o .answer
+  pub answer : r ≡ o.answer
 
   -- the keys
   pub keys : ℕ
@@ -256,7 +258,7 @@ fn low(x: u8) -> u8 { x }
 
     #[test]
     fn definitions_laws_and_fields_are_found() {
-        let found = ["Meets", "Meets.answer", "Meets.keys", "Refusal", "figure", "inner-law", "key-most", "keyOf"];
+        let found = ["Meets", "Meets.answer", "Meets.keys", "Refusal", "figure", "inner-law", "key-most", "key_of"];
         assert_eq!(in_antt(ANTT), names(&found));
     }
 
@@ -272,13 +274,16 @@ fn low(x: u8) -> u8 { x }
         tree.put("crates/lower/proofs/Promises.antt", "pub low-law : ℕ\npub other-law : ℕ\n");
         tree.put(
             "crates/upper/proofs/Promises.antt",
-            "pub use Rattle·lower.proofs.Promises.{\n  low-law,\n}\npub mod Runs\n",
+            "pub use Rattle.lower.proofs.Promises.{\n  low-law,\n}\npub mod Runs\n",
         );
         tree.put("crates/upper/proofs/Promises/Runs.antt", "  pub run-law : ℕ\n");
         tree.put("crates/upper/proofs/Runs.antt", "pub hidden : ℕ\n");
         tree.put("crates/upper/specs/Lib.antt", "pub meaning : ℕ\n");
-        tree.put("crates/upper/src/lib.rt", "mod part;\npub use part::passed;\npub fn call() {}\n");
-        tree.put("crates/upper/src/part.rt", "pub fn passed() {}\nfn inner() {}\n");
+        tree.put(
+            "crates/upper/src/lib.rt",
+            "mod part;\npub use part::passed;\npub use part::{\n    one, two,\n};\npub fn call() {}\n",
+        );
+        tree.put("crates/upper/src/part.rt", "pub fn passed() {}\npub fn one() {}\npub fn two() {}\nfn inner() {}\n");
         tree.put("crates/upper/must-fail/slips.edit", "");
         tree.put("crates/unlisted/specs/Lib.antt", "pub lost : ℕ\n");
         Declared::of(&tree, ["lower", "upper"].into_iter())
@@ -300,8 +305,8 @@ fn low(x: u8) -> u8 { x }
     #[test]
     fn crates_that_pass_a_law_round_end_nowhere() {
         let mut tree = Tree::default();
-        tree.put("crates/a/proofs/Promises.antt", "pub use Rattle·b.proofs.Promises.{law}\n");
-        tree.put("crates/b/proofs/Promises.antt", "pub use Rattle·a.proofs.Promises.{law}\n");
+        tree.put("crates/a/proofs/Promises.antt", "pub use Rattle.b.proofs.Promises.{law}\n");
+        tree.put("crates/b/proofs/Promises.antt", "pub use Rattle.a.proofs.Promises.{law}\n");
         assert_eq!(Declared::of(&tree, ["a", "b"].into_iter()).law("a", "law"), None);
     }
 
@@ -311,7 +316,7 @@ fn low(x: u8) -> u8 { x }
         assert!(declared.file("upper/specs/Lib").unwrap().contains("meaning"));
         assert!(declared.file("upper/src/lib.rt").unwrap().contains("call"));
         assert!(declared.file("upper/specs/None").is_none());
-        let known = ["meaning", "call", "inner", "upper", "upper::call", "upper::passed"];
+        let known = ["meaning", "call", "inner", "upper", "upper::call", "upper::passed", "upper::one", "upper::two"];
         assert!(known.iter().all(|name| declared.anywhere(name)));
         let unknown = ["run-law", "hidden", "lost", "unlisted", "upper::inner", "lower::call"];
         assert!(unknown.iter().all(|name| !declared.anywhere(name)));

@@ -1,7 +1,7 @@
 //! crates.txt: the crates, floor by floor from the ground up.
 //!
 //! A line `# ---- FLOOR: WORDS` opens a floor; the lines `CRATE: CRATE ..` behind it are its crates, with the crates
-//! that each uses. `#` begins a comment elsewhere. A crate uses crates on lines above its own, so of its own floor or
+//! that each uses. Behind a crate's name there may stand `staticlib`. `#` begins a comment elsewhere. A crate uses crates on lines above its own, so of its own floor or
 //! of a lower one, and libraries of the toolchain.
 use std::collections::BTreeMap;
 
@@ -10,6 +10,9 @@ pub const FILE: &str = "crates.txt";
 
 /// What opens the line of a floor.
 const OPENS: &str = "# ---- ";
+
+/// What stands behind the name of a static library.
+const STATIC: &str = " staticlib";
 
 /// The toolchain's libraries.
 const LIBRARIES: [&str; 5] = ["check", "io", "libc", "os", "std"];
@@ -87,7 +90,8 @@ impl List {
             return Ok(());
         }
         let (name, uses) = text.split_once(':').ok_or("a crate's line is `CRATE: CRATE ..`")?;
-        let found = Crate { name: name.trim().into(), uses: uses.split_whitespace().map(String::from).collect() };
+        let name = name.trim().strip_suffix(STATIC).unwrap_or(name).trim();
+        let found = Crate { name: name.into(), uses: uses.split_whitespace().map(String::from).collect() };
         if self.lines.insert(found.name.clone(), line).is_some() {
             return Err(format!("{} is listed twice", found.name));
         }
@@ -138,6 +142,7 @@ colour: number # a comment
 # ---- table: the colour table
 
 table: number colour
+table_c staticlib: table
 table_main: table io libc
 ";
 
@@ -153,7 +158,7 @@ table_main: table io libc
         let headings: Vec<String> = floors.iter().map(Floor::heading).collect();
         assert_eq!(headings, ["ground: numbers", "table: the colour table"]);
         let names: Vec<&str> = crates(&floors).map(|found| found.name.as_str()).collect();
-        assert_eq!(names, ["number", "colour", "table", "table_main"]);
+        assert_eq!(names, ["number", "colour", "table", "table_c", "table_main"]);
         assert_eq!(floors[1].crates[0].uses, ["number", "colour"]);
         assert!(floors[0].has("colour") && !floors[1].has("colour"));
     }

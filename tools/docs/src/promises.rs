@@ -268,7 +268,7 @@ Beside the scope: lower `low-law`, and what `meaning` is
         tree.put("crates/lower/must-fail/stumbles.edit", "");
         tree.put(
             "crates/upper/proofs/Promises.antt",
-            "pub up-law : ℕ\npub use Rattle·lower.proofs.Promises.{low-law}\n",
+            "pub up-law : ℕ\npub use Rattle.lower.proofs.Promises.{low-law}\n",
         );
         tree.put(
             "crates/upper/specs/Words.antt",

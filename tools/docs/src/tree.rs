@@ -4,7 +4,7 @@ use std::fs;
 use std::path::Path;
 
 /// Folders whose files are made, or kept by git.
-const PASSED_OVER: [&str; 2] = ["target", ".git"];
+const PASSED_OVER: [&str; 3] = ["target", "out", ".git"];
 
 /// The project's files, by path.
 #[derive(Clone, Default)]
@@ -82,5 +82,6 @@ mod tests {
         assert!(tree.text("src/tree.rs").unwrap().contains("the_package_reads_itself"));
         let tree = Tree::read(Path::new(env!("CARGO_MANIFEST_DIR")).parent().unwrap().parent().unwrap()).unwrap();
         assert!(tree.has("tools/docs/src") && !tree.has("target") && !tree.has(".git"));
+        assert!(tree.has("crates/number/specs") && !tree.has("crates/number/out"));
     }
 }

@@ -118,17 +118,18 @@ a device) is written as it stands. An output that is the picture is refused, by
 whatever name or link, and so are two outputs that are one file. A file that is
 not writable is not replaced.
 
-CSV has the line shade,red,green,blue,hex,pixels,share,used,stock and then a
-line for each shade: its number, its levels, these as # and six hexadecimal
-digits, the pixels that have it, their share in percent, whether there are any,
-yes or no, and whether it is fixed. JSON is one object with picture, width,
-height, pixels, colours, average (an object with red, green, blue and hex),
-shades, in_use (the shades that have pixels), wanted_in_use (as asked for, or
-null), fixed (a list of the fixed shades as # and six hexadecimal digits), limit
-(the one in force), jancey (true or false), rounds, settled, distances (worked
-out in all rounds), final_total, error, mean_square_error; order, a list with
-the columns of the CSV for each shade, used and stock being true or false; and
-made, which holds version, toolchain, proof and sources.
+CSV has the line shade,red,green,blue,hex,pixels,share,used and then a line for
+each shade: its number, its levels, these as # and six hexadecimal digits, the
+pixels that have it, their share in percent, and whether there are any, yes or
+no. JSON is one object with picture, width, height, pixels, colours, average
+(an object with red, green, blue and hex), shades, in_use (the shades that have
+pixels), wanted_in_use (as asked for, or null), limit (the one in force), jancey
+(true or false), rounds, settled, distances (worked out in all rounds),
+final_total, error, mean_square_error; order, a list with the columns of the CSV
+for each shade, used being true or false; and made, which holds version,
+toolchain, proof and sources. With --fixed there is a column more, stock:
+whether the shade is fixed; and JSON has, before limit, fixed, a list of the
+fixed shades as # and six hexadecimal digits.
 
 On the order sheet, the average colour is that of the picture: in each channel
 the level nearest to the mean of all pixels, halves up. The levels of a shade

@@ -6,7 +6,7 @@ use crate::digits::quotient;
 use crate::help::MADE;
 use crate::order::{hex, Order};
 
-/// What is told of each shade.
+/// What is told of each shade; the last column only where some are fixed.
 const COLUMNS: [&str; 9] = ["shade", "red", "green", "blue", "hex", "pixels", "share", "used", "stock"];
 
 /// What is told of a colour, in the order of these columns.
@@ -15,7 +15,12 @@ const COLOUR: [&str; 4] = [COLUMNS[1], COLUMNS[2], COLUMNS[3], COLUMNS[4]];
 /// The order as CSV: the columns' names, then a line for each shade.
 pub fn csv(order: &Order) -> String {
     let row = |number| row(order, number, "", ["yes", "no"]).join(",") + "\n";
-    COLUMNS.join(",") + "\n" + &(0..order.lines.len()).map(row).collect::<String>()
+    columns(order).join(",") + "\n" + &(0..order.lines.len()).map(row).collect::<String>()
+}
+
+/// The columns of an order.
+fn columns(order: &Order) -> &'static [&'static str] {
+    &COLUMNS[..COLUMNS.len() - usize::from(order.stock().next().is_none())]
 }
 
 /// The order as a JSON object: the figures of the run that found it and of the mapping, the shades, and what made the
@@ -25,7 +30,8 @@ pub fn json(order: &Order, run: &Run, limit: usize) -> String {
     let made = [("version", VERSION)].into_iter().chain(MADE);
     let made: Vec<String> = made.map(|(name, value)| format!("    {}", field(name, &string(value)))).collect();
     let fixed: Vec<String> = order.stock().map(|line| string(&line.hex())).collect();
-    let fields = [
+    let fixed = (!fixed.is_empty()).then(|| ("fixed", format!("[{}]", fixed.join(", "))));
+    let first = [
         ("picture", string(&order.name)),
         ("width", order.width.to_string()),
         ("height", order.height.to_string()),
@@ -35,7 +41,8 @@ pub fn json(order: &Order, run: &Run, limit: usize) -> String {
         ("shades", order.lines.len().to_string()),
         ("in_use", order.in_use().to_string()),
         ("wanted_in_use", order.wanted_in_use.map_or("null".into(), |wanted| wanted.to_string())),
-        ("fixed", format!("[{}]", fixed.join(", "))),
+    ];
+    let others = [
         ("limit", limit.to_string()),
         ("jancey", order.jancey.to_string()),
         ("rounds", order.rounds.to_string()),
@@ -47,13 +54,14 @@ pub fn json(order: &Order, run: &Run, limit: usize) -> String {
         ("order", format!("[\n{}\n  ]", shades.join(",\n"))),
         ("made", format!("{{\n{}\n  }}", made.join(",\n"))),
     ];
-    let fields = fields.map(|(name, value)| format!("  {}", field(name, &value)));
+    let fields = first.into_iter().chain(fixed).chain(others);
+    let fields: Vec<String> = fields.map(|(name, value)| format!("  {}", field(name, &value))).collect();
     format!("{{\n{}\n}}\n", fields.join(",\n"))
 }
 
 /// A shade as a JSON object in one line.
 fn shade(order: &Order, number: usize) -> String {
-    object(&COLUMNS, &row(order, number, "\"", ["true", "false"]))
+    object(columns(order), &row(order, number, "\"", ["true", "false"]))
 }
 
 /// A JSON object in one line.
@@ -70,12 +78,14 @@ fn colour(levels: [u8; 3], quote: &str) -> [String; COLOUR.len()] {
 
 /// A shade's values in the order of the columns, with the quotes that a text wants and the words for what is so and
 /// what is not.
-fn row(order: &Order, number: usize, quote: &str, [yes, no]: [&str; 2]) -> [String; COLUMNS.len()] {
+fn row(order: &Order, number: usize, quote: &str, [yes, no]: [&str; 2]) -> Vec<String> {
     let line = &order.lines[number];
     let [red, green, blue, hex] = colour(line.levels, quote);
     let share = quotient(100 * line.pixels, order.pixels());
     let [used, stock] = [line.used(), line.stock].map(|holds| if holds { yes } else { no }.to_string());
-    [number.to_string(), red, green, blue, hex, line.pixels.to_string(), share, used, stock]
+    let mut row = vec![number.to_string(), red, green, blue, hex, line.pixels.to_string(), share, used, stock];
+    row.truncate(columns(order).len());
+    row
 }
 
 /// A JSON field.

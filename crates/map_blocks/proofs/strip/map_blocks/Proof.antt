@@ -140,17 +140,17 @@ loop-again c =
     let b = at.block_end-e in
     let l = (told at).before.before in
     let w = l.loop-i.invariant.1 in
-    let kept = m.auto.1.1.1 in (
+    let kept = m.auto in (
       rw c.plus-errors.ensures
           (mapped-step l.loop-i.invariant.0 b.result (omega (arith, b.ensures)) b.ensures.within m.ensures.0
           m.ensures.1),
       record {
-        keys_long = kept.0 ∙ w.keys_long;
-        which_long = kept.1.0 ∙ w.which_long;
-        red_long = kept.1.1.0 ∙ w.red_long;
-        green_long = kept.1.1.1.0 ∙ w.green_long;
-        blue_long = kept.1.1.1.1.0 ∙ w.blue_long;
-        best_long = kept.1.1.1.1.1.0 ∙ w.best_long;
+        keys_long = kept.keys ∙ w.keys_long;
+        which_long = kept.which ∙ w.which_long;
+        red_long = kept.reds ∙ w.red_long;
+        green_long = kept.greens ∙ w.green_long;
+        blue_long = kept.blues ∙ w.blue_long;
+        best_long = kept.best ∙ w.best_long;
       },
     )
 

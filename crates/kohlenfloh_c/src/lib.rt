@@ -1,0 +1,23 @@
+// The static library: what a C or Rust program links, as include/kohlenfloh.h declares it. Its
+// archive is handed on as libkohlenfloh.a.
+//
+// Each export is the call of the same name of the crate kohlenfloh, with its clauses, and does no
+// more than make it.
+//   kf_add_strip                                                                  table.rt
+//   kf_plain_round, kf_short_round, kf_run, kf_run_jancey, kf_run_fixed           round.rt
+//   kf_palette_from_shades, kf_palette_from_groups, kf_palette_from_groups_fixed  picture.rt
+//   kf_map_strip, kf_read_picture
+// What the words of the clauses mean and what is shown of the calls stands in the crate kohlenfloh.
+
+#![tactic(auto)]
+
+mod picture;
+mod round;
+mod table;
+
+pub use picture::{
+    kf_map_strip, kf_palette_from_groups, kf_palette_from_groups_fixed, kf_palette_from_shades,
+    kf_read_picture,
+};
+pub use round::{kf_plain_round, kf_run, kf_run_fixed, kf_run_jancey, kf_short_round};
+pub use table::kf_add_strip;
