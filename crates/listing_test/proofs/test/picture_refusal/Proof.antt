@@ -13,33 +13,29 @@ use borrow.Author.Rules.{rules}
 use Rattle.listing_test.proofs.test.picture_refusal.Statement.{statement}
 use Rattle.listing_test.proofs.test.picture_refusal.Tie as tie
 
--- where the header is read, at the size's test
-abbrev read_at : tie.After-bad_size → tie.After-read_header-h
-read_at c = c.before.before.before.before
-
 -- the picture
-abbrev p : tie.After-read_header-h → List ℕ
+abbrev p : tie.After-bad_size → List ℕ
 p c = c.args.picture.now
 
 -- the header's width
 abbrev width : tie.After-bad_size → ℕ
-width c = c.h-1.given.0.0
+width c = c.in-Read.width
 
 -- its height
 abbrev height : tie.After-bad_size → ℕ
-height c = c.h-1.given.0.1.0
+height c = c.in-Read.height
 
 -- its depth
 abbrev depth : tie.After-bad_size → ℕ
-depth c = c.h-1.given.0.1.1.0
+depth c = c.in-Read.depth
 
 -- the first place after it
 abbrev start : tie.After-bad_size → ℕ
-start c = c.h-1.given.0.1.1.1.0
+start c = c.in-Read.start
 
 -- what the header is
-header : (c : tie.After-bad_size) → header_of (p (read_at c)) ≡ Read (width c) (height c) (depth c) (start c)
-header c = sym c.read_header-h.ensures ∙ c.h-1.given.1
+header : (c : tie.After-bad_size) → header_of (p c) ≡ Read (width c) (height c) (depth c) (start c)
+header c = sym c.read_header-h.ensures ∙ c.in-Read.is
 
 -- past the size's test: it fails
 size_ok : (c : tie.Else-bad_size) → bad_size (width c.before) (height c.before) ≡ false
@@ -55,9 +51,7 @@ enum_told : tie.Need-enum_told-1
 enum_told c = search rules
 
 returns : tie.Need-returns-in_default
-returns c =
-    let a = c.before.before in
-    sym (small-bad-header (p a) _ (sym a.read_header-h.ensures ∙ c.enum_told-1.given.1))
+returns c = sym (small-bad-header c.args.picture.now _ (sym c.read_header-h.ensures ∙ c.in_default.is))
 
 bad-size-requires : tie.Need-bad_size-requires
 bad-size-requires c κs = search rules
@@ -65,7 +59,7 @@ bad-size-requires c κs = search rules
 returns-2 : tie.Need-returns-then-bad_size
 returns-2 c =
     let b = c.before in
-    sym (small-bad-size (p (read_at b)) _ _ _ _ (header b) (sym b.bad_size.ensures ∙ c.if-bad_size.true))
+    sym (small-bad-size (p b) _ _ _ _ (header b) (sym b.bad_size.ensures ∙ c.if-bad_size.true))
 
 area-requires : tie.Need-area-requires
 area-requires c κs = sides-at-most _ _ (size_ok c)
@@ -74,7 +68,7 @@ returns-3 : tie.Need-returns-then-area-gt-MOST_LISTED
 returns-3 c =
     let e = c.before.before in
     let b = e.before in
-    sym (small-over (p (read_at b)) _ _ _ _ (header b) (size_ok e) (omega arith))
+    sym (small-over (p b) _ _ _ _ (header b) (size_ok e) (omega arith))
 
 read-picture-requires : tie.Need-read_picture-p-requires
 read-picture-requires c κs = search rules
@@ -84,7 +78,7 @@ returns-4 c =
     let e = c.before.before.before in
     let b = e.before in
     ap (λ (x : Picture). x.refusal) c.read_picture-p.ensures
-    ∙ small-rest (p (read_at b)) _ _ _ _ (header b) (size_ok e) (omega arith)
+    ∙ small-rest (p b) _ _ _ _ (header b) (size_ok e) (omega arith)
 
 pub picture_refusal_spec : {M : Type 1} → statement M
 picture_refusal_spec =
