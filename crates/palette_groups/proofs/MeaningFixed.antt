@@ -1,15 +1,15 @@
 -- The same where the first f shades are fixed: what is refused, what a palette made holds, and that with none fixed it
 -- is the palette of groups.
 use Prim.Native.Nat.{ℕ, ◌+◌, ◌*◌, ◌/◌, ◌%◌, ◌≤◌, ◌<◌}
-use mathlib.Core.Bool.{true, false}
+use mathlib.Core.Bool.{false}
 use mathlib.Core.List.{List}
-use mathlib.Core.Logic.{◌↔◌, ◌⊎◌, inl, inr}
+use mathlib.Core.Logic.{◌↔◌}
 use mathlib.Core.Path.{◌≡◌, refl, ap, ◌∙◌}
 use native.Mathlib.Omega.{arith}
 use lib.ListN.{length, get_or}
-use borrow.Author.Tests.{ltb-true, ltb-false, lt-ltb, le-ltb}
+use borrow.Author.Tests.{ltb-false, le-ltb}
 use Rattle.number.specs.{W, S, cost, rounded_mean, Nearest}
-use Rattle.number.proofs.Cases.{neither, either-exactly, fail-together}
+use Rattle.number.proofs.Cases.{neither, fail-together}
 use Rattle.number.proofs.Fills.{fill-at, fill-kept, fill-at-most}
 use Rattle.number.proofs.Promises.{rounded-mean-is-nearest, nearest-only, rounded-mean-best}
 use Rattle.refusal.specs.{Refusal, number_of, done, Refuses}
@@ -61,7 +61,8 @@ palette-none-fixed rec ks ws a d = rw (groups-none-fixed a)
 
 module _ (f : ℕ) (rec : Record) (ks ws : List ℕ) (a : State) (d : List ℕ) where
   -- making a palette of groups refuses by its rows: it is made, or no byte changes
-  pub groups-refuses-fixed : Refuses (group_rows_fixed f rec ks ws a d) (palette_from_groups_fixed f rec ks ws a d) (λ o. o.answer)
+  pub groups-refuses-fixed : Refuses (group_rows_fixed f rec ks ws a d) (palette_from_groups_fixed f rec ks ws a d)
+      (λ o. o.answer)
       (made_by_groups f rec ks ws a d) (kept_palette d)
   unfolding palette_from_groups_fixed
   groups-refuses-fixed = refuses _ _ _ _ refl (λ n. refl)
