@@ -1,15 +1,15 @@
 -- The same where the first f shades are fixed: what is refused, what a palette made holds, and that with none fixed it
 -- is the palette of groups.
 use Prim.Native.Nat.{ℕ, ◌+◌, ◌*◌, ◌/◌, ◌%◌, ◌≤◌, ◌<◌}
-use mathlib.Core.Bool.{true, false}
+use mathlib.Core.Bool.{false}
 use mathlib.Core.List.{List}
-use mathlib.Core.Logic.{◌↔◌, ◌⊎◌, inl, inr}
+use mathlib.Core.Logic.{◌↔◌}
 use mathlib.Core.Path.{◌≡◌, refl, ap, ◌∙◌}
 use native.Mathlib.Omega.{arith}
 use lib.ListN.{length, get_or}
-use borrow.Author.Tests.{ltb-true, ltb-false, lt-ltb, le-ltb}
+use borrow.Author.Tests.{ltb-false, le-ltb}
 use Rattle.number.specs.{W, S, cost, rounded_mean, Nearest}
-use Rattle.number.proofs.Cases.{neither, either-exactly, fail-together}
+use Rattle.number.proofs.Cases.{neither, fail-together}
 use Rattle.number.proofs.Fills.{fill-at, fill-kept, fill-at-most}
 use Rattle.number.proofs.Promises.{rounded-mean-is-nearest, nearest-only, rounded-mean-best}
 use Rattle.refusal.specs.{Refusal, number_of, done, Refuses}
