@@ -3,7 +3,7 @@
 //
 // Each export is the call of the same name of the crate kohlenfloh, with its clauses, and does no
 // more than make it.
-//   kf_add_strip                                                                  table.rt
+//   kf_add_strip                                                                  add.rt
 //   kf_plain_round, kf_short_round, kf_run, kf_run_jancey, kf_run_fixed           round.rt
 //   kf_palette_from_shades, kf_palette_from_groups, kf_palette_from_groups_fixed  picture.rt
 //   kf_map_strip, kf_read_picture
@@ -11,13 +11,13 @@
 
 #![tactic(auto)]
 
+mod add;
 mod picture;
 mod round;
-mod table;
 
+pub use add::kf_add_strip;
 pub use picture::{
     kf_map_strip, kf_palette_from_groups, kf_palette_from_groups_fixed, kf_palette_from_shades,
     kf_read_picture,
 };
 pub use round::{kf_plain_round, kf_run, kf_run_fixed, kf_run_jancey, kf_short_round};
-pub use table::kf_add_strip;

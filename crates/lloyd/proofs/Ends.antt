@@ -1,6 +1,6 @@
 -- Where a run that is made ends: what its last grouping costs where its rule goes to the mean, and what holds where it
 -- is settled. What more a law asks of the rule stands in front of it.
-use Prim.Native.Nat.{ℕ, ◌+◌, ◌-◌, ◌*◌, ◌≤◌, ◌<◌}
+use Prim.Native.Nat.{ℕ, ◌-◌, ◌*◌, ◌≤◌, ◌<◌}
 use mathlib.Core.Bool.{true}
 use mathlib.Core.List.{List}
 use mathlib.Core.Path.{◌≡◌, sym, ap, ◌∙◌}

@@ -8,7 +8,7 @@ use Rattle.number.specs.{least, most, lesser_of, lowest, fill}
 use Rattle.number.proofs.Peaks.{lowest-none, lowest-is-least}
 use Rattle.number.proofs.Searches.{first_below, first-same}
 use Rattle.number.proofs.Fills.{fill-again, fill-same}
-use Rattle.colour.specs.{Point, Within, most_coordinate, distance}
+use Rattle.colour.specs.{Within, most_coordinate, distance}
 use Rattle.colour.proofs.Distances.{colour-within, distance_most}
 use Rattle.shades.specs.{colour_at, to_shade}
 use Rattle.method.specs.{Base, remote, starts_from}

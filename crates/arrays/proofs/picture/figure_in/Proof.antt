@@ -12,7 +12,7 @@ enum-known-mean c = search rules
 
 returns : tie.Need-returns-in-NoPixels
 unfolding of_bits
-returns c = rw c.enum_told-1.given.1
+returns c = rw c.in-NoPixels.is
 
 returns-2 : tie.Need-returns-in-Value
 returns-2 c = search rules

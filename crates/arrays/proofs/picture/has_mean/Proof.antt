@@ -10,7 +10,7 @@ enum-told-2 : tie.Need-enum_told-in-Value
 enum-told-2 c = search rules
 
 returns : tie.Need-returns-in-NoPixels
-returns c = rw c.enum_told-1.given.1
+returns c = rw c.in-NoPixels.is
 
 returns-2 : tie.Need-returns-in-Value
 returns-2 c = search rules

@@ -3,7 +3,6 @@ use Prim.Native.Nat.{◌+◌, ◌-◌}
 use mathlib.Core.Path.{sym, ◌∙◌}
 use native.Mathlib.Omega.{arith}
 use borrow.Author.Rules.{rules}
-use borrow.Author.Tests.{not-true, not-false}
 use Rattle.grammar.specs.Numbers.{most_digits}
 use Rattle.grammar.proofs.decimal.Turns.{Counted, counted_start, counted_step, counted-done, counted-all}
 use Rattle.grammar.proofs.decimal.count_digits.Statement.{statement}

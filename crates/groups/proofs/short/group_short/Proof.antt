@@ -3,7 +3,6 @@
 use Prim.Native.Nat.{◌-◌}
 use mathlib.Core.Path.{◌≡◌}
 use native.Mathlib.Omega.{arith}
-use borrow.Author.Rules.{rules}
 use Rattle.group_sums.specs.{Summed, member_at}
 use Rattle.group_join.specs.{covered}
 use Rattle.group_join.proofs.Turns.{

@@ -22,20 +22,16 @@ use Rattle.listing.proofs.call.work_input.Tie as tie
 -- ---- where the function goes
 
 -- the input
-abbrev s : tie.After-number-reading → List ℕ
+abbrev s : tie.In-Number → List ℕ
 s c = c.args.input.now
-
--- where the count is asked for
-abbrev asked : tie.In-Number → tie.After-number-reading
-asked c = c.before.before.before
 
 -- the count
 abbrev value : tie.In-Number → ℕ
-value c = c.reading-1.given.0.0
+value c = c.in-Number.count
 
 -- where its digits end
 abbrev next : tie.In-Number → ℕ
-next c = c.reading-1.given.0.1.0
+next c = c.in-Number.next
 
 -- where the count is read, at the byte behind it
 abbrev read : tie.After-byte_at → tie.In-Number
@@ -52,15 +48,15 @@ passed c = c.before.before
 -- ---- what is read
 
 -- the line names the count
-named : (c : tie.In-Number) → Named (s (asked c)) (value c) (next c)
-named c = record { number = sym c.number-reading.ensures ∙ c.reading-1.given.1 }
+named : (c : tie.In-Number) → Named (s c) (value c) (next c)
+named c = record { number = sym c.number-reading.ensures ∙ c.in-Number.is }
 
 -- past the second test LF ends it
-ended : (c : tie.Else-byte_at-ne10) → byte_at (s (asked (read c.before))) (next (read c.before)) ≡ line_feed
+ended : (c : tie.Else-byte_at-ne10) → byte_at (s (read c.before)) (next (read c.before)) ≡ line_feed
 ended c = sym c.byte_at.ensures ∙ c.if-byte_at-ne10.false
 
 -- past the third the line is read
-line : (c : tie.Else-input-gt-MOST_INPUT) → Line (s (asked (read (behind c)))) (value (read (behind c))) (next (read (behind c)))
+line : (c : tie.Else-input-gt-MOST_INPUT) → Line (s (read (behind c))) (value (read (behind c))) (next (read (behind c)))
 line c = record {
   named = named (read (behind c));
   few = omega arith;
@@ -84,9 +80,9 @@ refused-requires c κs = search rules
 
 returns : tie.Need-returns-in_default
 returns c =
-    let a = c.before.before.before in
+    let a = c.args.input.now in
     c.refused.ensures
-    ∙ input-bad-line (s a) (line-no-digit (s a) _ (sym a.number-reading.ensures ∙ c.enum_told-1.given.1))
+    ∙ input-bad-line a (line-no-digit a _ (sym c.number-reading.ensures ∙ c.in_default.is))
 
 refused-requires-2 : tie.Need-refused-requires-then-next-gt2
 refused-requires-2 c κs = search rules
@@ -94,7 +90,7 @@ refused-requires-2 c κs = search rules
 returns-2 : tie.Need-returns-then-next-gt2
 returns-2 c =
     let k = c.before.before in
-    c.refused-then-next-gt2.ensures ∙ input-bad-line (s (asked k)) (line-long (named k) c.if-next-gt2.true)
+    c.refused-then-next-gt2.ensures ∙ input-bad-line (s k) (line-long (named k) c.if-next-gt2.true)
 
 byte-at-requires : tie.Need-byte_at-requires
 byte-at-requires c κs = search rules
@@ -106,7 +102,7 @@ returns-3 : tie.Need-returns-then-byte_at-ne10
 returns-3 c =
     let b = c.before.before in
     c.refused-then-byte_at-ne10.ensures
-    ∙ input-bad-line (s (asked (read b)))
+    ∙ input-bad-line (s (read b))
     (line-not-ended (named (read b)) (λ e. c.if-byte_at-ne10.true (b.byte_at.ensures ∙ e)))
 
 refused-requires-4 : tie.Need-refused-requires-then-input-gt-MOST_INPUT
@@ -117,18 +113,18 @@ returns-4 c =
     let e = c.before.before in
     let k = read e.before in
     c.refused-then-input-gt-MOST_INPUT.ensures
-    ∙ input-long (s (asked k)) (line-good (named k) (omega arith) (ended e)) c.if-input-gt-MOST_INPUT.true
+    ∙ input-long (s k) (line-good (named k) (omega arith) (ended e)) c.if-input-gt-MOST_INPUT.true
 
 add-picture : tie.Need-overflow_add-picture
 add-picture c = search rules
 
 sub-picture : tie.Need-slice_bounds-picture-count
-sub-picture c = let k = read (behind c) in omega (arith, ended-inside (s (asked k)) (next k) (ended c.before))
+sub-picture c = let k = read (behind c) in omega (arith, ended-inside (s k) (next k) (ended c.before))
 
 part-picture-start : tie.Need-slice_bounds-picture-start
 part-picture-start c =
     let k = read (behind c) in
-    omega (arith, ended-inside (s (asked k)) (next k) (ended c.before))
+    omega (arith, ended-inside (s k) (next k) (ended c.before))
 
 part-picture-end : tie.Need-slice_bounds-picture-end
 part-picture-end c = search rules

@@ -1,5 +1,4 @@
 -- `tries` meets its contract: p itself is left out, and another shade's gap is compared.
-use native.Mathlib.Omega.{arith}
 use borrow.Author.Rules.{rules}
 use borrow.Author.Tests.{eq-eqb, ne_eqb}
 use Rattle.search_gaps.proofs.near.tries.Statement.{statement}

@@ -3,7 +3,6 @@ use mathlib.Core.Path.{sym, ◌∙◌}
 use Prim.Native.Nat.{◌-◌, ◌≤◌, ◌<◌}
 use native.Mathlib.Omega.{arith}
 use lib.ListN.{get_or}
-use borrow.Author.Tests.{not-true, not-false}
 use Rattle.table_back.proofs.back.Tests.{all-below, not-below}
 use Rattle.table_back.proofs.back.Sixteens.{sixteens-passed}
 use Rattle.table_back.proofs.Places.{below_at}
