@@ -298,7 +298,6 @@ module _ (s ks ws fixed : List ℕ) (k limit : ℕ) (ms ts : List ℕ) {members 
   -- kf_palette_from_groups_fixed on the same table, the first 3k of the coordinates and the members, told how many are
   -- fixed and lent three bytes for each shade, is never refused, and gives the fixed shades their own bytes.
   pub fixed-palette-is-own : (d : List ℕ) {r : ℕ} {x : List ℕ} → 3 * k ≤ length d
-      → PaletteMeets
-      (palette_from_groups_fixed (fixed_in fixed) (record_in s) ks ws (state_of (take (3 * k) shades) members) d) r x
+      → PaletteMeets (palette_from_groups_fixed (fixed_in fixed) (record_in s) ks ws (state_of (take (3 * k) shades) members) d) r x
       → (r ≡ done) × ((i : ℕ) → i < length fixed → get_or x i 0 ≡ get_or fixed i 0)
   fixed-palette-is-own = runs.fixed-palette-is-own s ks ws fixed k limit ms ts h bytes

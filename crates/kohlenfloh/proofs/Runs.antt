@@ -172,8 +172,7 @@ module _ (s ks ws fixed : List ℕ) (k limit : ℕ) (ms ts : List ℕ) {members 
 
   -- its palette is not refused, and has the fixed shades' own bytes
   pub fixed-palette-is-own : (d : List ℕ) {r : ℕ} {x : List ℕ} → 3 * k ≤ length d
-      → PaletteMeets
-      (palette_from_groups_fixed (fixed_in fixed) (record_in s) ks ws (state_of (take (3 * k) shades) members) d) r x
+      → PaletteMeets (palette_from_groups_fixed (fixed_in fixed) (record_in s) ks ws (state_of (take (3 * k) shades) members) d) r x
       → (r ≡ done) × ((i : ℕ) → i < length fixed → get_or x i 0 ≡ get_or fixed i 0)
   fixed-palette-is-own d room p = (
     p.answer ∙ rw h.shades_are (palettes.fixed-palette-accepted accepted-fixed bytes d room),

@@ -61,8 +61,7 @@ palette-none-fixed rec ks ws a d = rw (groups-none-fixed a)
 
 module _ (f : ℕ) (rec : Record) (ks ws : List ℕ) (a : State) (d : List ℕ) where
   -- making a palette of groups refuses by its rows: it is made, or no byte changes
-  pub groups-refuses-fixed : Refuses (group_rows_fixed f rec ks ws a d) (palette_from_groups_fixed f rec ks ws a d)
-      (λ o. o.answer)
+  pub groups-refuses-fixed : Refuses (group_rows_fixed f rec ks ws a d) (palette_from_groups_fixed f rec ks ws a d) (λ o. o.answer)
       (made_by_groups f rec ks ws a d) (kept_palette d)
   unfolding palette_from_groups_fixed
   groups-refuses-fixed = refuses _ _ _ _ refl (λ n. refl)

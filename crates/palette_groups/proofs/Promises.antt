@@ -111,11 +111,10 @@ module _ (rec : Record) (ks ws : List ℕ) (a : State) (d : List ℕ)
 
 -- ---- the first f shades fixed
 
--- Whatever meets the contract of `palette_from_groups_fixed` on an input has one answer and one content of the lent
--- bytes.
+-- Whatever meets the contract of `palette_from_groups_fixed` on an input has one answer and one content of the lent bytes.
 pub groups-only-fixed : (f : ℕ) (rec : Record) (ks ws : List ℕ) (a : State) (d : List ℕ) {r r' : ℕ} {x x' : List ℕ}
-    → PaletteMeets (palette_from_groups_fixed f rec ks ws a d) r x
-    → PaletteMeets (palette_from_groups_fixed f rec ks ws a d) r' x' → (r ≡ r') × (x ≡ x')
+    → PaletteMeets (palette_from_groups_fixed f rec ks ws a d) r x → PaletteMeets (palette_from_groups_fixed f rec ks ws a d) r' x'
+    → (r ≡ r') × (x ≡ x')
 groups-only-fixed f rec ks ws a d u v = (u.answer ∙ sym v.answer, u.palette_is ∙ sym v.palette_is)
 
 -- A refusal is given exactly when its row is the first of 2, 4, 8, 7, 9 whose test holds.
@@ -142,16 +141,14 @@ groups-none-fixed = fixed.groups-none-fixed
 
 -- A refusal leaves every byte as it came.
 pub groups-refused-kept-fixed : (f : ℕ) (rec : Record) (ks ws : List ℕ) (a : State) (d : List ℕ) (n : Refusal)
-    → (palette_from_groups_fixed f rec ks ws a d).answer ≡ number_of n
-    → (palette_from_groups_fixed f rec ks ws a d).palette ≡ d
+    → (palette_from_groups_fixed f rec ks ws a d).answer ≡ number_of n → (palette_from_groups_fixed f rec ks ws a d).palette ≡ d
 groups-refused-kept-fixed = fixed.groups-refused-kept-fixed
 
 -- On a good table, with k shades of the grid in 3k coordinates, fewer of them fixed, a shade's number for each used
 -- entry and three bytes for each shade, nothing is refused.
 pub groups-accepted-fixed : (f : ℕ) (rec : Record) (ks ws : List ℕ) (a : State) (d : List ℕ) (k : ℕ) → f < k
     → bad_table rec ks ws ≡ false → Fit (colours_of rec.used ks ws) k a → length a.coordinates ≡ 3 * k
-    → Joined (colours_of rec.used ks ws) k a → 3 * k ≤ length d
-    → (palette_from_groups_fixed f rec ks ws a d).answer ≡ done
+    → Joined (colours_of rec.used ks ws) k a → 3 * k ≤ length d → (palette_from_groups_fixed f rec ks ws a d).answer ≡ done
 groups-accepted-fixed = fixed.groups-accepted-fixed
 
 module _ (f : ℕ) (rec : Record) (ks ws : List ℕ) (a : State) (d : List ℕ)

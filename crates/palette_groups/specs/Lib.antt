@@ -5,9 +5,9 @@
 --   made_by_groups f      the outcome where nothing is refused and the first f shades are fixed
 --   palette_from_groups   the outcome of the call
 -- With the first f shades fixed
---   bad_group_count f             the test of 4 BAD COUNT: coordinates not of 1 to 64 shades, or no free shade
---   group_rows_fixed f            the tests of the call in its order, with their refusals
---   palette_from_groups_fixed f   the outcome of the call
+--   bad_group_count f            the test of 4 BAD COUNT: the coordinates are not those of 1 to 64 shades, or none is free
+--   group_rows_fixed f           the tests of the call in its order, with their refusals
+--   palette_from_groups_fixed f  the outcome of the call
 pub mod Outcomes
 unfoldable pub use Outcomes.{channel_group, short_rooms, group_rows, made_by_groups, palette_from_groups}
 pub mod Fixed

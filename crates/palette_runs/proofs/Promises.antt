@@ -1,7 +1,7 @@
 -- What is shown of the palette of an accepted run, of either kind, each theorem in full; its body names the proof.
 -- `AcceptedRun .. r members totals` says that r, members and totals are what an accepted run answers and leaves, and
--- `run_palette rec ks ws k r members d` is the outcome of `palette_from_groups` on these. `run_palette_fixed f` is that
--- of `palette_from_groups_fixed`, the first f shades fixed.
+-- `run_palette rec ks ws k r members d` is the outcome of `palette_from_groups` on these. `run_palette_fixed f` is that of
+-- `palette_from_groups_fixed`, the first f shades fixed.
 use Prim.Native.Nat.{ℕ, ◌+◌, ◌*◌, ◌≤◌, ◌<◌}
 use mathlib.Core.List.{List}
 use mathlib.Core.Path.{◌≡◌}

@@ -75,8 +75,7 @@ module _ (f : ℕ) (rec : Record) (ks ws : List ℕ) {rule : Rule} {k limit : �
           → cost (channel_group rec ks ws (left r members) q e)
           (get_or (run_palette_fixed f rec ks ws k r members d).palette (3 * q + e) 0)
           ≤ cost (channel_group rec ks ws (left r members) q e) z
-      run-byte-best-fixed =
-          byte-is-best-fixed f rec ks ws (front_of k (left r members)) d run-accepted-fixed q e behind third channel
+      run-byte-best-fixed = byte-is-best-fixed f rec ks ws (front_of k (left r members)) d run-accepted-fixed q e behind third channel
 
       -- a free shade with none has the level of its coordinate
       pub run-byte-of-none-fixed : W (channel_group rec ks ws (left r members) q e) ≡ 0

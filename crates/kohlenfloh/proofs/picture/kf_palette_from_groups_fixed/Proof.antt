@@ -1,5 +1,5 @@
--- `kf_palette_from_groups_fixed` meets its contract: what `palette_from_groups_fixed` answers and leaves crosses, from
--- the record that `record_in` read.
+-- `kf_palette_from_groups_fixed` meets its contract: what `palette_from_groups_fixed` answers and leaves crosses, from the record
+-- that `record_in` read.
 use borrow.Author.Rules.{rules}
 use Rattle.kohlenfloh.proofs.picture.kf_palette_from_groups_fixed.Statement.{statement}
 use Rattle.kohlenfloh.proofs.picture.kf_palette_from_groups_fixed.Tie as tie

@@ -1,5 +1,4 @@
--- `move_shades_holding` moves shade after shade from the first that is not held, and counts those that it takes
--- elsewhere.
+-- `move_shades_holding` moves shade after shade from the first that is not held, and counts those that it takes elsewhere.
 use Prim.Native.Nat.{◌-◌, ◌*◌, ◌≤◌}
 use mathlib.Core.Bool.{not}
 use mathlib.Core.Path.{◌≡◌, ap, ◌∙◌}

@@ -1,5 +1,5 @@
--- `make_rounds_holding` meets its contract: the loop's invariant is `Going`, with the sums of the groups that the
--- members tell, or none yet.
+-- `make_rounds_holding` meets its contract: the loop's invariant is `Going`, with the sums of the groups that the members tell,
+-- or none yet.
 use Prim.Native.Nat.{◌-◌, ◌<◌}
 use mathlib.Core.Path.{◌≡◌, refl}
 use native.Mathlib.Omega.{arith}
