@@ -43,7 +43,7 @@ extern "C" {
 #endif
 
 /* The version of the library that this header belongs to. */
-#define KF_VERSION "0.7.0"
+#define KF_VERSION "0.6.1"
 
 /* The refusals. */
 enum kf_refusal {
@@ -111,10 +111,8 @@ static inline const char *kf_refusal_sentence(uint32_t number)
     case KF_FULL: return "the next pixel meets a total of 16,777,216, or is a new colour with no room";
     case KF_BAD_COUNT:
         return "shades not 1 to 64; for a single round or a palette from shades or groups, coordinates not 3 to 192 or "
-               "not a multiple of 3; in a run or a palette with fixed shades, no free shade left";
-    case KF_FEW_COLOURS:
-        return "a run wants more shades than used entries; with fixed shades, more free shades than used entries "
-               "unlike every fixed one";
+               "not a multiple of 3";
+    case KF_FEW_COLOURS: return "a run wants more shades than used entries";
     case KF_BAD_LIMIT: return "round limit above 200";
     case KF_SHORT_ROOM:
         return "members fewer than the used entries; totals fewer than the round limit (100 for 0); palette bytes "
@@ -122,9 +120,7 @@ static inline const char *kf_refusal_sentence(uint32_t number)
                "length";
     case KF_BAD_CENTRE: return "a coordinate above 4080";
     case KF_BAD_MEMBER: return "a used entry's shade number not below the count";
-    case KF_BAD_PALETTE:
-        return "palette bytes not 3 to 192 or not a multiple of 3; bytes of fixed shades not 3 to 189 or not a "
-               "multiple of 3";
+    case KF_BAD_PALETTE: return "palette bytes not 3 to 192 or not a multiple of 3";
     case KF_MANY_PIXELS: return "mapping over 16,777,216 pixels";
     case KF_BAD_HEADER:
         return "the offset is that of the first byte that cannot stand there, or the input's length if it ends early";

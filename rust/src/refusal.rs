@@ -78,18 +78,15 @@ refusals! {
         "the next pixel meets a total of 16,777,216, or is a new colour with no room";
     4, BadCount, "BAD COUNT",
         "shades not 1 to 64; for a single round or a palette from shades or groups, coordinates not 3 to 192 or not a \
-         multiple of 3; in a run or a palette with fixed shades, no free shade left";
-    5, FewColours, "FEW COLOURS",
-        "a run wants more shades than used entries; with fixed shades, more free shades than used entries unlike \
-         every fixed one";
+         multiple of 3";
+    5, FewColours, "FEW COLOURS", "a run wants more shades than used entries";
     6, BadLimit, "BAD LIMIT", "round limit above 200";
     7, ShortRoom, "SHORT ROOM",
         "members fewer than the used entries; totals fewer than the round limit (100 for 0); palette bytes fewer than \
          3 for each shade; or the stretch's first place plus the strip's pixels above the index length";
     8, BadCentre, "BAD CENTRE", "a coordinate above 4080";
     9, BadMember, "BAD MEMBER", "a used entry's shade number not below the count";
-    10, BadPalette, "BAD PALETTE",
-        "palette bytes not 3 to 192 or not a multiple of 3; bytes of fixed shades not 3 to 189 or not a multiple of 3";
+    10, BadPalette, "BAD PALETTE", "palette bytes not 3 to 192 or not a multiple of 3";
     11, ManyPixels, "MANY PIXELS", "mapping over 16,777,216 pixels";
     12, BadHeader { offset: usize, "Place of the first byte that cannot stand there, or the input's length." },
         "BAD HEADER",

@@ -171,14 +171,16 @@ fn bad_for_all(bench: &mut Bench, table: &Table) -> Result<(), Difference> {
         let round = Round { search, table: table.clone(), coordinates, members };
         refused_by(BAD_TABLE, bench.compare(&round, library::round, Model::round)?)?;
     }
-    let of_groups = PaletteFromGroups {
-        table: table.clone(),
-        coordinates: vec![16; 6],
-        members: members.clone(),
-        fixed: 1,
-        palette: vec![5; 6],
-    };
-    palette(bench, BAD_TABLE, &of_groups)?;
+    for fixed in [0, 1] {
+        let of_groups = PaletteFromGroups {
+            table: table.clone(),
+            coordinates: vec![16; 6],
+            members: members.clone(),
+            fixed,
+            palette: vec![5; 6],
+        };
+        palette(bench, BAD_TABLE, &of_groups)?;
+    }
     let run = Run { table: table.clone(), count: 2, limit: 1, members, totals: vec![7; 1] };
     runs(bench, BAD_TABLE, &run)?;
     fixed::run(bench, BAD_TABLE, &RunFixed { run, fixed: vec![1; 3] }).map(drop)
@@ -277,7 +279,7 @@ fn greatest_steps(bench: &mut Bench) -> Result<(), Difference> {
 }
 
 /// Members as many as used entries and one fewer, bytes 3 a shade and one fewer, a member at the count and below it, a
-/// coordinate of 4081, as many fixed shades as shades and one fewer: which refusal comes first of any that hold.
+/// coordinate of 4081, as many fixed shades as shades and one fewer, and none: which refusal comes first of any that hold.
 fn room_for_a_palette(bench: &mut Bench) -> Result<(), Difference> {
     for case in 0..32 {
         let [short_members, short_bytes, at_count, high, none_free] = [1, 2, 4, 8, 16].map(|bit| case & bit != 0);
@@ -300,6 +302,9 @@ fn room_for_a_palette(bench: &mut Bench) -> Result<(), Difference> {
             (false, false, false) => 0,
         };
         palette(bench, number, &ask)?;
+        if !none_free {
+            palette(bench, number, &PaletteFromGroups { fixed: 0, ..ask })?;
+        }
     }
     Ok(())
 }
@@ -403,15 +408,17 @@ fn most_coordinate(bench: &mut Bench) -> Result<(), Difference> {
             let number = if coordinate > 4080 { BAD_CENTRE } else { 0 };
             let of_shades = Palette { coordinates: coordinates.clone(), palette: vec![3; 9] };
             refused_by(number, bench.compare(&of_shades, library::palette, Model::palette)?)?;
-            let of_groups = PaletteFromGroups {
-                table: colours(9),
-                coordinates: coordinates.clone(),
-                // Shades 0 and 2 have a group, and shade 1 has none.
-                members: vec![0, 2, 0, 2, 0, 2, 0, 2, 0],
-                fixed: place % 3,
-                palette: vec![3; 9],
-            };
-            palette(bench, number, &of_groups)?;
+            for fixed in 0..3 {
+                let of_groups = PaletteFromGroups {
+                    table: colours(9),
+                    coordinates: coordinates.clone(),
+                    // Shades 0 and 2 have a group, and shade 1 has none.
+                    members: vec![0, 2, 0, 2, 0, 2, 0, 2, 0],
+                    fixed,
+                    palette: vec![3; 9],
+                };
+                palette(bench, number, &of_groups)?;
+            }
             let round = Round { search: Search::Plain, table: colours(9), coordinates, members: vec![0; 9] };
             refused_by(number, bench.compare(&round, library::round, Model::round)?)?;
         }
