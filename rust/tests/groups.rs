@@ -1,5 +1,8 @@
 //! The palette from groups: each level rounded once, from the exact mean of a shade's group; and its refusals.
+mod tables;
+
 use kohlenfloh::{calls, Record, Refusal, RunOptions, Shades, Table};
+use tables::table_of_entries;
 
 /// The refusals in their order, SHORT ROOM by members and by palette bytes.
 const ORDER: [Refusal; 6] = [
@@ -10,12 +13,6 @@ const ORDER: [Refusal; 6] = [
     Refusal::ShortRoom,
     Refusal::BadMember,
 ];
-
-/// A table of these entries, each a key and a weight.
-fn table_of(entries: &[(u32, u32)]) -> Table {
-    let (keys, weights) = entries.iter().copied().unzip();
-    Table::from_entries(keys, weights).unwrap()
-}
 
 /// The palette that is made of a table, coordinates and members, in so many bytes of 9.
 fn made(table: &Table, coordinates: &[u32], members: &[u32], bytes: usize) -> (Result<(), Refusal>, Vec<u8>) {
@@ -53,7 +50,7 @@ fn the_refusal_is_the_first_of_those_that_hold_and_writes_nothing() {
 
 #[test]
 fn shades_are_1_to_64_by_whole_triples() {
-    let table = table_of(&[(0, 1)]);
+    let table = table_of_entries(&[(0, 1)]);
     for length in [0, 1, 2, 4, 5, 191, 193, 194, 195, 198] {
         let answer = made(&table, &vec![0; length], &[0], 200);
         assert_eq!(answer, (Err(Refusal::BadCount), vec![9; 200]), "{length} coordinates");
@@ -68,7 +65,7 @@ fn shades_are_1_to_64_by_whole_triples() {
 
 #[test]
 fn a_coordinate_above_4080_is_refused_where_its_shade_has_a_group_too() {
-    let table = table_of(&[(0, 1), (255, 1)]);
+    let table = table_of_entries(&[(0, 1), (255, 1)]);
     for place in 0..9 {
         for coordinate in [4081, 4096, 1 << 31, u32::MAX] {
             let mut coordinates = [4080; 9];
@@ -81,7 +78,7 @@ fn a_coordinate_above_4080_is_refused_where_its_shade_has_a_group_too() {
 
 #[test]
 fn members_of_the_used_entries_are_below_the_count_and_others_are_not_looked_at() {
-    let table = table_of(&[(0, 1), (255, 1)]);
+    let table = table_of_entries(&[(0, 1), (255, 1)]);
     for member in [2, 3, 64, 1 << 31, u32::MAX] {
         assert_eq!(made(&table, &[0; 6], &[member, 0], 6), (Err(Refusal::BadMember), vec![9; 6]), "{member}");
         assert_eq!(made(&table, &[0; 6], &[0, member], 6), (Err(Refusal::BadMember), vec![9; 6]), "{member}");
@@ -94,7 +91,7 @@ fn members_of_the_used_entries_are_below_the_count_and_others_are_not_looked_at(
 
 #[test]
 fn members_are_taken_as_they_are() {
-    let table = table_of(&[(0, 1), (255, 1)]);
+    let table = table_of_entries(&[(0, 1), (255, 1)]);
     let shades = Shades::from_coordinates(&[0, 0, 0, 0, 0, 4080]).unwrap();
     for (members, blues) in [([0, 1], [0, 255]), ([1, 0], [255, 0]), ([0, 0], [128, 255]), ([1, 1], [0, 128])] {
         let palette = table.palette_from_groups(&shades, &members).unwrap();
@@ -130,7 +127,7 @@ fn a_mean_at_a_half_goes_up_and_one_just_below_it_down() {
     ] {
         for level in [0, 1, 10, 127, 254] {
             for shift in [0, 8, 16] {
-                let table = table_of(&[(level << shift, lower), ((level + 1) << shift, upper)]);
+                let table = table_of_entries(&[(level << shift, lower), ((level + 1) << shift, upper)]);
                 let palette = made(&table, &[4080, 4080, 4080], &[0, 0], 3).1;
                 let told = palette.iter().fold(0, |key, byte| 256 * key + u32::from(*byte));
                 assert_eq!(told, (level + step) << shift, "{lower} of {level}, {upper} of the next");
@@ -142,10 +139,10 @@ fn a_mean_at_a_half_goes_up_and_one_just_below_it_down() {
 #[test]
 fn no_level_is_above_255_with_the_most_pixels() {
     let most = Table::MOST_PIXELS as u32;
-    assert_eq!(made(&table_of(&[(16_777_215, most)]), &[0; 3], &[0], 3), (Ok(()), vec![255; 3]));
+    assert_eq!(made(&table_of_entries(&[(16_777_215, most)]), &[0; 3], &[0], 3), (Ok(()), vec![255; 3]));
     // All colours whose R is 255.
     let many: Vec<(u32, u32)> = (0xFF_0000..=0xFF_FFFF).map(|key| (key, 256)).collect();
-    let table = table_of(&many);
+    let table = table_of_entries(&many);
     assert_eq!(table.pixels(), Table::MOST_PIXELS);
     assert_eq!(made(&table, &[0; 6], &vec![1; many.len()], 6).1, [0, 0, 0, 255, 128, 128]);
 }

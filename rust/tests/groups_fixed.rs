@@ -1,5 +1,8 @@
 //! The palette from groups that is told how many shades are fixed, beside the one that is not; and its refusals.
+mod tables;
+
 use kohlenfloh::{calls, Record, Refusal, Shades, Table};
+use tables::table_of_entries;
 
 /// The refusals in their order, BAD COUNT by coordinates and by fixed shades, SHORT ROOM by members and by palette
 /// bytes.
@@ -12,12 +15,6 @@ const ORDER: [Refusal; 7] = [
     Refusal::ShortRoom,
     Refusal::BadMember,
 ];
-
-/// A table of these entries, each a key and a weight.
-fn table_of(entries: &[(u32, u32)]) -> Table {
-    let (keys, weights) = entries.iter().copied().unzip();
-    Table::from_entries(keys, weights).unwrap()
-}
 
 /// A palette's answer, and its bytes then.
 type Made = (Result<(), Refusal>, Vec<u8>);
@@ -67,7 +64,7 @@ fn the_refusal_is_the_first_of_those_that_hold_and_writes_nothing() {
 #[test]
 fn the_first_shades_are_rounded_from_their_coordinates_as_many_as_are_fixed() {
     // Shades 0 and 2 have a group, shade 1 has none.
-    let (table, coordinates) = (table_of(&[(0, 1), (255, 1)]), [7, 8, 24, 4071, 4072, 4080, 23, 40, 4056]);
+    let (table, coordinates) = (table_of_entries(&[(0, 1), (255, 1)]), [7, 8, 24, 4071, 4072, 4080, 23, 40, 4056]);
     for (fixed, due) in [
         (0, [0, 0, 0, 254, 255, 255, 0, 0, 255]),
         (1, [0, 1, 2, 254, 255, 255, 0, 0, 255]),
@@ -82,7 +79,7 @@ fn the_first_shades_are_rounded_from_their_coordinates_as_many_as_are_fixed() {
 
 #[test]
 fn one_shade_at_least_is_free() {
-    let table = table_of(&[(0, 1)]);
+    let table = table_of_entries(&[(0, 1)]);
     for shades in [1, 2, 63, 64] {
         let coordinates = vec![16; 3 * shades];
         let of = |fixed: usize| made(fixed, &table, &coordinates, &[shades as u32 - 1], 192);
@@ -98,7 +95,7 @@ fn one_shade_at_least_is_free() {
 
 #[test]
 fn members_are_taken_as_they_are() {
-    let table = table_of(&[(0, 1), (255, 1)]);
+    let table = table_of_entries(&[(0, 1), (255, 1)]);
     let shades = Shades::from_coordinates(&[0, 0, 0, 0, 0, 4080]).unwrap();
     for (members, blue) in [([0, 1], 255), ([1, 0], 0), ([0, 0], 255), ([1, 1], 128)] {
         let palette = table.palette_from_groups_fixed(&shades, &members, 1).unwrap();

@@ -5,7 +5,12 @@ use kohlenfloh::Table;
 /// The table of some colours, each with its pixels.
 pub fn table_of(colours: &[([u8; 3], u32)]) -> Table {
     let key = |[red, green, blue]: [u8; 3]| u32::from_be_bytes([0, red, green, blue]);
-    let (keys, weights) = colours.iter().map(|(levels, pixels)| (key(*levels), *pixels)).unzip();
+    table_of_entries(&colours.iter().map(|(levels, pixels)| (key(*levels), *pixels)).collect::<Vec<_>>())
+}
+
+/// The table of these entries, each a key and a weight.
+pub fn table_of_entries(entries: &[(u32, u32)]) -> Table {
+    let (keys, weights) = entries.iter().copied().unzip();
     Table::from_entries(keys, weights).unwrap()
 }
 
