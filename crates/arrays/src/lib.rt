@@ -5,6 +5,7 @@
 //   record_left       the record that an add leaves, as an array
 //   round_numbers     the answer of a round                                round.rt
 //   run_numbers       that of a run, its shades apart
+//   run_shades        the shades of a run
 //   map_numbers       the errors of a mapping, whether it has a mean, and  picture.rt
 //                     the twins
 //   map_figures       its figures: the mean, and those of R, G and B
@@ -20,4 +21,4 @@ mod round;
 
 pub use picture::{map_figures, map_numbers, picture_numbers};
 pub use record::{record_in, record_left};
-pub use round::{round_numbers, run_numbers};
+pub use round::{round_numbers, run_numbers, run_shades};

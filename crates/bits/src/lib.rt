@@ -13,5 +13,5 @@ ghost use Rattle.number.specs.{bit};
 pub fn bit(test: bool) -> u32
     ensures { (result ≡ bit test) × (result ≤ 1) }
 {
-    if test { 1 } else { 0 }
+    u32::from(test)
 }

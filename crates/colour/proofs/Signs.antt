@@ -63,7 +63,8 @@ difference-off a b = go (dec_le b a)
 -- ---- in the bits of the machine, for coordinates
 
 -- a difference of two coordinates in a width that holds coordinates with a sign
-module _ (w : Width) (wide : most_coordinate < 2 ^ hbits w) (a b : ℕ) (h : a ≤ most_coordinate) (g : b ≤ most_coordinate)
+module _ (w : Width) (wide : most_coordinate < 2 ^ hbits w) (a b : ℕ) (h : a ≤ most_coordinate)
+    (g : b ≤ most_coordinate)
   where
     -- a coordinate is the same number with a sign and without, and so the difference is too
     difference-same : to_z w a -ℤ to_z w b ≡ pos a -ℤ pos b

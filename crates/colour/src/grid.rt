@@ -71,7 +71,7 @@ fn short_square(a: u16, b: u16) -> u32
 {
     let x = a as i16;
     let y = b as i16;
-    let d = (x - y) as i32;
+    let d = i32::from(x - y);
     (d * d) as u32
 }
 

@@ -3,6 +3,7 @@
 //
 // Calls; none refuses, and what one requires stands above it
 //   key_of         the key of a colour's three bytes         key.rt
+//   key_at         the key of the colour whose bytes stand at a place of a list
 //   red_of         the levels of a key's colour, one call a channel
 //   green_of
 //   blue_of
@@ -22,7 +23,7 @@ mod key;
 mod mean;
 
 pub use grid::{colour_of, distance, distance_from, short_of, square};
-pub use key::{blue_of, green_of, key_of, red_of};
+pub use key::{blue_of, green_of, key_at, key_of, red_of};
 pub use mean::rounded_mean;
 
 // The greatest key, that of the colour (255, 255, 255).
@@ -39,7 +40,7 @@ pub const MOST_SUM: u64 = 4278190080;
 
 // A point of the grid: three coordinates in sixteenths of a level. A shade is one, and a colour
 // stands at one.
-#[derive(Clone, Copy)]
+#[derive(Clone, Copy, PartialEq, Eq)]
 pub struct Point {
     pub r: u32,
     pub g: u32,

@@ -6,11 +6,10 @@ use native.Mathlib.Omega.{arith}
 use borrow.Author.Tests.{ne_eqb}
 use lib.Ieee.{Float}
 use Rattle.figures.specs.Figures.{figure, channel_mean, mean_figure, channel_means, mean_number, mean_values}
-use Rattle.figures.specs.declared.Mean.{Mean}
-use Rattle.figures.specs.declared.Mean.TheVariants.{NoPixels, Value}
+use Rattle.std.specs.Prelude.{Option, None, Some}
 
 -- with pixels the mean is the figure
-pub mean-of-some : (e n : ℕ) → 0 < n → mean_figure e n ≡ Value (figure e n)
+pub mean-of-some : (e n : ℕ) → 0 < n → mean_figure e n ≡ Some (figure e n)
 mean-of-some e n some = rw (ne_eqb n 0 (λ z. omega arith))
 
 -- and so is a channel's
@@ -23,11 +22,11 @@ pub means-of-some : (r g b n : ℕ) → 0 < n
 means-of-some r g b n some = rw (channel-of-some r n some, channel-of-some g n some, channel-of-some b n some)
 
 -- a mean is told by how many figures it holds, and which
-pub mean-only : (m k : Mean) → mean_number m ≡ mean_number k → mean_values m ≡ mean_values k → m ≡ k
-mean-only NoPixels NoPixels e f = refl
-mean-only NoPixels (Value y) e f = absurd (omega arith)
-mean-only (Value x) NoPixels e f = absurd (omega arith)
-mean-only (Value x) (Value y) e f = ap Value (same_head f)
+pub mean-only : (m k : Option Float) → mean_number m ≡ mean_number k → mean_values m ≡ mean_values k → m ≡ k
+mean-only None None e f = refl
+mean-only None (Some y) e f = absurd (omega arith)
+mean-only (Some x) None e f = absurd (omega arith)
+mean-only (Some x) (Some y) e f = ap Some (same_head f)
   where
     head : List Float → Float
     head [] = x

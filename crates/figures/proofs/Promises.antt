@@ -3,7 +3,7 @@ use Prim.Native.Nat.{ℕ, ◌^◌, ◌≤◌, ◌<◌}
 use mathlib.Core.Bool.{false}
 use mathlib.Core.List.{[], ◌∷◌}
 use mathlib.Core.Path.{◌≡◌, refl, ap}
-use lib.Ieee.{binary64, round}
+use lib.Ieee.{Float, binary64, round}
 use lib.Ieee.Exact.{HasValue}
 use Rattle.figures.specs.Figures.{
   most_exact,
@@ -15,7 +15,7 @@ use Rattle.figures.specs.Figures.{
   mean_values,
 }
 use Rattle.figures.specs.Nearness.{NearestTo}
-use Rattle.figures.specs.declared.Mean.{Mean}
+use Rattle.std.specs.Prelude.{Option}
 use Rattle.figures.proofs.Quotients as quotients
 use Rattle.figures.proofs.Nearest as nearest
 use Rattle.figures.proofs.Cases as cases
@@ -47,7 +47,7 @@ pub mean-of-some : (e n : ℕ) → 0 < n
 mean-of-some e n some = (ap mean_number (cases.mean-of-some e n some), ap mean_values (cases.mean-of-some e n some))
 
 -- A mean is told by what it says.
-pub mean-only : (m k : Mean) → mean_number m ≡ mean_number k → mean_values m ≡ mean_values k → m ≡ k
+pub mean-only : (m k : Option Float) → mean_number m ≡ mean_number k → mean_values m ≡ mean_values k → m ≡ k
 mean-only = cases.mean-only
 
 -- ---- the channel means

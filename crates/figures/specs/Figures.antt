@@ -1,9 +1,7 @@
--- The mean square error is either "no pixels" or a binary64 figure; beside it stand three channel means.
-use Rattle.std.specs.Prelude.{ℕ, cond, false, List, [], ◌∷◌, pos, eqb, Float}
+-- The mean square error is a binary64 figure, and none says "no pixels"; beside it stand three channel means.
+use Rattle.std.specs.Prelude.{ℕ, cond, false, List, [], ◌∷◌, Option, None, Some, pos, eqb, Float}
 use Rattle.std.specs.Float.{fin, binary64}
 use Rattle.std.specs.Float.Ieee.{div, of_int}
-use Rattle.figures.specs.declared.Mean.{Mean}
-use Rattle.figures.specs.declared.Mean.TheVariants.{NoPixels, Value}
 use Rattle.figures.specs.declared.Means.{Means}
 
 -- every whole number up to this one, 2 ^ 53, is a binary64 number
@@ -22,9 +20,9 @@ zero_figure = fin false 0 (pos 0)
 abbrev pub channel_mean : ℕ → ℕ → Float
 channel_mean error pixels = cond (eqb pixels 0) zero_figure (figure error pixels)
 
--- the mean: "no pixels", or the figure
-abbrev pub mean_figure : ℕ → ℕ → Mean
-mean_figure error pixels = cond (eqb pixels 0) NoPixels (Value (figure error pixels))
+-- the mean: none for no pixels, or the figure
+abbrev pub mean_figure : ℕ → ℕ → Option Float
+mean_figure error pixels = cond (eqb pixels 0) None (Some (figure error pixels))
 
 -- the three channel means
 abbrev pub channel_means : ℕ → ℕ → ℕ → ℕ → Means
@@ -37,11 +35,11 @@ channel_means red green blue pixels = record {
 -- ---- what a mean says, case by case
 
 -- how many figures it holds: none where it says "no pixels"
-abbrev pub mean_number : Mean → ℕ
-mean_number NoPixels = 0
-mean_number (Value x) = 1
+abbrev pub mean_number : Option Float → ℕ
+mean_number None = 0
+mean_number (Some x) = 1
 
 -- these figures
-abbrev pub mean_values : Mean → List Float
-mean_values NoPixels = []
-mean_values (Value x) = x ∷ []
+abbrev pub mean_values : Option Float → List Float
+mean_values None = []
+mean_values (Some x) = x ∷ []

@@ -2,7 +2,7 @@
 ghost use Rattle.std.specs.Prelude.{◌≡◌, ◌≤◌};
 ghost use Rattle.figures.specs.Figures.{most_exact, figure, mean_figure, channel_means};
 
-use super::{Mean, Means};
+use super::Means;
 
 // Error and pixel count converted without loss, then one division. Requires that both are whole
 // numbers that binary64 holds exactly.
@@ -13,15 +13,16 @@ fn quotient(error: u64, pixels: u64) -> f64
     error as f64 / pixels as f64
 }
 
-// The mean square error of a strip with this error and this pixel count. Requires the same.
-pub fn mean_figure(error: u64, pixels: u64) -> Mean
+// The mean square error of a strip with this error and this pixel count; none for no pixels.
+// Requires the same.
+pub fn mean_figure(error: u64, pixels: u64) -> Option<f64>
     requires { (error ≤ most_exact) × (pixels ≤ most_exact) }
     ensures { result ≡ mean_figure error pixels }
 {
     if pixels == 0 {
-        return Mean::NoPixels;
+        return None;
     }
-    Mean::Value(quotient(error, pixels))
+    Some(quotient(error, pixels))
 }
 
 // The channel means of a strip with these channel errors and this pixel count. Requires the same of

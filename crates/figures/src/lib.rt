@@ -2,7 +2,7 @@
 // conversions without loss and one division.
 //
 // Calls; none refuses, and what one requires stands above it
-//   mean_figure     "no pixels", or error by pixels              divide.rt
+//   mean_figure     error by pixels, none for no pixels          divide.rt
 //   channel_means   the three channel means, zeros for no pixels
 //
 // Read next: specs/Lib.antt (what the words mean), proofs/Promises.antt (what is shown).
@@ -12,13 +12,6 @@
 mod divide;
 
 pub use divide::{channel_means, mean_figure};
-
-// The mean square error: "no pixels", or a binary64 figure.
-#[derive(Clone, Copy)]
-pub enum Mean {
-    NoPixels,
-    Value(f64),
-}
 
 // The channel means; zeros for no pixels.
 #[derive(Clone, Copy)]

@@ -8,56 +8,30 @@
 
 ghost use Rattle.std.specs.Prelude.{◌≤◌};
 
+use arrays::{run_numbers, run_shades};
 use lloyd::Ran;
 use lloyd_fixed::run_fixed;
 use palette_groups::palette_from_groups_fixed;
+use printing::{field, row};
+use refusal::{Refusal, number_in};
 use std::io;
 use table_test::Record;
 
-// One number and a blank.
-fn field(rt: &impl Print, n: u64) -> io::Result<()> {
-    print!(rt; "{n} ")
-}
-
-// Three coordinates or members.
-fn three(rt: &impl Print, a: u32, b: u32, c: u32) -> io::Result<()> {
-    field(rt, a as u64)?;
-    field(rt, b as u64)?;
-    field(rt, c as u64)
-}
-
 // The line of a run.
-fn show(rt: &impl Print, a: Ran, members: &[u32; 6], totals: &[u64; 100]) -> io::Result<()> {
-    let shades = a.shades;
-    field(rt, a.refusal as u64)?;
-    field(rt, a.rounds as u64)?;
-    if a.settled {
-        field(rt, 1)?;
-    } else {
-        field(rt, 0)?;
-    }
-    field(rt, a.distances)?;
-    field(rt, a.total)?;
-    three(rt, shades[0], shades[1], shades[2])?;
-    three(rt, shades[3], shades[4], shades[5])?;
-    three(rt, shades[6], shades[7], shades[8])?;
-    three(rt, shades[9], shades[10], shades[11])?;
-    three(rt, shades[189], shades[190], shades[191])?;
-    three(rt, members[0], members[1], members[2])?;
-    three(rt, members[3], members[4], members[5])?;
-    field(rt, totals[0])?;
-    field(rt, totals[1])?;
-    field(rt, totals[2])?;
-    field(rt, totals[3])?;
-    field(rt, totals[4])?;
+fn show(
+    rt: &impl Print,
+    answer: Result<Ran, Refusal>,
+    members: &[u32; 6],
+    totals: &[u64; 100],
+) -> io::Result<()> {
+    let shades = run_shades(answer);
+    field(rt, number_in(answer.err()))?;
+    row(rt, &run_numbers(answer))?;
+    row(rt, &shades[..12])?;
+    row(rt, &shades[189..])?;
+    row(rt, members)?;
+    row(rt, &totals[..5])?;
     println!(rt)
-}
-
-// Three bytes.
-fn bytes(rt: &impl Print, a: u8, b: u8, c: u8) -> io::Result<()> {
-    field(rt, a as u64)?;
-    field(rt, b as u64)?;
-    field(rt, c as u64)
 }
 
 // The record of a table.
@@ -134,11 +108,9 @@ fn show_palette(
         fixed,
         &mut palette,
     );
-    field(rt, answer as u64)?;
-    bytes(rt, palette[0], palette[1], palette[2])?;
-    bytes(rt, palette[3], palette[4], palette[5])?;
-    bytes(rt, palette[6], palette[7], palette[8])?;
-    bytes(rt, palette[189], palette[190], palette[191])?;
+    field(rt, number_in(answer.err()))?;
+    row(rt, &palette[..9])?;
+    row(rt, &palette[189..])?;
     println!(rt)
 }
 
@@ -189,9 +161,8 @@ fn moves(rt: &impl Print) -> io::Result<()> {
         &mut totals,
     );
     show(rt, a, &members, &totals)?;
-    let all = a.shades;
-    let shades = [all[0], all[1], all[2], all[3], all[4], all[5]];
-    show_palette(rt, rec, &keys, &weights, &shades, &members, 1)
+    let shades = run_shades(a);
+    show_palette(rt, rec, &keys, &weights, &shades[..6], &members, 1)
 }
 
 // Sheet A's table and 64 shades, of which 63 are fixed, all white and with no group: the free one
@@ -213,7 +184,7 @@ fn most_fixed(rt: &impl Print) -> io::Result<()> {
         &mut totals,
     );
     show(rt, a, &members, &totals)?;
-    let shades = a.shades;
+    let shades = run_shades(a);
     show_palette(rt, rec, &keys, &weights, &shades, &members, 63)
 }
 

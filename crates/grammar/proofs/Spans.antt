@@ -1,14 +1,18 @@
 -- Laws of spans: how many bytes of one kind stand from a place on, at most so many or with no bound; and that a byte of
 -- a kind that 0 is not of stands inside the input.
-use Prim.Native.Nat.{ℕ, suc, ◌+◌, ◌≤◌, ◌<◌}
+use Prim.Native.Nat.{ℕ, suc, ◌+◌, ◌-◌, ◌≤◌, ◌<◌}
 use mathlib.Core.Bool.{Bool, true, false, not}
 use mathlib.Core.List.{List}
 use mathlib.Core.Logic.{⊎_elim}
 use mathlib.Core.Path.{◌≡◌, refl, sym, ap, ◌∙◌}
 use native.Mathlib.Omega.{arith}
 use native.Mathlib.Decide.{dec_lt}
-use lib.ListN.{length, get_or-eq_default}
+use lib.ListN.{length, get_or, take, drop, get_or-eq_default, length-take, length-drop}
 use borrow.Author.Tests.{not-true, not-false}
+use Rattle.std.specs.List.{prefix_len}
+use Rattle.std.proofs.Common.{min}
+use Rattle.std.proofs.lemmas.List.{get_or-take, get_or-drop}
+use Rattle.std.proofs.lemmas.List.Sums.{prefix_len-le-length, prefix_len_passes, prefix_len_stops}
 use Rattle.number.proofs.Cases.{never}
 use Rattle.number.proofs.Firsts.{first-that, first-that-only}
 use Rattle.number.proofs.Searches.{below-or-last}
@@ -87,6 +91,35 @@ module _ (kind : ℕ → Bool) (none : kind 0 ≡ false) where
   pub row-only : (s : List ℕ) (at n : ℕ) → AllOf kind s at n → kind (byte_at s (at + n)) ≡ false
       → n ≡ span_at kind (length s) s at
   row-only s at n all ends = span-only kind (length s) s at n (all-within s at n all) all (λ l. ends)
+
+  -- the bytes of the kind at the front of so many that begin at a place are the span there
+  pub front-span : (most : ℕ) (s : List ℕ) (at : ℕ) → prefix_len kind (take most (drop at s)) ≡ span_at kind most s at
+  front-span most s at = span-only kind most s at n (omega (arith, inside, front)) all ends
+    where
+      l : List ℕ
+      l = take most (drop at s)
+
+      n : ℕ
+      n = prefix_len kind (take most (drop at s))
+
+      inside : n ≤ length (take most (drop at s))
+      inside = prefix_len-le-length kind (take most (drop at s))
+
+      front : length (take most (drop at s)) ≡ min most (length s - at)
+      front = length-take most (drop at s) ∙ ap (min most) (length-drop at s)
+
+      reads : (i : ℕ) → i < most → get_or (take most (drop at s)) i 0 ≡ byte_at s (at + i)
+      reads i h = get_or-take most (drop at s) i 0 h ∙ get_or-drop at s i 0
+
+      all : AllOf kind s at n
+      all i h =
+          rw (reads i (omega (arith, inside, front))) at (prefix_len_passes kind (take most (drop at s)) i 0 h)
+
+      ends : n < most → kind (byte_at s (at + n)) ≡ false
+      ends h = elim (dec_lt n (length (take most (drop at s)))) [
+        | yes l ↦ rw (reads n h) at (prefix_len_stops kind (take most (drop at s)) 0 l)
+        | no l ↦ ap kind (byte_past s (at + n) (omega (arith, front))) ∙ none
+      ]
 
 -- 0 is no digit
 pub nothing-digit : is_digit 0 ≡ false

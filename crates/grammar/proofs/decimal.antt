@@ -1,2 +1,2 @@
--- The digits as the loops meet them: their count and their value.
-pub mod Turns
+-- The digits that are read: few, and a part of the input.
+pub mod Parts

@@ -6,18 +6,13 @@ ghost use Rattle.grammar.specs.Bytes.{byte_at, is_digit};
 pub fn byte_at(input: &[u8], at: usize) -> u8
     ensures { result ≡ byte_at input.now at }
 {
-    if input.len() <= at {
-        return 0;
-    }
-    input[at]
+    input.get(at).copied().unwrap_or(0)
 }
 
 // Whether a byte is a decimal digit.
+#[tactic(auto, unfolding(crate::specs::Bytes::is_digit))]
 pub fn is_digit(byte: u8) -> bool
     ensures { result ≡ is_digit byte }
 {
-    if byte < b'0' {
-        return false;
-    }
-    byte <= b'9'
+    byte.is_ascii_digit()
 }

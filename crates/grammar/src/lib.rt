@@ -4,7 +4,6 @@
 // Calls; none requires anything of its caller
 //   byte_at    the byte at a place, 0 past the end           byte.rt
 //   number     1 to 5 digits at a place, or where it failed  decimal.rt
-//   place_in   where a reading ended or failed
 // The text of a number is a definition here, `decimal_text`; the crate texts puts it into a buffer.
 //
 // Of languages there are laws and no function: an input has at most one first wrong byte, and a
@@ -19,14 +18,14 @@ mod byte;
 mod decimal;
 
 pub use byte::byte_at;
-pub use decimal::{number, place_in};
+pub use decimal::number;
 
 // The most digits of a number that is read.
 pub const MOST_DIGITS: usize = 5;
 
-// What reading a number yields: the number and where it ended, or the place it failed.
+// A number that was read, and where it ended.
 #[derive(Clone, Copy)]
-pub enum Reading {
-    Number { value: u32, next: usize },
-    Failed { at: usize },
+pub struct Numeral {
+    pub value: u32,
+    pub next: usize,
 }

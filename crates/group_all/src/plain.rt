@@ -32,15 +32,13 @@ pub fn group_plain(
     search_all::search_all(keys, used, shades, count, members);
     let mut total: u64 = 0;
     let mut distances: u64 = 0;
-    let mut i = 0;
-    while i < used {
+    for i in 0..used {
         let a = gift_of(weights[i], keys[i], members[i]);
         let q = a.number;
         members[i] = q;
         total += a.cost;
         distances += count as u64;
         raise(sums, q as usize, a.first, a.second);
-        i += 1;
     }
     Regrouped { total, distances }
 }

@@ -3,8 +3,9 @@ ghost use Rattle.std.specs.Prelude.{◌≡◌, ◌+◌, ◌≤◌, ◌<◌, leng
 ghost use Rattle.shades.specs.{most_shades};
 ghost use Rattle.table_entries.specs.{Tabled};
 ghost use Rattle.group_sums.specs.{Summed, Assigned, member_at};
-ghost use Rattle.group_join.specs.Covering.{covered};
+ghost use Rattle.group_join.specs.Covering.{anew, covered};
 
+use super::Follow;
 use group_sums::{lower, raise};
 use level_sums::{blue_pixels, red_green};
 
@@ -71,21 +72,20 @@ pub fn join(
     weights: &[u32],
     used: usize,
     members: &mut [u32],
-    anew: bool,
+    follow: Follow,
     sums: &mut [u64; 128],
     i: usize,
     q: u32,
 )
     requires { Tabled used keys.now weights.now × Assigned used members.old
-        × Summed (member_at members.old) keys.now weights.now (covered anew used i) sums.old
-        × (i < used) × (q < most_shades) }
+        × Summed (member_at members.old) keys.now weights.now (covered (anew follow) used i)
+        sums.old × (i < used) × (q < most_shades) }
     ensures members { members.new ≡ set members.old i q }
     ensures sums { Summed (member_at members.new) keys.now
-        weights.now (covered anew used (i + 1)) sums.new }
+        weights.now (covered (anew follow) used (i + 1)) sums.new }
 {
-    if anew {
-        enter(keys, weights, used, members, sums, i, q);
-        return;
+    match follow {
+        Follow::Anew => enter(keys, weights, used, members, sums, i, q),
+        Follow::Onward => go_over(keys, weights, used, members, sums, i, q),
     }
-    go_over(keys, weights, used, members, sums, i, q);
 }

@@ -15,6 +15,14 @@ mod entry;
 
 pub use entry::join;
 
+// How the sums follow the entries of a grouping: taken anew, from zeros, or onward, from those of
+// the former groups.
+#[derive(Clone, Copy)]
+pub enum Follow {
+    Anew,
+    Onward,
+}
+
 // The total of a grouping, and the distances worked out.
 #[derive(Clone, Copy)]
 pub struct Regrouped {

@@ -85,7 +85,8 @@ module _ {m m' : ℕ → ℕ} {n i : ℕ} (g : Goes m m' i) (h : i < n) (f : ℕ
 pub summed-moved : {m m' : ℕ → ℕ} (ks ws : List ℕ) {n i : ℕ} {t : List ℕ} → Summed m ks ws n t → Goes m m' i → i < n
     → m i < most_shades → m' i < most_shades
     → Summed m' ks ws n
-    (raised (lowered t (m i) (weighed red_green ks ws i) (weighed blue_pixels ks ws i)) (m' i) (weighed red_green ks ws i)
+    (raised (lowered t (m i) (weighed red_green ks ws i) (weighed blue_pixels ks ws i)) (m' i)
+    (weighed red_green ks ws i)
     (weighed blue_pixels ks ws i))
 summed-moved {m} {m'} ks ws {n} {i} {t} s g h few few' =
     let x = weighed red_green ks ws i in

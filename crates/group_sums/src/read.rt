@@ -20,11 +20,5 @@ pub fn level_sum(sums: &[u64; 128], axis: usize, q: usize) -> u64
     ensures { result ≡ level_sum sums.now axis q }
 {
     let a = 2 * q;
-    if axis == 0 {
-        return high(sums[a]);
-    }
-    if axis == 1 {
-        return low(sums[a]);
-    }
-    high(sums[a + 1])
+    [high(sums[a]), low(sums[a]), high(sums[a + 1])][axis]
 }

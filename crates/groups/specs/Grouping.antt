@@ -4,6 +4,8 @@ use Rattle.shades.specs.{Shades}
 use Rattle.table_entries.specs.{Tabled}
 use Rattle.search_rows.specs.{Rows}
 use Rattle.search_gaps.specs.{Gaps}
+use Rattle.groups.specs.declared.Kind.{Kind}
+use Rattle.groups.specs.declared.Kind.TheVariants.{Gaps as OfGaps, Rising}
 
 -- a table, some shades, and a former shade for each entry
 pub record Groupable (used : ℕ) (ks ws s : List ℕ) (k : ℕ) (members : List ℕ) : Type 0 where
@@ -12,6 +14,11 @@ pub record Groupable (used : ℕ) (ks ws s : List ℕ) (k : ℕ) (members : List
   pub some : 0 < k
   pub room : used ≤ length members
   pub joined : (i : ℕ) → i < used → get_or members i 0 < k
+
+-- are the rows of gaps?
+abbrev pub of_gaps : Kind → Bool
+of_gaps OfGaps = true
+of_gaps Rising = false
 
 -- rows for the shortened search: of gaps where the table is small, else rows that rise
 abbrev pub Tracks : Bool → List ℕ → ℕ → List ℕ → Type 0

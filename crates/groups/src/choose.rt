@@ -5,22 +5,22 @@ ghost use Rattle.std.specs.Prelude.{◌≡◌, ◌*◌, ◌≤◌, length};
 ghost use Rattle.shades.specs.{most_shades, Shades};
 ghost use Rattle.method.specs.{state_of, colours_of, short_distances};
 ghost use Rattle.group_sums.specs.{Summed, member_at};
-ghost use Rattle.group_join.specs.{covered, Grouped};
-ghost use Rattle.groups.specs.Grouping.{Groupable, Tracks};
+ghost use Rattle.group_join.specs.{anew, covered, Grouped};
+ghost use Rattle.groups.specs.Grouping.{Groupable, of_gaps, Tracks};
 
+use super::Kind;
 use super::short::group_short;
-use group_join::Regrouped;
+use group_join::{Follow, Regrouped};
 
-// Fills the rows of the shades, for a small table or not. Requires shades on the grid and room.
-fn track(shades: &[u32], count: usize, rows: &mut [u32], few: bool)
+// Fills the rows of the shades, of this kind. Requires shades on the grid and room.
+fn track(shades: &[u32], count: usize, rows: &mut [u32], kind: Kind)
     requires { Shades count shades.now × (most_shades * count ≤ length rows.old) }
-    ensures { Tracks few shades.now count rows.new }
+    ensures { Tracks (of_gaps kind) shades.now count rows.new }
 {
-    if few {
-        search_gaps::fill_gaps(shades, count, rows);
-        return;
+    match kind {
+        Kind::Gaps => search_gaps::fill_gaps(shades, count, rows),
+        Kind::Rising => search_rows::fill_rows(shades, count, rows),
     }
-    search_rows::fill_rows(shades, count, rows);
 }
 
 // Groups the table from the former shades and leaves the grouping in the members, which stay past
@@ -35,13 +35,13 @@ pub fn regroup(
     count: usize,
     rows: &mut [u32],
     members: &mut [u32],
-    anew: bool,
+    follow: Follow,
     sums: &mut [u64; 128],
 ) -> Regrouped
     requires { Groupable used keys.now weights.now shades.now count members.old
         × (most_shades * count ≤ length rows.old)
         × Summed (member_at members.old) keys.now weights.now
-        (covered anew used 0) sums.old }
+        (covered (anew follow) used 0) sums.old }
     ensures grouped { Grouped used keys.now weights.now
         shades.now count members.old members.new
         result.total sums.new }
@@ -49,9 +49,13 @@ pub fn regroup(
         ≡ short_distances (colours_of used keys.now weights.now) count
         (state_of shades.now members.old) }
 {
-    let few = used <= count * count / 8;
-    track(shades, count, rows, few);
+    let kind = if used <= count * count / 8 {
+        Kind::Gaps
+    } else {
+        Kind::Rising
+    };
+    track(shades, count, rows, kind);
     group_short(
-        keys, weights, used, shades, count, rows, few, members, anew, sums,
+        keys, weights, used, shades, count, rows, kind, members, follow, sums,
     )
 }

@@ -5,7 +5,7 @@
 //   regroup   by the shortened search, with the rows that are quicker for the table   choose.rt
 // The grouping itself, with rows that are there, stands in short.rt.
 //
-// Read next: specs/Lib.antt (what the words mean), proofs/Lib.antt (what is shown).
+// Read next: specs/Lib.antt (what the words mean), proofs/short.antt (what is shown).
 
 #![tactic(auto)]
 
@@ -13,3 +13,10 @@ mod choose;
 mod short;
 
 pub use choose::regroup;
+
+// The rows that the shortened search goes by: of gaps, or rising.
+#[derive(Clone, Copy)]
+enum Kind {
+    Gaps,
+    Rising,
+}

@@ -3,10 +3,11 @@ ghost use Rattle.std.specs.Prelude.{◌≡◌, ◌<◌, get_or};
 ghost use Rattle.shades.specs.{colour_at, to_shade, nearest_shade, worked};
 ghost use Rattle.method.specs.{state_of, colours_of, short_distances};
 ghost use Rattle.group_sums.specs.{Summed, member_at};
-ghost use Rattle.group_join.specs.{covered, Grouped};
-ghost use Rattle.groups.specs.Grouping.{Groupable, Tracks};
+ghost use Rattle.group_join.specs.{anew, covered, Grouped};
+ghost use Rattle.groups.specs.Grouping.{Groupable, of_gaps, Tracks};
 
-use group_join::{Regrouped, join};
+use super::Kind;
+use group_join::{Follow, Regrouped, join};
 use search_rows::Met;
 
 // The nearest shade of entry `i`, from its member, by the rows in `rows`.
@@ -17,12 +18,12 @@ fn rejoin(
     shades: &[u32],
     count: usize,
     rows: &[u32],
-    few: bool,
+    kind: Kind,
     members: &[u32],
     i: usize,
 ) -> Met
     requires { Groupable used keys.now weights.now shades.now count members.now
-        × Tracks few shades.now count rows.now × (i < used) }
+        × Tracks (of_gaps kind) shades.now count rows.now × (i < used) }
     ensures number { result.number
         ≡ nearest_shade shades.now count (colour_at keys.now i) }
     ensures distance { result.distance
@@ -34,10 +35,10 @@ fn rejoin(
 {
     let p = members[i] as usize;
     let c = colour::colour_of(keys[i]);
-    if few {
-        return search_gaps::walk_gaps(shades, count, rows, c, p);
+    match kind {
+        Kind::Gaps => search_gaps::walk_gaps(shades, count, rows, c, p),
+        Kind::Rising => search_near::walk(shades, count, rows, c, p),
     }
-    search_near::walk(shades, count, rows, c, p)
 }
 
 // Groups the table by the shortened search and leaves the grouping in the members, which stay past
@@ -51,15 +52,15 @@ pub fn group_short(
     shades: &[u32],
     count: usize,
     rows: &[u32],
-    few: bool,
+    kind: Kind,
     members: &mut [u32],
-    anew: bool,
+    follow: Follow,
     sums: &mut [u64; 128],
 ) -> Regrouped
     requires { Groupable used keys.now weights.now shades.now count members.old
-        × Tracks few shades.now count rows.now
+        × Tracks (of_gaps kind) shades.now count rows.now
         × Summed (member_at members.old) keys.now weights.now
-        (covered anew used 0) sums.old }
+        (covered (anew follow) used 0) sums.old }
     ensures grouped { Grouped used keys.now weights.now
         shades.now count members.old members.new
         result.total sums.new }
@@ -69,13 +70,11 @@ pub fn group_short(
 {
     let mut total: u64 = 0;
     let mut distances: u64 = 0;
-    let mut i = 0;
-    while i < used {
-        let met = rejoin(keys, weights, used, shades, count, rows, few, members, i);
+    for i in 0..used {
+        let met = rejoin(keys, weights, used, shades, count, rows, kind, members, i);
         total += shades::cost(weights[i], met.distance);
         distances += met.distances;
-        join(keys, weights, used, members, anew, sums, i, met.number);
-        i += 1;
+        join(keys, weights, used, members, follow, sums, i, met.number);
     }
     Regrouped { total, distances }
 }

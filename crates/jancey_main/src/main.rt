@@ -3,46 +3,25 @@
 // shades; three members and twenty totals, which are sevens before the call.
 #![tactic(auto)]
 
+use arrays::{run_numbers, run_shades};
 use lloyd::Ran;
+use printing::{field, row};
+use refusal::{Refusal, number_in};
 use std::io;
 use table::Record;
 
-// One number and a blank.
-fn field(rt: &impl Print, n: u64) -> io::Result<()> {
-    print!(rt; "{n} ")
-}
-
-// Three coordinates or members.
-fn three(rt: &impl Print, a: u32, b: u32, c: u32) -> io::Result<()> {
-    field(rt, a as u64)?;
-    field(rt, b as u64)?;
-    field(rt, c as u64)
-}
-
-// The totals of a line.
-fn row(rt: &impl Print, list: &[u64]) -> io::Result<()> {
-    for &n in list {
-        field(rt, n)?;
-    }
-    Ok(())
-}
-
 // The line of a run.
-fn show(rt: &impl Print, a: Ran, members: &[u32; 5], totals: &[u64; 20]) -> io::Result<()> {
-    let shades = a.shades;
-    field(rt, a.refusal as u64)?;
-    field(rt, a.rounds as u64)?;
-    if a.settled {
-        field(rt, 1)?;
-    } else {
-        field(rt, 0)?;
-    }
-    field(rt, a.distances)?;
-    field(rt, a.total)?;
-    three(rt, shades[0], shades[1], shades[2])?;
-    three(rt, shades[3], shades[4], shades[5])?;
-    three(rt, shades[6], shades[7], shades[8])?;
-    three(rt, members[0], members[1], members[2])?;
+fn show(
+    rt: &impl Print,
+    answer: Result<Ran, Refusal>,
+    members: &[u32; 5],
+    totals: &[u64; 20],
+) -> io::Result<()> {
+    let shades = run_shades(answer);
+    field(rt, number_in(answer.err()))?;
+    row(rt, &run_numbers(answer))?;
+    row(rt, &shades[..9])?;
+    row(rt, &members[..3])?;
     row(rt, totals)?;
     println!(rt)
 }

@@ -9,7 +9,7 @@ use mathlib.Core.Path.{◌≡◌, sym, ◌∙◌}
 use lib.Ieee.{Float}
 use lib.ListN.{get_or, length, take, replicate}
 use Rattle.number.specs.{sum, W, S, Nearest}
-use Rattle.refusal.specs.{Refusal, number_of, done, TWIN_SHADE}
+use Rattle.refusal.specs.{Refusal, number_of, done, TwinShade}
 use Rattle.colour.specs.{Point, Bytes, distance, sixteenth}
 use Rattle.shades.specs.{most_coordinates, shade_at, colour_at}
 use Rattle.figures.specs.{zero_figure}
@@ -18,16 +18,15 @@ use Rattle.method.specs.{Bounded, State, state_of, colours_of, pixels_in, mean_o
 use Rattle.lloyd.specs.{plain_round, short_round, run_of, jancey_run}
 use Rattle.lloyd_stock.specs.{fixed_in, stock}
 use Rattle.lloyd_fixed.specs.{fixed_run}
-use Rattle.palette.specs.{PaletteMeets}
+use Rattle.palette.specs.{palette_from_shades}
 use Rattle.palette_groups.specs.{channel_group, palette_from_groups, palette_from_groups_fixed}
-use Rattle.palette_groups.proofs.Promises as groups
-use Rattle.palette_twins.specs.{no_twins, AreTwins, AllDiffer}
+use Rattle.palette_twins.specs.{no_twins, told_pair, AreTwins, AllDiffer}
 use Rattle.mapping.specs.{twins_told, map_strip}
 use Rattle.p6_header.specs.{header_of, offset_in}
 use Rattle.p6.specs.{read_picture}
 use Rattle.arrays.specs.{record_in, record_numbers, twins_in}
 use Rattle.arrays.proofs.Records as records
-use Rattle.kohlenfloh.specs.Crossing.{AddCrosses, RoundCrosses, RunCrosses, MapCrosses, PictureCrosses}
+use Rattle.kohlenfloh.specs.Crossing.{AddCrosses, RoundCrosses, RunCrosses, PaletteCrosses, MapCrosses, PictureCrosses}
 use Rattle.kohlenfloh.proofs.Arrays as arrays
 use Rattle.kohlenfloh.proofs.Refusing as refusing
 use Rattle.kohlenfloh.proofs.Runs as runs
@@ -84,18 +83,22 @@ pub fixed-only : (s ks ws fixed : List ℕ) (k limit : ℕ) (ms ts : List ℕ)
     → (r ≡ r') × (x ≡ x') × (y ≡ y') × (shades ≡ shades') × (t ≡ t')
 fixed-only s ks ws fixed k limit ms ts = arrays.run_only
 
--- Of kf_palette_from_groups. That of kf_palette_from_shades is `palette-only` of palette: its contract is the one
--- beneath.
+-- Of kf_palette_from_shades.
+pub palette-only : (s d : List ℕ) {r r' : ℕ} {x x' : List ℕ} → PaletteCrosses (palette_from_shades s d) r x
+    → PaletteCrosses (palette_from_shades s d) r' x' → (r ≡ r') × (x ≡ x')
+palette-only s d = arrays.palette-only
+
+-- Of kf_palette_from_groups.
 pub groups-only : (s ks ws cs ms d : List ℕ) {r r' : ℕ} {x x' : List ℕ}
-    → PaletteMeets (palette_from_groups (record_in s) ks ws (state_of cs ms) d) r x
-    → PaletteMeets (palette_from_groups (record_in s) ks ws (state_of cs ms) d) r' x' → (r ≡ r') × (x ≡ x')
-groups-only s ks ws cs ms d = groups.groups-only (record_in s) ks ws (state_of cs ms) d
+    → PaletteCrosses (palette_from_groups (record_in s) ks ws (state_of cs ms) d) r x
+    → PaletteCrosses (palette_from_groups (record_in s) ks ws (state_of cs ms) d) r' x' → (r ≡ r') × (x ≡ x')
+groups-only s ks ws cs ms d = arrays.palette-only
 
 -- And of kf_palette_from_groups_fixed.
 pub groups-only-fixed : (f : ℕ) (s ks ws cs ms d : List ℕ) {r r' : ℕ} {x x' : List ℕ}
-    → PaletteMeets (palette_from_groups_fixed f (record_in s) ks ws (state_of cs ms) d) r x
-    → PaletteMeets (palette_from_groups_fixed f (record_in s) ks ws (state_of cs ms) d) r' x' → (r ≡ r') × (x ≡ x')
-groups-only-fixed f s ks ws cs ms d = groups.groups-only-fixed f (record_in s) ks ws (state_of cs ms) d
+    → PaletteCrosses (palette_from_groups_fixed f (record_in s) ks ws (state_of cs ms) d) r x
+    → PaletteCrosses (palette_from_groups_fixed f (record_in s) ks ws (state_of cs ms) d) r' x' → (r ≡ r') × (x ≡ x')
+groups-only-fixed f s ks ws cs ms d = arrays.palette-only
 
 -- Of kf_map_strip.
 pub map-only : (strip p d : List ℕ) (first : ℕ) {r r' : ℕ} {x x' s s' : List ℕ} {m m' : List Float}
@@ -122,13 +125,13 @@ record-kept = records.record-kept
 -- ---- what a refusal leaves
 
 -- BAD STRIP and BAD TABLE hand the record back, leave both slices as they came, and take nothing.
-pub add-refused : (s ks ws strip : List ℕ) (n : Refusal) → hands_back (number_of n) ≡ true
+pub add-refused : (s ks ws strip : List ℕ) (n : Refusal) → hands_back n ≡ true
     → {rec ks' ws' t : List ℕ} → AddCrosses (add_strip (record_in s) ks ws strip) (number_of n) rec ks' ws' t
     → (rec ≡ record_numbers (record_in s)) × (ks' ≡ ks) × (ws' ≡ ws) × (t ≡ 0 ∷ [])
 add-refused = refusing.add-refused
 
 -- The record's array, which has five numbers, is then as it came.
-pub record-as-it-came : (s ks ws strip : List ℕ) (n : Refusal) → hands_back (number_of n) ≡ true → length s ≡ 5
+pub record-as-it-came : (s ks ws strip : List ℕ) (n : Refusal) → hands_back n ≡ true → length s ≡ 5
     → {rec ks' ws' t : List ℕ} → AddCrosses (add_strip (record_in s) ks ws strip) (number_of n) rec ks' ws' t → rec ≡ s
 record-as-it-came = refusing.record-as-it-came
 
@@ -162,32 +165,36 @@ pub fixed-refused : (rec : Record) (ks ws fixed : List ℕ) (k limit : ℕ) (ms 
     → (ms' ≡ ms) × (ts' ≡ ts) × (shades ≡ replicate most_coordinates 0) × (s ≡ 0 ∷ 0 ∷ 0 ∷ 0 ∷ [])
 fixed-refused = refusing.fixed-refused
 
+-- A refused palette from shades leaves every byte as it came.
+pub palette-refused : (s d : List ℕ) (n : Refusal) {x : List ℕ}
+    → PaletteCrosses (palette_from_shades s d) (number_of n) x → x ≡ d
+palette-refused = refusing.palette-refused
+
 -- A refused palette of groups leaves every byte as it came.
 pub groups-refused : (rec : Record) (ks ws : List ℕ) (a : State) (d : List ℕ) (n : Refusal) {x : List ℕ}
-    → PaletteMeets (palette_from_groups rec ks ws a d) (number_of n) x → x ≡ d
-groups-refused rec ks ws a d n h = h.palette_is ∙ groups.groups-refused-kept rec ks ws a d n (sym h.answer)
+    → PaletteCrosses (palette_from_groups rec ks ws a d) (number_of n) x → x ≡ d
+groups-refused = refusing.groups-refused
 
 -- And one that is told how many are fixed.
 pub groups-refused-fixed : (f : ℕ) (rec : Record) (ks ws : List ℕ) (a : State) (d : List ℕ) (n : Refusal) {x : List ℕ}
-    → PaletteMeets (palette_from_groups_fixed f rec ks ws a d) (number_of n) x → x ≡ d
-groups-refused-fixed f rec ks ws a d n h =
-    h.palette_is ∙ groups.groups-refused-kept-fixed f rec ks ws a d n (sym h.answer)
+    → PaletteCrosses (palette_from_groups_fixed f rec ks ws a d) (number_of n) x → x ≡ d
+groups-refused-fixed = refusing.groups-refused-fixed
 
 -- A refused mapping leaves zeros in answer and means, but for the twins told, and the index picture as it came.
 pub map-refused : (strip p d : List ℕ) (first : ℕ) (n : Refusal) {x s : List ℕ} {m : List Float}
     → MapCrosses (map_strip strip p d first) (number_of n) x s m
     → (x ≡ d)
-    × (s ≡ 0 ∷ 0 ∷ 0 ∷ 0 ∷ 0 ∷ (twins_told p (number_of n)).lower ∷ (twins_told p (number_of n)).higher ∷ [])
+    × (s ≡ 0 ∷ 0 ∷ 0 ∷ 0 ∷ 0 ∷ (told_pair (twins_told p n)).lower ∷ (told_pair (twins_told p n)).higher ∷ [])
     × (m ≡ zero_figure ∷ zero_figure ∷ zero_figure ∷ zero_figure ∷ [])
 map-refused = refusing.map-refused
 
 -- With TWIN SHADE the two last numbers of the answer are the pair with the smallest higher number.
 pub map-twins : (strip p d : List ℕ) (first : ℕ) {x s : List ℕ} {m : List Float}
-    → MapCrosses (map_strip strip p d first) (number_of TWIN_SHADE) x s m → AreTwins p (twins_in s)
+    → MapCrosses (map_strip strip p d first) (number_of TwinShade) x s m → AreTwins p (twins_in s)
 map-twins = refusing.map-twins
 
 -- With any other refusal they are 0 and 0.
-pub map-no-twins : (strip p d : List ℕ) (first : ℕ) {x s : List ℕ} {m : List Float} (n : Refusal) → ¬ (n ≡ TWIN_SHADE)
+pub map-no-twins : (strip p d : List ℕ) (first : ℕ) {x s : List ℕ} {m : List Float} (n : Refusal) → ¬ (n ≡ TwinShade)
     → MapCrosses (map_strip strip p d first) (number_of n) x s m → twins_in s ≡ no_twins
 map-no-twins = refusing.map-no-twins
 
@@ -230,17 +237,19 @@ module _ (s ks ws : List ℕ) (k limit : ℕ) (ms ts : List ℕ) {members totals
   -- The palette of what it leaves: kf_palette_from_groups on the same table, the first 3k of the coordinates and the
   -- members, with three bytes for each shade.
   module _ (d : List ℕ) {r : ℕ} {x : List ℕ} (room : 3 * k ≤ length d)
-      (p : PaletteMeets (palette_from_groups (record_in s) ks ws (state_of (take (3 * k) shades) members) d) r x) where
-    -- It is never refused.
-    pub palette-accepted : r ≡ done
-    palette-accepted = runs.palette-accepted s ks ws k limit ms ts h d room p
+      (p : PaletteCrosses (palette_from_groups (record_in s) ks ws (state_of (take (3 * k) shades) members) d) r x)
+    where
+      -- It is never refused.
+      pub palette-accepted : r ≡ done
+      palette-accepted = runs.palette-accepted s ks ws k limit ms ts h d room p
 
-    -- In each channel of a shade with a group it has the level nearest to the exact mean of the group, a half going up.
-    pub palette-is-nearest : (q e : ℕ) → q < k → e < 3
-        → 0 < W (channel_group (record_in s) ks ws (state_of shades members) q e)
-        → Nearest (W (channel_group (record_in s) ks ws (state_of shades members) q e))
-        (S (channel_group (record_in s) ks ws (state_of shades members) q e)) (get_or x (3 * q + e) 0)
-    palette-is-nearest = runs.palette-is-nearest s ks ws k limit ms ts h d room p
+      -- In each channel of a shade with a group it has the level nearest to the exact mean of the group, a half going
+      -- up.
+      pub palette-is-nearest : (q e : ℕ) → q < k → e < 3
+          → 0 < W (channel_group (record_in s) ks ws (state_of shades members) q e)
+          → Nearest (W (channel_group (record_in s) ks ws (state_of shades members) q e))
+          (S (channel_group (record_in s) ks ws (state_of shades members) q e)) (get_or x (3 * q + e) 0)
+      palette-is-nearest = runs.palette-is-nearest s ks ws k limit ms ts h d room p
 
 -- ---- what an accepted Jancey run leaves: in the answer's array settled stands at place 1, as 1 or 0
 
@@ -263,7 +272,8 @@ module _ (s ks ws : List ℕ) (k limit : ℕ) (ms ts : List ℕ) {members totals
   -- kf_palette_from_groups on the same table, the first 3k of the coordinates and the members, with three bytes for
   -- each shade, is never refused.
   pub jancey-palette-accepted : (d : List ℕ) {r : ℕ} {x : List ℕ} → 3 * k ≤ length d
-      → PaletteMeets (palette_from_groups (record_in s) ks ws (state_of (take (3 * k) shades) members) d) r x → r ≡ done
+      → PaletteCrosses (palette_from_groups (record_in s) ks ws (state_of (take (3 * k) shades) members) d) r x
+      → r ≡ done
   jancey-palette-accepted = runs.jancey-palette-accepted s ks ws k limit ms ts h
 
 -- ---- what an accepted run with fixed shades leaves; the lent list is one of bytes
@@ -298,6 +308,7 @@ module _ (s ks ws fixed : List ℕ) (k limit : ℕ) (ms ts : List ℕ) {members 
   -- kf_palette_from_groups_fixed on the same table, the first 3k of the coordinates and the members, told how many are
   -- fixed and lent three bytes for each shade, is never refused, and gives the fixed shades their own bytes.
   pub fixed-palette-is-own : (d : List ℕ) {r : ℕ} {x : List ℕ} → 3 * k ≤ length d
-      → PaletteMeets (palette_from_groups_fixed (fixed_in fixed) (record_in s) ks ws (state_of (take (3 * k) shades) members) d) r x
+      → PaletteCrosses
+      (palette_from_groups_fixed (fixed_in fixed) (record_in s) ks ws (state_of (take (3 * k) shades) members) d) r x
       → (r ≡ done) × ((i : ℕ) → i < length fixed → get_or x i 0 ≡ get_or fixed i 0)
   fixed-palette-is-own = runs.fixed-palette-is-own s ks ws fixed k limit ms ts h bytes

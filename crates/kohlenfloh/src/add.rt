@@ -21,5 +21,5 @@ pub fn kf_add_strip(
     let a = table::add_strip(arrays::record_in(rec), keys, weights, strip);
     *rec = arrays::record_left(a);
     *taken = [a.taken as u64];
-    a.refusal as u32
+    u32::from(refusal::number_in(a.refusal))
 }

@@ -1,20 +1,32 @@
 // Palettes, index pictures and P6 pictures across the boundary.
+ghost use Rattle.std.specs.Prelude.{◌≡◌};
+ghost use Rattle.std.specs.Result.{result_err};
+ghost use Rattle.refusal.specs.{number_in};
 ghost use Rattle.method.specs.{state_of};
-ghost use Rattle.palette.specs.{PaletteMeets, palette_from_shades};
+ghost use Rattle.palette.specs.{palette_from_shades};
 ghost use Rattle.palette_groups.specs.{palette_from_groups, palette_from_groups_fixed};
 ghost use Rattle.mapping.specs.{map_strip};
 ghost use Rattle.p6.specs.{read_picture};
 ghost use Rattle.arrays.specs.{record_in};
-ghost use Rattle.kohlenfloh.specs.Crossing.{MapCrosses, PictureCrosses};
+ghost use Rattle.kohlenfloh.specs.Crossing.{PaletteCrosses, MapCrosses, PictureCrosses};
+
+use refusal::Refusal;
+
+// The number of a call that answers nothing else: 0, or its refusal's.
+fn number(answer: Result<(), Refusal>) -> u32
+    ensures { result ≡ number_in (result_err answer) }
+{
+    u32::from(refusal::number_in(answer.err()))
+}
 
 // The palette of some shades: palette::palette_from_shades.
 // Refuses, in this order: 4 BAD COUNT, 8 BAD CENTRE, 7 SHORT ROOM, with the palette as it came.
 pub fn kf_palette_from_shades(coordinates: &[u32], palette: &mut [u8]) -> u32
-    ensures { PaletteMeets
+    ensures { PaletteCrosses
         (palette_from_shades coordinates.now palette.old)
         result palette.new }
 {
-    palette::palette_from_shades(coordinates, palette) as u32
+    number(palette::palette_from_shades(coordinates, palette))
 }
 
 // The palette of the groups that the members tell: palette_groups::palette_from_groups.
@@ -28,14 +40,22 @@ pub fn kf_palette_from_groups(
     members: &[u32],
     palette: &mut [u8],
 ) -> u32
-    ensures { PaletteMeets
+    ensures { PaletteCrosses
         (palette_from_groups (record_in rec.now) keys.now
         weights.now (state_of coordinates.now members.now)
         palette.old)
         result palette.new }
 {
     let table = arrays::record_in(rec);
-    palette_groups::palette_from_groups(table, keys, weights, coordinates, members, palette) as u32
+    let answer = palette_groups::palette_from_groups(
+        table,
+        keys,
+        weights,
+        coordinates,
+        members,
+        palette,
+    );
+    number(answer)
 }
 
 // The palette of the groups that the members tell, the first `fixed` shades in their own levels:
@@ -51,14 +71,14 @@ pub fn kf_palette_from_groups_fixed(
     fixed: usize,
     palette: &mut [u8],
 ) -> u32
-    ensures { PaletteMeets
+    ensures { PaletteCrosses
         (palette_from_groups_fixed fixed (record_in rec.now) keys.now
         weights.now (state_of coordinates.now members.now)
         palette.old)
         result palette.new }
 {
     let table = arrays::record_in(rec);
-    palette_groups::palette_from_groups_fixed(
+    let answer = palette_groups::palette_from_groups_fixed(
         table,
         keys,
         weights,
@@ -66,7 +86,8 @@ pub fn kf_palette_from_groups_fixed(
         members,
         fixed,
         palette,
-    ) as u32
+    );
+    number(answer)
 }
 
 // Maps a strip into its stretch of the index picture: mapping::map_strip. `answer` receives the
@@ -86,10 +107,13 @@ pub fn kf_map_strip(
         (map_strip strip.now palette.now index.old first)
         result index.new answer.new means.new }
 {
-    let a = mapping::map_strip(strip, palette, index, first);
-    *answer = arrays::map_numbers(a);
-    *means = arrays::map_figures(a);
-    a.refusal as u32
+    let mapped = mapping::map_strip(strip, palette, index, first);
+    *answer = arrays::map_numbers(mapped);
+    *means = arrays::map_figures(mapped);
+    match mapped {
+        Ok(_) => 0,
+        Err(unmapped) => u32::from(u8::from(unmapped.refusal)),
+    }
 }
 
 // Reads a P6 picture: p6::read_picture. `answer` receives the offset, width, height and the first
@@ -101,5 +125,8 @@ pub fn kf_read_picture(input: &[u8], answer: &mut [u64; 4]) -> u32
 {
     let a = p6::read_picture(input);
     *answer = arrays::picture_numbers(a);
-    a.refusal as u32
+    match a {
+        Ok(_) => 0,
+        Err(fault) => u32::from(u8::from(fault.refusal)),
+    }
 }

@@ -5,6 +5,8 @@ ghost use Rattle.lloyd_fixed.specs.{fixed_run};
 ghost use Rattle.arrays.specs.{record_in};
 ghost use Rattle.kohlenfloh.specs.Crossing.{RoundCrosses, RunCrosses};
 
+use refusal::number_in;
+
 // One round in which each colour looks at every shade: lloyd::plain_round. `answer` receives total,
 // shades moved, distances.
 // Refuses, in this order: 2 BAD TABLE, 4 BAD COUNT, 8 BAD CENTRE, 7 SHORT ROOM, with zeros in the
@@ -23,7 +25,7 @@ pub fn kf_plain_round(
 {
     let a = lloyd::plain_round(arrays::record_in(rec), keys, weights, coordinates, members);
     *answer = arrays::round_numbers(a);
-    a.refusal as u32
+    u32::from(number_in(a.err()))
 }
 
 // One round by the shortened search: lloyd::short_round. `answer` receives total, shades moved,
@@ -44,7 +46,7 @@ pub fn kf_short_round(
 {
     let a = lloyd::short_round(arrays::record_in(rec), keys, weights, coordinates, members);
     *answer = arrays::round_numbers(a);
-    a.refusal as u32
+    u32::from(number_in(a.err()))
 }
 
 // A run: lloyd::run. `shades` receives the shades, zeros past the count; `answer` rounds made,
@@ -75,10 +77,9 @@ pub fn kf_run(
         members,
         totals,
     );
-    let made = a.shades;
-    *shades = made;
+    *shades = arrays::run_shades(a);
     *answer = arrays::run_numbers(a);
-    a.refusal as u32
+    u32::from(number_in(a.err()))
 }
 
 // A run with shades that step past the mean: lloyd::run_jancey. Reads, writes and refuses what
@@ -107,10 +108,9 @@ pub fn kf_run_jancey(
         members,
         totals,
     );
-    let made = a.shades;
-    *shades = made;
+    *shades = arrays::run_shades(a);
     *answer = arrays::run_numbers(a);
-    a.refusal as u32
+    u32::from(number_in(a.err()))
 }
 
 // A run with shades fixed from stock: lloyd_fixed::run_fixed. `fixed` has their levels, three bytes
@@ -144,8 +144,7 @@ pub fn kf_run_fixed(
         members,
         totals,
     );
-    let made = a.shades;
-    *shades = made;
+    *shades = arrays::run_shades(a);
     *answer = arrays::run_numbers(a);
-    a.refusal as u32
+    u32::from(number_in(a.err()))
 }

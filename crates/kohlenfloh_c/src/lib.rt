@@ -2,7 +2,7 @@
 // archive is handed on as libkohlenfloh.a.
 //
 // Each export is the call of the same name of the crate kohlenfloh, with its clauses, and does no
-// more than make it.
+// more than make it: a static library exports its own functions alone, and no crate stands on one.
 //   kf_add_strip                                                                  add.rt
 //   kf_plain_round, kf_short_round, kf_run, kf_run_jancey, kf_run_fixed           round.rt
 //   kf_palette_from_shades, kf_palette_from_groups, kf_palette_from_groups_fixed  picture.rt

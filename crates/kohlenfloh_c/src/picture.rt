@@ -1,17 +1,17 @@
 // Palettes, index pictures and P6 pictures across the boundary.
 ghost use Rattle.method.specs.{state_of};
-ghost use Rattle.palette.specs.{PaletteMeets, palette_from_shades};
+ghost use Rattle.palette.specs.{palette_from_shades};
 ghost use Rattle.palette_groups.specs.{palette_from_groups, palette_from_groups_fixed};
 ghost use Rattle.mapping.specs.{map_strip};
 ghost use Rattle.p6.specs.{read_picture};
 ghost use Rattle.arrays.specs.{record_in};
-ghost use Rattle.kohlenfloh.specs.Crossing.{MapCrosses, PictureCrosses};
+ghost use Rattle.kohlenfloh.specs.Crossing.{PaletteCrosses, MapCrosses, PictureCrosses};
 
 // The palette of some shades: palette::palette_from_shades.
 // Refuses, in this order: 4 BAD COUNT, 8 BAD CENTRE, 7 SHORT ROOM, with the palette as it came.
 #[unsafe(no_mangle)]
 pub extern "C" fn kf_palette_from_shades(coordinates: &[u32], palette: &mut [u8]) -> u32
-    ensures { PaletteMeets
+    ensures { PaletteCrosses
         (palette_from_shades coordinates.now palette.old)
         result palette.new }
 {
@@ -30,7 +30,7 @@ pub extern "C" fn kf_palette_from_groups(
     members: &[u32],
     palette: &mut [u8],
 ) -> u32
-    ensures { PaletteMeets
+    ensures { PaletteCrosses
         (palette_from_groups (record_in rec.now) keys.now
         weights.now (state_of coordinates.now members.now)
         palette.old)
@@ -53,7 +53,7 @@ pub extern "C" fn kf_palette_from_groups_fixed(
     fixed: usize,
     palette: &mut [u8],
 ) -> u32
-    ensures { PaletteMeets
+    ensures { PaletteCrosses
         (palette_from_groups_fixed fixed (record_in rec.now) keys.now
         weights.now (state_of coordinates.now members.now)
         palette.old)

@@ -3,18 +3,11 @@ ghost use Rattle.std.specs.Prelude.{◌≡◌, ◌+◌, ◌*◌, ◌/◌, ◌%�
 ghost use Rattle.colour.specs.{most_pixels};
 ghost use Rattle.level_sums.specs.Levels.{red_green, blue_pixels};
 
-// A sum of at most 2^24 levels, in 64 bits.
-fn wide(x: u32) -> u64
-    ensures { result ≡ x }
-{
-    x as u64
-}
-
-// Two such sums in one number.
+// Two sums of at most 2^24 levels, in one number.
 fn pair(x: u32, y: u32) -> u64
     ensures { result ≡ 4294967296 * x + y }
 {
-    4294967296 * wide(x) + wide(y)
+    4294967296 * u64::from(x) + u64::from(y)
 }
 
 // The weight times red and green level, in one: products of 32 bits, put side by side. Requires a

@@ -11,9 +11,9 @@ use lib.ListN.{length, get_or, take, drop, length-drop}
 use lib.Seq.{take_all}
 use borrow.Author.Tests.{lt-leb, le-leb, leb-true, eq-eqb, ne_eqb, eqb-true, not-false}
 use Rattle.number.proofs.Cases.{both}
-use Rattle.grammar.specs.{byte_at, line_feed, is_digit, most_digits, digits_at, number_at, place_in}
-use Rattle.grammar.specs.declared.Reading.TheVariants.{Number, Failed}
-use Rattle.grammar.proofs.Spans.{kind-inside, span-all, span-only}
+use Rattle.grammar.specs.{byte_at, line_feed, is_digit, most_digits, digits_at, number_with, number_at, place_in}
+use Rattle.std.proofs.Common.{Err}
+use Rattle.grammar.proofs.Spans.{span-all, span-only}
 use Rattle.p6_header.specs.{reading_number, reading_values}
 use Rattle.listing.specs.Refusals.{most_input, bad_line, CountLine, count_in, picture_in}
 
@@ -24,8 +24,8 @@ line-none : (s : List ℕ) → digits_at s 0 ≡ 0 → bad_line s ≡ true
 line-none s z = rw (lt-leb 1 (digits_at s 0) (omega arith))
 
 -- a number at its front, by how many digits there are
-front : (s : List ℕ) → ((digits_at s 0 ≡ 0) × (number_at s 0 ≡ Failed 0))
-    ⊎ ((0 < digits_at s 0) × (number_at s 0 ≡ Number (count_in s) (0 + digits_at s 0)))
+front : (s : List ℕ) → ((digits_at s 0 ≡ 0) × (number_at s 0 ≡ Err 0))
+    ⊎ ((0 < digits_at s 0) × (number_at s 0 ≡ number_with (count_in s) (0 + digits_at s 0)))
 unfolding number_at
 front s = elim (ℕ_discrete (digits_at s 0) 0) [
   | yes z ↦ inl (z, rw (eq-eqb _ _ z))
@@ -33,11 +33,11 @@ front s = elim (ℕ_discrete (digits_at s 0) 0) [
 ]
 
 -- a reading that failed is none of a number
-failed-not-number : (at v n : ℕ) → ¬ (Failed at ≡ Number v n)
+failed-not-number : (at v n : ℕ) → ¬ (Err at ≡ number_with v n)
 failed-not-number at v n e = let z = ap reading_number e in omega arith
 
 -- a line whose reading failed has no digit
-pub line-no-digit : (s : List ℕ) (at : ℕ) → number_at s 0 ≡ Failed at → bad_line s ≡ true
+pub line-no-digit : (s : List ℕ) (at : ℕ) → number_at s 0 ≡ Err at → bad_line s ≡ true
 line-no-digit s at e = elim (front s) [
   | inl f ↦ line-none s f.0
   | inr f ↦ absurd (failed-not-number at _ _ (sym e ∙ f.1))
@@ -48,10 +48,6 @@ last-fails : (a b : Bool) → not (a && (b && false)) ≡ true
 last-fails true true = refl
 last-fails true false = refl
 last-fails false b = refl
-
--- LF stands inside the input
-pub ended-inside : (s : List ℕ) (n : ℕ) → byte_at s n ≡ line_feed → n < length s
-ended-inside s n e = kind-inside (λ b. eqb b line_feed) refl s n (eq-eqb _ _ e)
 
 -- ---- exactly
 
@@ -94,7 +90,7 @@ bad-line-exactly s = (
 
 -- the count line names this value with so many digits
 pub record Named (s : List ℕ) (value n : ℕ) : Type 0 where
-  pub number : number_at s 0 ≡ Number value n
+  pub number : number_at s 0 ≡ number_with value n
 
 module _ {s : List ℕ} {value n : ℕ} (named : Named s value n) where
   -- they are its digits, and their value
@@ -102,7 +98,7 @@ module _ {s : List ℕ} {value n : ℕ} (named : Named s value n) where
   line-number = elim (front s) [
     | inl f ↦ absurd (failed-not-number 0 value n (sym f.1 ∙ named.number))
     | inr f ↦
-        let same : Number value n ≡ Number (count_in s) (0 + digits_at s 0) = sym named.number ∙ f.1 in
+        let same : number_with value n ≡ number_with (count_in s) (0 + digits_at s 0) = sym named.number ∙ f.1 in
         let ends : n ≡ 0 + digits_at s 0 = ap place_in same in
         (omega (arith, f.0), omega arith, ap (λ r. get_or (reading_values r) 0 0) same)
   ]

@@ -6,7 +6,7 @@ use mathlib.Core.Logic.{◌↔◌, inl, inr}
 use mathlib.Core.Path.{◌≡◌, sym, ◌∙◌, subst}
 use native.Mathlib.Omega.{arith}
 use lib.ListN.{take}
-use Rattle.refusal.specs.{Refusal, number_of, Given, NoneHolds, TWIN_SHADE}
+use Rattle.refusal.specs.{Refusal, number_of, Given, NoneHolds, TwinShade}
 use Rattle.refusal.proofs.Order.{none-front, none-back, given-split, given-behind}
 use Rattle.refusal.proofs.Promises.{number-only, number-most, done-exactly, none-or-given}
 use Rattle.palette_twins.specs.{TwoEqual}
@@ -76,14 +76,14 @@ module _ (s : List ℕ) where
 
   -- where input and run are accepted, the line of TWIN SHADE is printed exactly when two entries are equal
   pub twins-listed-exactly : NoneHolds (input_rows s) → NoneHolds (run_tests (picture_in s) (count_in s))
-      → (listing_text s ≡ refused_text (number_of TWIN_SHADE)) ↔ TwoEqual (entries_on (picture_in s) (count_in s))
+      → (listing_text s ≡ refused_text (number_of TwinShade)) ↔ TwoEqual (entries_on (picture_in s) (count_in s))
   twins-listed-exactly none run =
       let p = picture_in s in
       let k = count_in s in
       let small = (done-exactly (small_rows p)).1 none.1.1 in
       let ok = (done-exactly (run_tests p k)).1 run in
-      let line = listing-refused-exactly TWIN_SHADE in
-      let input = given-behind (input_rows s) (work_tests p k) TWIN_SHADE none in
-      let ran = given-behind (run_tests p k) (map_tests p k) TWIN_SHADE run in
+      let line = listing-refused-exactly TwinShade in
+      let input = given-behind (input_rows s) (work_tests p k) TwinShade none in
+      let ran = given-behind (run_tests p k) (map_tests p k) TwinShade run in
       let twins = twins-exactly p k small ok in
       (λ e. twins.0 (ran.0 (input.0 (line.0 e))), λ t. line.1 (input.1 (ran.1 (twins.1 t))))

@@ -8,11 +8,15 @@ use mathlib.Core.Logic.{◌↔◌, ◌⊎◌}
 use mathlib.Core.Path.{◌≡◌, sym, ◌∙◌}
 use lib.ListN.{length}
 use Rattle.number.specs.{sum}
-use Rattle.refusal.specs.{Refusal, number_of, done, first_of, Given, NoneHolds, BAD_COUNT, FEW_COLOURS, TWIN_SHADE}
+use Rattle.std.specs.Prelude.{None}
+use Rattle.std.specs.Result.{result_err}
+use Rattle.refusal.specs.{Refusal, number_of, done, first_of, Given, NoneHolds, BadCount, FewColours, TwinShade}
 use Rattle.colour.specs.{Bytes}
 use Rattle.palette_twins.specs.{TwoEqual, AllDiffer}
+use Rattle.mapping.specs.{refusal_in}
 use Rattle.grammar.specs.{most_decimal}
-use Rattle.p6.specs.{read_picture, raster_of}
+use Rattle.std.proofs.Common.{None, Ok}
+use Rattle.p6.specs.{Picture, read_picture, raster_of}
 use Rattle.texts.specs.{lines_of}
 use Rattle.listing_lines.specs.{most_text, refused_text, field_at}
 use Rattle.listing_test.specs.{small_rows}
@@ -85,7 +89,7 @@ listing-accepted-exactly = orders.listing-accepted-exactly
 
 -- Where input and run are accepted, `refused 18` is printed exactly when two entries of the run's palette are equal.
 pub twins-listed-exactly : (s : List ℕ) → NoneHolds (input_rows s) → NoneHolds (run_tests (picture_in s) (count_in s))
-    → (listing_text s ≡ refused_text (number_of TWIN_SHADE)) ↔ TwoEqual (entries_on (picture_in s) (count_in s))
+    → (listing_text s ≡ refused_text (number_of TwinShade)) ↔ TwoEqual (entries_on (picture_in s) (count_in s))
 twins-listed-exactly = orders.twins-listed-exactly
 
 -- ---- the numbers in the lines
@@ -96,11 +100,12 @@ pub lines-count : (s : List ℕ) → NoneHolds (listing_rows s)
 lines-count = numbers.lines-of-input
 
 -- The pixels mapped to the shades, the last fields of their lines, add up to the pixels in line 1, and these are
--- width × height.
+-- width × height of the picture, which is read.
 pub pixels-add : (s : List ℕ) → NoneHolds (listing_rows s)
     → (let lines = listing_lines (picture_in s) (count_in s) in
     (sum (count_in s) (λ q. field_at lines (suc q) 4) ≡ field_at lines 0 1)
-    × (field_at lines 0 1 ≡ (read_picture (picture_in s)).width * (read_picture (picture_in s)).height))
+    × (picture : Picture) × (read_picture (picture_in s) ≡ Ok picture)
+    × (field_at lines 0 1 ≡ picture.width * picture.height))
 pixels-add = numbers.pixels-of-input
 
 -- The rounds in line 1 are at most 20.
@@ -120,26 +125,26 @@ listed-differ = numbers.differ-of-input
 -- ---- what is never refused there
 
 -- Adding a picture that passes its tests is accepted: there is room for as many colours as it has pixels.
-pub adding-accepted : (p : List ℕ) → first_of (small_rows p) ≡ done → (table_of p).answer.refusal ≡ done
+pub adding-accepted : (p : List ℕ) → first_of (small_rows p) ≡ done → (table_of p).answer.refusal ≡ None
 adding-accepted = accepted.adding-accepted
 
 -- And a run on it is refused by the count or for want of colours alone.
 pub run-refusals : (p : List ℕ) → first_of (small_rows p) ≡ done → Bytes (raster_of p) → (count : ℕ) (n : Refusal)
-    → Given (run_tests p count) n → (n ≡ BAD_COUNT) ⊎ (n ≡ FEW_COLOURS)
+    → Given (run_tests p count) n → (n ≡ BadCount) ⊎ (n ≡ FewColours)
 run-refusals = accepted.run-refusals
 
 -- Where that run is accepted, making the palette of its last groups is accepted.
 pub palette-accepted : (p : List ℕ) (count : ℕ) → first_of (small_rows p) ≡ done → first_of (run_tests p count) ≡ done
-    → (palette_on p count).answer ≡ done
+    → result_err (palette_on p count).answer ≡ None
 palette-accepted = mapped.palette-accepted
 
 -- And mapping the picture to it is refused for twins alone.
 pub mapping-refusals : (p : List ℕ) (count : ℕ) → first_of (small_rows p) ≡ done → first_of (run_tests p count) ≡ done
-    → (n : Refusal) → Given (map_tests p count) n → n ≡ TWIN_SHADE
+    → (n : Refusal) → Given (map_tests p count) n → n ≡ TwinShade
 mapping-refusals = mapped.mapping-refusals
 
 -- So where all its entries differ it is accepted.
 pub mapping-accepted : (p : List ℕ) (count : ℕ) → first_of (small_rows p) ≡ done → first_of (run_tests p count) ≡ done
     → AllDiffer (entries_on p count)
-    → (mapped_raster (raster_of p) (palette_on p count).palette count).answer.refusal ≡ done
+    → refusal_in (mapped_raster (raster_of p) (palette_on p count).palette count).answer ≡ None
 mapping-accepted = mapped.mapping-accepted

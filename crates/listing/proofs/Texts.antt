@@ -1,21 +1,18 @@
 -- The text of what the calls leave: which it is, and that it never is longer than its room.
 use Prim.Native.Nat.{ℕ, zero, suc, ◌+◌, ◌*◌, ◌/◌, ◌≤◌}
-use mathlib.Core.Bool.{Bool, true, false, cond}
 use mathlib.Core.List.{List, [], ◌∷◌}
 use mathlib.Core.Path.{◌≡◌, refl, ap, ◌∙◌}
 use native.Mathlib.Omega.{arith}
-use lib.Dec.{eqb}
 use lib.ListN.{length, take, length-replicate}
-use borrow.Author.Tests.{ne_eqb}
-use Rattle.refusal.specs.{Refusal, number_of, done, Given, NoneHolds}
-use Rattle.refusal.proofs.Outcomes.{outcome-made, outcome-refused}
-use Rattle.refusal.proofs.Promises.{first-exactly, done-exactly, number-not-done}
+use Rattle.std.specs.Prelude.{Result, Ok, Err}
+use Rattle.refusal.specs.{Refusal, number_of, Given, NoneHolds}
+use Rattle.refusal.proofs.By.{refusal-exactly, none-exactly, by-made, by-refused}
 use Rattle.shades.specs.{most_shades}
 use Rattle.texts.specs.{lines_of, with_text}
 use Rattle.texts.proofs.Texts.{text-length}
 use Rattle.listing_lines.specs.{most_text, refused_text}
 use Rattle.listing_lines.proofs.Promises.{refused-most, lines-most}
-use Rattle.listing_work.specs.{Work, work_tests, refused_work, work_run, made_work, work_picture, Fits}
+use Rattle.listing_work.specs.{Work, work_tests, work_picture, Fits, LeftFits}
 use Rattle.listing_work.proofs.Works.{work-refuses}
 use Rattle.listing.specs.Refusals.{count_in, picture_in, input_rows}
 use Rattle.listing.specs.Works.{work_input}
@@ -33,48 +30,34 @@ use Rattle.listing.proofs.Rooms.{input-fits}
 
 -- ---- which text it is
 
--- a refusal's number gives its line
-pub text-refused : (w : Work) → ¬ (w.refusal ≡ done) → work_text w ≡ refused_text w.refusal
-text-refused w some = rw (ne_eqb w.refusal done some)
-
--- no refusal gives the lines
-pub text-lines : (w : Work) → w.refusal ≡ done → work_text w ≡ lines_of (work_lines w)
-text-lines w ok = ap (λ n. cond (eqb n done) (lines_of (work_lines w)) (refused_text n)) ok
-
--- what a refusal leaves has its line
-refusal-line : (n : Refusal) → work_text (refused_work (number_of n)) ≡ refused_text (number_of n)
-refusal-line n = text-refused (refused_work (number_of n)) (number-not-done n)
-
 -- what a row refuses before the run gives its line
 pub input-refused : (s : List ℕ) (n : Refusal) → Given (input_rows s) n → listing_text s ≡ refused_text (number_of n)
 unfolding listing_text work_input
 input-refused s n g =
     ap work_text
-    (outcome-refused (input_rows s) (work_picture (picture_in s) (count_in s)) refused_work n
-    ((first-exactly (input_rows s) n).1 g))
-    ∙ refusal-line n
+    (by-refused (input_rows s) (work_picture (picture_in s) (count_in s)) Err n
+    ((refusal-exactly (input_rows s) n).1 g))
 
 -- where none does it is the picture's text
 pub input-accepted : (s : List ℕ) → NoneHolds (input_rows s) → listing_text s ≡ picture_text (picture_in s) (count_in s)
 unfolding listing_text picture_text work_input
 input-accepted s g =
     ap work_text
-    (outcome-made (input_rows s) (work_picture (picture_in s) (count_in s)) refused_work ((done-exactly (input_rows s)).1 g))
+    (by-made (input_rows s) (work_picture (picture_in s) (count_in s)) Err ((none-exactly (input_rows s)).1 g))
 
 -- what a row of run or mapping refuses gives its line
 pub picture-refused : (p : List ℕ) (count : ℕ) (n : Refusal) → Given (work_tests p count) n
     → picture_text p count ≡ refused_text (number_of n)
 unfolding picture_text
 picture-refused p count n g =
-    ap work_text ((work-refuses p count).by_refusal n ((first-exactly (work_tests p count) n).1 g)) ∙ refusal-line n
+    ap work_text ((work-refuses p count).by_refusal n ((refusal-exactly (work_tests p count) n).1 g))
 
 -- where none of these holds it is the lines
 pub picture-accepted : (p : List ℕ) (count : ℕ) → NoneHolds (work_tests p count)
     → picture_text p count ≡ lines_of (listing_lines p count)
-unfolding picture_text work_run
+unfolding picture_text
 picture-accepted p count g =
-    ap work_text ((work-refuses p count).by_none ((done-exactly (work_tests p count)).1 g))
-    ∙ text-lines (made_work p count) refl
+    ap work_text ((work-refuses p count).by_none ((none-exactly (work_tests p count)).1 g))
 
 -- ---- its length
 
@@ -89,18 +72,15 @@ pub entries-most : {w : Work} → Fits w → length (take (3 * w.shades) w.palet
 entries-most {w} fits = omega (arith, take-most (3 * w.shades) w.palette, fits.few)
 
 -- the text of what fits
-fits-most : {w : Work} → Fits w → length (work_text w) ≤ most_text
-fits-most {w} fits = go (eqb w.refusal done)
-  where
-    go : (t : Bool) → length (cond t (lines_of (work_lines w)) (refused_text w.refusal)) ≤ most_text
-    go true =
-        lines-most w.summary (take (3 * w.shades) w.palette) (take w.pixels w.index) (entries-most fits)
-    go false = refused-most w.refusal
+fits-most : (work : Result Work Refusal) → LeftFits work → length (work_text work) ≤ most_text
+fits-most (Ok w) fits =
+    lines-most w.summary (take (3 * w.shades) w.palette) (take w.pixels w.index) (entries-most fits)
+fits-most (Err n) fits = refused-most (number_of n)
 
 -- the text of every input
 pub text-most : (s : List ℕ) → length (listing_text s) ≤ most_text
 unfolding listing_text
-text-most s = fits-most (input-fits s)
+text-most s = fits-most (work_input s) (input-fits s)
 
 -- the room of a listing is as long as its text may be
 room-length : length text_room ≡ most_text

@@ -1,6 +1,6 @@
 -- The listing of an input, on every input: the text of what is listed.
-use Rattle.std.specs.Prelude.{ℕ, ◌*◌, cond, List, eqb, length, take, replicate}
-use Rattle.refusal.specs.{done}
+use Rattle.std.specs.Prelude.{ℕ, ◌*◌, List, length, take, replicate, Result, Ok, Err}
+use Rattle.refusal.specs.{Refusal, number_of}
 use Rattle.texts.specs.{lines_of, with_text}
 use Rattle.listing_lines.specs.{most_text, refused_text, lines_for}
 use Rattle.listing_work.specs.{Work, made_work, work_picture}
@@ -12,8 +12,9 @@ abbrev pub work_lines : Work → List (List ℕ)
 work_lines w = lines_for w.summary (take (3 * w.shades) w.palette) (take w.pixels w.index)
 
 -- its text: these lines, or that of the refusal
-abbrev pub work_text : Work → List ℕ
-work_text w = cond (eqb w.refusal done) (lines_of (work_lines w)) (refused_text w.refusal)
+abbrev pub work_text : Result Work Refusal → List ℕ
+work_text (Ok w) = lines_of (work_lines w)
+work_text (Err n) = refused_text (number_of n)
 
 -- the lines of a picture and its shades
 abbrev pub listing_lines : List ℕ → ℕ → List (List ℕ)

@@ -1,6 +1,6 @@
 -- When a listing is refused: the count line, the length, the picture's tests, the run's, and the mapping's.
 use Rattle.std.specs.Prelude.{ℕ, ◌+◌, ◌≤◌, Bool, not, ◌&&◌, List, ◌∷◌, ◌++◌, ◌≡◌, ltb, leb, eqb, length, drop}
-use Rattle.refusal.specs.{Row, row, BAD_COUNT, BAD_SIZE}
+use Rattle.refusal.specs.{Row, row, BadCount, BadSize}
 use Rattle.grammar.specs.{byte_at, line_feed, decimal, digits_at, Digits}
 use Rattle.listing_test.specs.{small_rows}
 use Rattle.listing_work.specs.{work_tests}
@@ -39,7 +39,7 @@ long_input s = ltb most_input (length s)
 
 -- the tests before the run, in their order
 abbrev pub input_rows : List ℕ → List Row
-input_rows s = row (bad_line s) BAD_COUNT ∷ row (long_input s) BAD_SIZE ∷ small_rows (picture_in s)
+input_rows s = row (bad_line s) BadCount ∷ row (long_input s) BadSize ∷ small_rows (picture_in s)
 
 -- all tests: those before the run, the run's, and then the mapping's
 abbrev pub listing_rows : List ℕ → List Row

@@ -2,52 +2,48 @@
 ghost use Rattle.std.specs.Prelude.{◌≡◌, ◌≤◌, length};
 ghost use Rattle.texts.specs.{PutMeets};
 ghost use Rattle.listing_lines.specs.{most_text};
-ghost use Rattle.listing_work.specs.{Fits};
+ghost use Rattle.listing_work.specs.{LeftFits};
 ghost use Rattle.listing.specs.Works.{work_input};
 ghost use Rattle.listing.specs.Listings.{work_text, listing_of};
 
 use super::{Listing, MOST_INPUT};
-use grammar::Reading;
+use grammar::Numeral;
 use listing_test::picture_refusal;
-use listing_work::{Work, refused, work_picture};
-use refusal::{BAD_COUNT, BAD_SIZE, DONE};
+use listing_work::{Work, work_picture};
+use refusal::Refusal;
 
 // Makes every call on an input: the tests of the count line, of the length and of the picture, and
 // then the calls on the picture.
-fn work_input(input: &[u8]) -> Work
+fn work_input(input: &[u8]) -> Result<Work, Refusal>
     ensures { result ≡ work_input input.now }
 {
-    let reading = grammar::number(input, 0);
-    let Reading::Number { value: count, next } = reading else {
-        return refused(BAD_COUNT);
+    let Ok(Numeral { value: count, next }) = grammar::number(input, 0) else {
+        return Err(Refusal::BadCount);
     };
     if 2 < next {
-        return refused(BAD_COUNT);
+        return Err(Refusal::BadCount);
     }
     if grammar::byte_at(input, next) != b'\n' {
-        return refused(BAD_COUNT);
+        return Err(Refusal::BadCount);
     }
     if MOST_INPUT < input.len() {
-        return refused(BAD_SIZE);
+        return Err(Refusal::BadSize);
     }
     let picture = &input[next + 1..];
-    let number = picture_refusal(picture);
-    if number != DONE {
-        return refused(number);
-    }
+    picture_refusal(picture)?;
     work_picture(picture, count as usize)
 }
 
-// Writes the text of what the calls left. Requires at most 64 shades, with their palette and the
-// index picture, and room.
-fn write_work(work: Work, out: &mut [u8]) -> usize
-    requires { Fits work × (most_text ≤ length out.old) }
+// Writes the text of what the calls left: the lines, or that of the refusal. Requires at most 64
+// shades, with their palette and the index picture, and room.
+fn write_work(work: Result<Work, Refusal>, out: &mut [u8]) -> usize
+    requires { LeftFits work × (most_text ≤ length out.old) }
     ensures { PutMeets 0 (work_text work) out.old result out.new }
 {
-    let number = work.refusal;
-    if number != DONE {
-        return listing_lines::put_refusal(out, number);
-    }
+    let work = match work {
+        Ok(work) => work,
+        Err(refusal) => return listing_lines::put_refusal(out, u8::from(refusal)),
+    };
     let summary = work.summary;
     let palette = work.palette;
     let index = work.index;

@@ -7,8 +7,8 @@
 //                 picture's own, 12, 13 (also for more than 8,192 pixels), 14, 15, the run's, 4
 //                 and 5, and the mapping's, 18 TWIN SHADE where two shades have one entry.
 // First every call is made: the tests of the count line in call.rt, those of a picture in the crate
-// listing_test, table, run, palette and mapping in listing_work. What they leave is a Work: a
-// refusal's number, or all that the lines tell. Then the crate listing_lines writes it.
+// listing_test, table, run, palette and mapping in listing_work. What they leave is a Work, which
+// has all that the lines tell, or a refusal. Then the crate listing_lines writes it.
 //
 // Read next: specs/Lib.antt (what the words mean), proofs/Promises.antt (what is shown).
 

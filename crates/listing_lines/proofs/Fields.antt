@@ -88,7 +88,8 @@ module _ (s : Summary) (palette index : List ℕ) where
   lines-count = omega (arith, length-append rows ((s.error ∷ []) ∷ []), rows-count k palette (mapped_to index))
 
   -- the line behind that of shade q - 1 is that of shade q
-  pub shade-line : (q j : ℕ) → q < k → field_at lines (suc q) j ≡ get_or (shade_fields palette q (mapped_to index q)) j 0
+  pub shade-line : (q j : ℕ) → q < k → field_at lines (suc q) j ≡ get_or (shade_fields palette q (mapped_to index q)) j
+      0
   shade-line q j h = ap (λ l. get_or l j 0) (rows_at k q palette (mapped_to index) ((s.error ∷ []) ∷ []) h)
 
   -- the pixels of the shades add up to the places of an index picture that has numbers of shades alone

@@ -1,10 +1,13 @@
 -- The lines of the shades, and all lines: how they are put one behind the other, and how long they are.
 use Prim.Native.Nat.{ℕ, zero, suc, ◌+◌, ◌*◌, ◌/◌, ◌≤◌, ◌<◌}
 use mathlib.Core.List.{List, [], ◌∷◌, ◌++◌}
-use mathlib.Core.Path.{◌≡◌, refl, ap, subst}
+use mathlib.Core.Path.{◌≡◌, refl, ap, ◌∙◌, subst}
 use native.Mathlib.Numerals.{add-one}
 use native.Mathlib.Omega.{arith}
-use lib.ListN.{get_or, length, length-append}
+use lib.ListN.{get_or, length, take, length-append}
+use lib.Seq.{length-take-le}
+use Rattle.number.specs.{fill}
+use Rattle.number.proofs.Fills.{fill-length, fill-at}
 use Rattle.shades.specs.{most_shades}
 use Rattle.texts.specs.{line_of, lines_of, PutMeets}
 use Rattle.texts.proofs.Texts.{put_then, bytes-start}
@@ -47,12 +50,28 @@ rows_same zero palette f g e = refl
 rows_same (suc k) palette f g e =
     rw (rows_same k palette f g (λ q h. e q (omega arith)), e k (omega arith))
 
+-- ---- the counts of the shades, in front of some room
+
+-- filled with the pixels of the first k shades, they are k and each is that of its shade
+pub counts-of : (k : ℕ) (index room counts : List ℕ) → k ≤ length room
+    → counts ≡ fill (length (take k room)) (mapped_to index) (take k room)
+    → (length counts ≡ k) × ((q : ℕ) → q < k → get_or counts q 0 ≡ mapped_to index q)
+counts-of k index room counts h e =
+    let n = length-take-le k room h in
+    let f = mapped_to index in (
+      ap length e ∙ fill-length (length (take k room)) f (take k room) ∙ n,
+      λ q l.
+          ap (λ c. get_or c q 0) e
+          ∙ fill-at (length (take k room)) q f (take k room) (omega (arith, n)) (omega (arith, n)),
+    )
+
 -- ---- all lines
 
 -- line 1, the lines of the shades with counts that are those of the index picture, and the error are all lines
 pub lines-put : (s : Summary) (palette index : List ℕ) (f : ℕ → ℕ) {a b r : ℕ} {d x y z : List ℕ}
     → ((q : ℕ) → q < length palette / 3 → f q ≡ mapped_to index q) → PutMeets 0 (line_of (head_fields s)) d a x
-    → PutMeets a (lines_of (shade_rows (length palette / 3) palette f)) x b y → PutMeets b (line_of (s.error ∷ [])) y r z
+    → PutMeets a (lines_of (shade_rows (length palette / 3) palette f)) x b y
+    → PutMeets b (line_of (s.error ∷ [])) y r z
     → PutMeets 0 (lines_of (lines_for s palette index)) d r z
 lines-put s palette index f {a} {b} {x = x} {y = y} e head rows last =
     let k = length palette / 3 in

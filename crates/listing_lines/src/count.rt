@@ -1,5 +1,5 @@
 // The pixels mapped to each shade, counted in the index picture.
-ghost use Rattle.std.specs.Prelude.{◌≡◌, ◌≤◌, length};
+ghost use Rattle.std.specs.Prelude.{◌≡◌, length};
 ghost use Rattle.number.specs.{fill};
 ghost use Rattle.listing_lines.specs.Texts.{mapped_to};
 
@@ -7,28 +7,17 @@ ghost use Rattle.listing_lines.specs.Texts.{mapped_to};
 fn count_of(index: &[u8], q: usize) -> u64
     ensures { result ≡ mapped_to index.now q }
 {
-    let n = index.len();
-    let mut count: u64 = 0;
-    let mut i = 0;
-    while i < n {
-        if index[i] as usize == q {
-            count += 1;
-        }
-        i += 1;
-    }
-    count
+    index
+        .iter()
+        .filter(|number| usize::from(**number) == q)
+        .count() as u64
 }
 
-// The counts of the first `shades` shades, into the front of `counts`, the rest of which stays.
-// Requires room.
-pub fn count_shades(index: &[u8], shades: usize, counts: &mut [u64])
-    requires { shades ≤ length counts.old }
-    ensures { counts.new
-        ≡ fill shades (mapped_to index.now) counts.old }
+// The counts of the first shades, one for each place of `counts`.
+pub fn count_shades(index: &[u8], counts: &mut [u64])
+    ensures { counts.new ≡ fill (length counts.old) (mapped_to index.now) counts.old }
 {
-    let mut q = 0;
-    while q < shades {
-        counts[q] = count_of(index, q);
-        q += 1;
+    for (q, count) in counts.iter_mut().enumerate() {
+        *count = count_of(index, q);
     }
 }

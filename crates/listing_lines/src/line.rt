@@ -20,21 +20,20 @@ fn put_line(out: &mut [u8], at: usize, fields: &[u64]) -> usize
 {
     let last = fields.len() - 1;
     let mut a = at;
-    let mut i = 0;
-    while i < last {
-        a = texts::put_field(out, a, fields[i]);
-        i += 1;
+    for field in &fields[..last] {
+        a = texts::put_field(out, a, *field);
     }
     texts::put_last(out, a, fields[last])
 }
 
-// Puts the one line of a refusal. Requires room for it.
+// Puts the one line of a refusal, by its number, which is all that the line tells. Requires room
+// for it.
 pub fn put_refusal(out: &mut [u8], number: u8) -> usize
     requires { most_line ≤ length out.old }
     ensures { PutMeets 0 (refused_text number) out.old result out.new }
 {
     let a = texts::put_word(out, 0, b"refused ");
-    texts::put_last(out, a, number as u64)
+    texts::put_last(out, a, u64::from(number))
 }
 
 // Puts line 1: table colours, pixels, rounds, settled, final total, distances. Requires room.
@@ -64,9 +63,9 @@ pub fn put_shade(out: &mut [u8], at: usize, palette: &[u8], q: usize, pixels: u6
     let i = 3 * q;
     let fields = [
         q as u64,
-        palette[i] as u64,
-        palette[i + 1] as u64,
-        palette[i + 2] as u64,
+        u64::from(palette[i]),
+        u64::from(palette[i + 1]),
+        u64::from(palette[i + 2]),
         pixels,
     ];
     put_line(out, at, &fields)

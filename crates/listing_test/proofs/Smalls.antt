@@ -1,51 +1,41 @@
 -- The tests of a picture that is to be listed, from its header and what p6 answers.
-use Prim.Native.Nat.{ℕ, ◌*◌, ◌/◌, ◌%◌, ◌≤◌, ◌<◌}
-use mathlib.Core.Bool.{true, false}
+use Prim.Native.Nat.{ℕ, ◌*◌, ◌/◌, ◌%◌, ◌≤◌}
+use mathlib.Core.Bool.{false}
 use mathlib.Core.List.{List}
 use mathlib.Core.Path.{◌≡◌, ◌∙◌}
 use native.Mathlib.Omega.{arith}
 use lib.ListN.{length}
-use borrow.Author.Tests.{lt-ltb, le-ltb, ltb-false}
+use borrow.Author.Tests.{le-ltb, ltb-false}
 use Rattle.number.proofs.Cases.{neither}
-use Rattle.refusal.specs.{number_of, done, first_of, BAD_HEADER, BAD_SIZE}
+use Rattle.refusal.specs.{done, first_of, first_refusal}
 use Rattle.refusal.proofs.Promises.{done-exactly}
-use Rattle.p6_header.specs.{header_of}
-use Rattle.p6_header.specs.declared.Header.TheVariants.{Read, Bad}
+use Rattle.p6_header.specs.{header_with, header_of}
 use Rattle.p6.specs.{
   width_in,
   height_in,
   bad_size,
+  refusal_in,
+  made_picture,
   read_picture,
   raster_of,
 }
 use Rattle.p6.proofs.Meaning.{picture-refuses, raster-length}
 use Rattle.listing_test.specs.Refusals.{most_listed, small_rows}
 
--- a header that fails is BAD HEADER
-pub small-bad-header : (p : List ℕ) (at : ℕ) → header_of p ≡ Bad at → first_of (small_rows p) ≡ number_of BAD_HEADER
-small-bad-header p at e = rw e
-
-module _ (p : List ℕ) (w h d n : ℕ) (e : header_of p ≡ Read w h d n) where
-  -- a size out of range is BAD SIZE
-  pub small-bad-size : bad_size w h ≡ true → first_of (small_rows p) ≡ number_of BAD_SIZE
-  small-bad-size t = rw (e, t)
-
-  -- and so are more than 8,192 pixels
-  pub small-over : bad_size w h ≡ false → most_listed < w * h → first_of (small_rows p) ≡ number_of BAD_SIZE
-  small-over t over = rw (e, t, lt-ltb most_listed (w * h) over)
-
-  -- else it is as p6 answers
-  pub small-rest : bad_size w h ≡ false → w * h ≤ most_listed → (read_picture p).refusal ≡ first_of (small_rows p)
-  small-rest t few = (picture-refuses p).number_is ∙ rw (e, t, le-ltb most_listed (w * h) few)
+-- past the tests of the header and the size it is as p6 answers
+pub small-rest : (p : List ℕ) (w h d n : ℕ) → header_of p ≡ header_with w h d n → bad_size w h ≡ false
+    → w * h ≤ most_listed → refusal_in (read_picture p) ≡ first_refusal (small_rows p)
+small-rest p w h d n e t few = (picture-refuses p).refusal_is ∙ rw (e, t, le-ltb most_listed (w * h) few)
 
 module _ (p : List ℕ) (e : first_of (small_rows p) ≡ done) where
   -- a picture that passes is accepted
-  pub small-accepted : (read_picture p).refusal ≡ done
+  pub small-accepted : read_picture p ≡ made_picture p
   small-accepted =
       let none = (done-exactly (small_rows p)).0 e in
       let h = header_of p in
       let size = neither (bad_size (width_in h) (height_in h)) _ none.1.0 in
-      (picture-refuses p).accepted_exactly.1 (none.0, (size.0, (none.1.1.0, (none.1.1.1.0, tt))))
+      (picture-refuses p).accepted_is
+      ((picture-refuses p).accepted_exactly.1 (none.0, (size.0, (none.1.1.0, (none.1.1.1.0, tt)))))
 
   -- its raster has three bytes for each pixel, which are at most 8,192
   raster-is : (length (raster_of p) ≡ 3 * (width_in (header_of p) * height_in (header_of p)))
@@ -53,18 +43,16 @@ module _ (p : List ℕ) (e : first_of (small_rows p) ≡ done) where
   raster-is =
       let none = (done-exactly (small_rows p)).0 e in
       let h = header_of p in
-      let size = neither (bad_size (width_in h) (height_in h)) _ none.1.0 in (
-        rw ((picture-refuses p).accepted_is small-accepted) at (raster-length p small-accepted),
-        ltb-false most_listed (width_in h * height_in h) size.1,
-      )
+      let size = neither (bad_size (width_in h) (height_in h)) _ none.1.0 in
+      (raster-length p small-accepted, ltb-false most_listed (width_in h * height_in h) size.1)
 
   -- so it has at most 8,192 pixels
   pub small-raster : length (raster_of p) / 3 ≤ most_listed
   small-raster = omega (arith, raster-is.0, raster-is.1)
 
   -- as many as its sides say
-  pub small-pixels : length (raster_of p) / 3 ≡ (read_picture p).width * (read_picture p).height
-  small-pixels = omega (arith, raster-length p small-accepted)
+  pub small-pixels : length (raster_of p) / 3 ≡ width_in (header_of p) * height_in (header_of p)
+  small-pixels = omega (arith, raster-is.0)
 
   -- and whole ones
   pub small-whole : length (raster_of p) % 3 ≡ 0

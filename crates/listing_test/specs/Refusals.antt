@@ -1,6 +1,6 @@
 -- When a picture that is to be listed is refused.
 use Rattle.std.specs.Prelude.{ℕ, ◌-◌, ◌*◌, ◌||◌, List, [], ◌∷◌, ltb, length}
-use Rattle.refusal.specs.{Row, row, BAD_HEADER, BAD_SIZE, BAD_DEPTH, BAD_RASTER}
+use Rattle.refusal.specs.{Row, row, BadHeader, BadSize, BadDepth, BadRaster}
 use Rattle.p6_header.specs.{header_of}
 use Rattle.p6.specs.{width_in, height_in, depth_in, start_in, bad_header, bad_size, bad_depth, bad_raster}
 
@@ -12,8 +12,8 @@ most_listed = 8192
 abbrev pub small_rows : List ℕ → List Row
 small_rows p =
     let h = header_of p in
-    row (bad_header p) BAD_HEADER
-    ∷ row (bad_size (width_in h) (height_in h) || ltb most_listed (width_in h * height_in h)) BAD_SIZE
-    ∷ row (bad_depth (depth_in h)) BAD_DEPTH
-    ∷ row (bad_raster (width_in h) (height_in h) (length p - start_in h)) BAD_RASTER
+    row (bad_header p) BadHeader
+    ∷ row (bad_size (width_in h) (height_in h) || ltb most_listed (width_in h * height_in h)) BadSize
+    ∷ row (bad_depth (depth_in h)) BadDepth
+    ∷ row (bad_raster (width_in h) (height_in h) (length p - start_in h)) BadRaster
     ∷ []

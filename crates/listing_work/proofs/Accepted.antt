@@ -8,8 +8,9 @@ use native.Mathlib.Omega.{arith}
 use lib.Dec.{eqb}
 use lib.ListN.{length}
 use borrow.Author.Tests.{lt-leb, le-ltb}
+use Rattle.std.specs.Prelude.{None}
 use Rattle.number.specs.{sum}
-use Rattle.refusal.specs.{Refusal, done, first_of, Given, BAD_COUNT, FEW_COLOURS}
+use Rattle.refusal.specs.{Refusal, done, first_of, Given, BadCount, FewColours}
 use Rattle.colour.specs.{Bytes, bad_strip, most_pixels}
 use Rattle.colour.proofs.Strips.{whole-exactly}
 use Rattle.table_entries.specs.{Entry, pixels_of, weight_of, stops, taken_of, strip_keys, put, with_taken}
@@ -68,7 +69,7 @@ module _ (p : List ℕ) (ok : first_of (small_rows p) ≡ done) where
   raster-whole = (whole-exactly (raster_of p)).1 (small-whole p ok)
 
   -- adding it is never refused: there is room for as many colours as it has pixels
-  pub adding-accepted : (table_of p).answer.refusal ≡ done
+  pub adding-accepted : (table_of p).answer.refusal ≡ None
   adding-accepted =
       let s = raster_of p in
       let whole = small-whole p ok in
@@ -89,27 +90,31 @@ module _ (p : List ℕ) (ok : first_of (small_rows p) ≡ done) where
   module _ (bytes : Bytes (raster_of p)) (count : ℕ) where
     -- the table is good
     table-good : GoodTable (table_of p).answer.rec (table_of p).keys (table_of p).weights
-    table-good = stays-good empty_record listed_zeros listed_zeros (raster_of p) bytes (empty-good listed_zeros listed_zeros)
+    table-good = stays-good empty_record listed_zeros listed_zeros (raster_of p) bytes
+        (empty-good listed_zeros listed_zeros)
 
     -- it has at most 8,192 entries
     pub few-entries : (table_of p).answer.rec.used ≤ most_listed
     few-entries =
         let s = raster_of p in
-        let good = (bad-table-exactly empty_record listed_zeros listed_zeros).1 (empty-good listed_zeros listed_zeros) in
+        let good = (bad-table-exactly empty_record listed_zeros listed_zeros).1 (empty-good listed_zeros listed_zeros)
+        in
         let after = after-taken empty_record listed_zeros listed_zeros s raster-whole good in
-        let used : (table_of p).answer.rec.used ≡ length (with_taken (room_of listed_zeros listed_zeros) [] (strip_keys s)) =
+        let used : (table_of p).answer.rec.used ≡ length (with_taken (room_of listed_zeros listed_zeros) []
+        (strip_keys s)) =
         ap (λ (r : Record). r.used) after.1 ∙ ap (λ (es : List Entry). length es) after.0 in
         let room = (taken-within-limits (room_of listed_zeros listed_zeros) [] (byte-keys s bytes) refl (omega arith)
         (omega arith)).0 in
         omega (arith, used, room, room-is)
 
     -- so there is a member for each, and a total for each of 20 rounds
-    room-enough : (short_members (table_of p).answer.rec listed_zeros || short_totals listed_limit listed_totals) ≡ false
+    room-enough : (short_members (table_of p).answer.rec listed_zeros || short_totals listed_limit listed_totals) ≡
+        false
     room-enough =
         rw ((short-members-exactly (table_of p).answer.rec listed_zeros).1 (omega (arith, few-entries, zeros-length)))
 
     -- so a run on it is refused by the count or for want of colours alone
-    pub run-refusals : (n : Refusal) → Given (run_tests p count) n → (n ≡ BAD_COUNT) ⊎ (n ≡ FEW_COLOURS)
+    pub run-refusals : (n : Refusal) → Given (run_tests p count) n → (n ≡ BadCount) ⊎ (n ≡ FewColours)
     run-refusals n (inl (t, e)) = never (sym t ∙ (bad-table-exactly _ _ _).1 table-good)
     run-refusals n (inr (f, inl (t, e))) = inl (sym e)
     run-refusals n (inr (f, inr (g, inl (t, e)))) = inr (sym e)

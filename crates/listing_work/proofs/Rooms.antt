@@ -7,9 +7,9 @@ use native.Mathlib.Omega.{arith}
 use lib.ListN.{length, take, replicate, length-replicate}
 use Rattle.number.proofs.Fills.{fill-length}
 use Rattle.number.proofs.Parts.{from-length}
-use Rattle.refusal.specs.{number_of, done, first_of}
-use Rattle.refusal.proofs.Promises.{done-or-refusal}
-use Rattle.refusal.proofs.Outcomes.{refuses-all}
+use Rattle.std.specs.Prelude.{None}
+use Rattle.refusal.specs.{done, first_of}
+use Rattle.refusal.proofs.By.{none-or-some, to-number, refuses-by-all}
 use Rattle.shades.specs.{most_coordinates}
 use Rattle.method.specs.{State, front_of}
 use Rattle.table.specs.{Record}
@@ -24,14 +24,15 @@ use Rattle.listing_work.specs.Works.{
   listed_zeros,
   table_of,
   run_on,
+  ran_on,
   run_tests,
   palette_on,
   work_tests,
-  refused_work,
   work_run,
   made_work,
   work_picture,
   Fits,
+  LeftFits,
 }
 use Rattle.listing_work.proofs.Works.{work-refuses, run-passed, run-count}
 
@@ -46,25 +47,21 @@ zeros-length = length-replicate {A = ℕ} most_listed 0
 pub palette-length : (rec : Record) (ks ws : List ℕ) (a : State) (d : List ℕ)
     → length (palette_from_groups rec ks ws a d).palette ≡ length d
 palette-length rec ks ws a d =
-    refuses-all (groups-refuses rec ks ws a d) (λ o. length o.palette ≡ length d) (fill-length _ _ d) (λ n. refl)
+    refuses-by-all (groups-refuses rec ks ws a d) (λ o. length o.palette ≡ length d) (fill-length _ _ d) (λ n. refl)
 
 -- so that of a picture has three bytes for each of 64 shades
 pub picture-palette-length : (p : List ℕ) (count : ℕ) → length (palette_on p count).palette ≡ most_coordinates
 picture-palette-length p count =
     palette-length (table_of p).answer.rec (table_of p).keys (table_of p).weights
-    (front_of count (left (run_on p count).answer (run_on p count).members)) (replicate most_coordinates 0)
+    (front_of count (left (ran_on p count) (run_on p count).members)) (replicate most_coordinates 0)
     ∙ length-replicate {A = ℕ} most_coordinates 0
 
 -- the index picture stays as long as it is lent
 pub index-length : (s p d : List ℕ) (a : ℕ) → length (map_strip s p d a).index ≡ length d
 index-length s p d a =
-    refuses-all (map-refuses s p d a) (λ o. length o.index ≡ length d) (from-length a (length s / 3) _ d) (λ n. refl)
+    refuses-by-all (map-refuses s p d a) (λ o. length o.index ≡ length d) (from-length a (length s / 3) _ d) (λ n. refl)
 
 -- ---- what is left fits
-
--- a refusal leaves no shade and no pixel
-pub refused-fits : (n : ℕ) → Fits (refused_work n)
-refused-fits n = record { few = omega arith; palette = omega arith; index = omega arith }
 
 -- an accepted run on a picture of at most 8,192 pixels leaves at most 64 shades, and slices that are as long as lent
 made-fits : (p : List ℕ) (count : ℕ) → first_of (run_tests p count) ≡ done → length (raster_of p) / 3 ≤ most_listed
@@ -81,8 +78,10 @@ made-fits p count ok small =
     }
 
 -- a picture of at most 8,192 pixels
-pub picture-fits : (p : List ℕ) (count : ℕ) → length (raster_of p) / 3 ≤ most_listed → Fits (work_picture p count)
-picture-fits p count small = elim (done-or-refusal (work_tests p count)) [
-  | inl e ↦ rw ((work-refuses p count).by_none e) (made-fits p count (run-passed p count e) small)
-  | inr g ↦ rw ((work-refuses p count).by_refusal g.0 g.1) (refused-fits (number_of g.0))
+pub picture-fits : (p : List ℕ) (count : ℕ) → length (raster_of p) / 3 ≤ most_listed → LeftFits (work_picture p count)
+picture-fits p count small = elim (none-or-some (work_tests p count)) [
+  | inl e ↦
+      rw ((work-refuses p count).by_none e)
+      (made-fits p count (run-passed p count (to-number (work_tests p count) None e)) small)
+  | inr g ↦ rw ((work-refuses p count).by_refusal g.0 g.1) tt
 ]

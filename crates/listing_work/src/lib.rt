@@ -4,8 +4,7 @@
 // Calls; none requires anything of its caller
 //   work_picture   the calls on a picture. Refuses what the run   picture.rt
 //                  refuses, and then what the mapping refuses.
-//   refused        what a refusal leaves: its number and zeros
-// What they leave is a Work: a refusal's number, or all that the lines of a listing tell.
+// What they leave is a Work, all that the lines of a listing tell, or a refusal.
 //
 // Read next: specs/Lib.antt (what the words mean), proofs/Lib.antt (what is shown).
 #![tactic(auto)]
@@ -14,17 +13,15 @@ use listing_lines::Summary;
 
 mod picture;
 
-pub use picture::{refused, work_picture};
+pub use picture::work_picture;
 
 // The round limit of a listed run.
 pub const LISTED_LIMIT: usize = 20;
 
-// What the calls leave: 0 or the refusal's number; what the lines tell besides the shades; how many
-// shades there are, and their palette; how many pixels, and their index picture. Zeros stand behind
-// both, and a refusal leaves zeros.
+// What the calls leave: what the lines tell besides the shades; how many shades there are, and
+// their palette; how many pixels, and their index picture. Zeros stand behind both.
 #[derive(Clone, Copy)]
 pub struct Work {
-    pub refusal: u8,
     pub summary: Summary,
     pub shades: usize,
     pub palette: [u8; 192],

@@ -1,37 +1,14 @@
 // The calls on a picture: its table, the run, the palette of its groups, and the mapping.
 ghost use Rattle.std.specs.Prelude.{◌≡◌, ◌*◌, ◌≤◌, length};
 ghost use Rattle.shades.specs.{most_shades};
-ghost use Rattle.listing_work.specs.Works.{refused_work, left_run, work_picture};
+ghost use Rattle.listing_work.specs.Works.{left_run, work_picture};
 
 use super::{LISTED_LIMIT, Work};
 use listing_lines::Summary;
 use lloyd::Ran;
 use palette_groups::palette_from_groups;
-use refusal::DONE;
+use refusal::Refusal;
 use table::Record;
-
-// What a refusal leaves: its number and zeros.
-pub fn refused(number: u8) -> Work
-    ensures { result ≡ refused_work number }
-{
-    let summary = Summary {
-        used: 0,
-        pixels: 0,
-        rounds: 0,
-        settled: 0,
-        total: 0,
-        distances: 0,
-        error: 0,
-    };
-    Work {
-        refusal: number,
-        summary,
-        shades: 0,
-        palette: [0u8; 192],
-        pixels: 0,
-        index: [0u8; 8192],
-    }
-}
 
 // The palette of the groups that a run on a table leaves in its members, the raster mapped to it,
 // and what is told of both and of the table. Refuses what the mapping refuses. Requires at most 64
@@ -44,7 +21,7 @@ fn work_run(
     ran: Ran,
     members: &[u32],
     count: usize,
-) -> Work
+) -> Result<Work, Refusal>
     requires { (count ≤ most_shades) × (3 * count ≤ length ran.shades) }
     ensures { result ≡ left_run raster.now rec keys.now
         weights.now ran members.now count }
@@ -52,13 +29,13 @@ fn work_run(
     let shades = ran.shades;
     let n = 3 * count;
     let mut palette = [0u8; 192];
-    palette_from_groups(rec, keys, weights, &shades[..n], members, &mut palette);
+    // The palette of a run that is made is never refused.
+    let _ = palette_from_groups(rec, keys, weights, &shades[..n], members, &mut palette);
     let mut index = [0u8; 8192];
-    let mapped = mapping::map_strip(raster, &palette[..n], &mut index, 0);
-    let number = mapped.refusal;
-    if number != DONE {
-        return refused(number);
-    }
+    let error = match mapping::map_strip(raster, &palette[..n], &mut index, 0) {
+        Ok(mapped) => mapped.error,
+        Err(unmapped) => return Err(unmapped.refusal),
+    };
     let summary = Summary {
         used: rec.used as u64,
         pixels: rec.pixels,
@@ -66,22 +43,21 @@ fn work_run(
         settled: bits::bit(ran.settled) as u64,
         total: ran.total,
         distances: ran.distances,
-        error: mapped.error,
+        error,
     };
-    Work {
-        refusal: DONE,
+    Ok(Work {
         summary,
         shades: count,
         palette,
         pixels: raster.len() / 3,
         index,
-    }
+    })
 }
 
 // Makes the calls on a picture: its table is filled, a run of at most 20 rounds made, and the
 // picture mapped to the palette of its last groups. Refuses what the run refuses, and then what the
 // mapping refuses: of a picture that is listed, two shades with one entry.
-pub fn work_picture(picture: &[u8], count: usize) -> Work
+pub fn work_picture(picture: &[u8], count: usize) -> Result<Work, Refusal>
     ensures { result ≡ work_picture picture.now count }
 {
     let raster = p6::raster_of(picture);
@@ -106,10 +82,6 @@ pub fn work_picture(picture: &[u8], count: usize) -> Work
         LISTED_LIMIT,
         &mut members,
         &mut totals,
-    );
-    let number = ran.refusal;
-    if number != DONE {
-        return refused(number);
-    }
+    )?;
     work_run(raster, rec, &keys, &weights, ran, &members, count)
 }

@@ -116,7 +116,7 @@ module _ {rec : Record} {ks ws : List ℕ} {k limit : ℕ} {ms ts : List ℕ} {r
   -- it is one by its rule
   pub by-mean : AcceptedBy (run_with to_mean rec ks ws k limit ms ts) r members totals
   unfolding run_of
-  by-mean = record { meets = h.meets; accepted = h.accepted }
+  by-mean = record { meets = h.meets }
 
   -- its tests failed
   pub tests : RunGood rec ks ws k limit ms ts
@@ -134,7 +134,7 @@ module _ {rec : Record} {ks ws : List ℕ} {k limit : ℕ} {ms ts : List ℕ} {r
   -- it is one by its rule
   pub by-leaps : AcceptedBy (run_with leap_to rec ks ws k limit ms ts) r members totals
   unfolding jancey_run
-  by-leaps = record { meets = h.meets; accepted = h.accepted }
+  by-leaps = record { meets = h.meets }
 
   -- its tests failed
   pub jancey-tests : RunGood rec ks ws k limit ms ts

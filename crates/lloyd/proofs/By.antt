@@ -3,9 +3,10 @@ use Prim.Native.Nat.{ℕ}
 use mathlib.Core.Bool.{Bool}
 use mathlib.Core.List.{List}
 use mathlib.Core.Path.{◌≡◌, refl, sym, ap, ◌∙◌}
-use borrow.Author.Tests.{ne_eqb}
-use Rattle.refusal.specs.{Row, done, first_of, Refuses}
-use Rattle.refusal.proofs.Outcomes.{refuses}
+use Rattle.std.specs.Prelude.{Ok, None}
+use Rattle.std.specs.Result.{result_err}
+use Rattle.refusal.specs.{Row, first_refusal, RefusesBy}
+use Rattle.refusal.proofs.By.{refuses_by}
 use Rattle.colour.specs.{Within, most_coordinate}
 use Rattle.method.specs.{Rule, GoodRule, Base, Colours, State, colours_of, begin_from, final_of}
 use Rattle.method.proofs.Begins.{begin-from-fit}
@@ -13,7 +14,7 @@ use Rattle.method.proofs.Sizes.{fair-of-table}
 use Rattle.rounds_many.specs.{SeriesMeets}
 use Rattle.rounds.specs.{Runnable}
 use Rattle.lloyd_tests.specs.{limit_of}
-use Rattle.lloyd.specs.Outcomes.{RunOutcome, RunMeets, AcceptedBy, refused_run, kept_run, made_run, run_by}
+use Rattle.lloyd.specs.Outcomes.{RunOutcome, RunMeets, AcceptedBy, kept_run, made_run, run_by}
 use Rattle.lloyd.specs.declared.Ran.{Ran}
 use Rattle.lloyd.proofs.Made.{Making}
 
@@ -22,49 +23,43 @@ module _ (rows : List Row) (rule : Rule) (B : Base) (C : Colours) (k limit : ℕ
   abbrev made : RunOutcome
   made = made_run rule C k (limit_of limit) (begin_from B C k ms) ts
 
-  -- it refuses by the rows: it is made, or its number and zeros, and no slice changes
-  pub by-refuses : Refuses rows (run_by rows rule B C k limit ms ts) (λ o. o.answer.refusal) made (kept_run ms ts)
-  by-refuses = refuses _ _ _ _ refl (λ n. refl)
-
-  -- the contract where it is refused
-  pub by-meets-refused : (n : ℕ) (r : Ran) → n ≡ first_of rows → ¬ (n ≡ done) → r ≡ refused_run n
-      → RunMeets (run_by rows rule B C k limit ms ts) r ms ts
-  by-meets-refused n r e some is =
-      rw (sym e, ne_eqb n done some) (record { answer = is; members_are = refl; totals_are = refl })
+  -- it refuses by the rows: it is made, or its error, and no slice changes
+  pub by-refuses : RefusesBy rows (run_by rows rule B C k limit ms ts) (λ o. result_err o.answer) made (kept_run ms ts)
+  by-refuses = refuses_by _ _ _ _ refl (λ n. refl)
 
   -- the contract where it is made
   pub by-meets-made : (z : State) (totals : List ℕ) (rounds : ℕ) (settled : Bool) (distances total : ℕ) (r : Ran)
-      → first_of rows ≡ done
+      → first_refusal rows ≡ None
       → SeriesMeets rule C k (limit_of limit) (begin_from B C k ms) z ts totals rounds settled distances
       → total ≡ final_of C z
       → r ≡ record {
-        refusal = done;
         shades = z.coordinates;
         rounds = rounds;
         settled = settled;
         distances = distances;
         total = total;
       }
-      → RunMeets (run_by rows rule B C k limit ms ts) r z.members totals
+      → RunMeets (run_by rows rule B C k limit ms ts) (Ok r) z.members totals
   by-meets-made z totals rounds settled distances total r e m t is =
       rw (by-refuses.by_none e)
       (record {
-        answer = is ∙ rw (t, m.state, m.rounds_is, m.settled_is, m.distances_is);
+        answer = ap Ok (is ∙ rw (t, m.state, m.rounds_is, m.settled_is, m.distances_is));
         members_are = ap (λ (y : State). y.members) m.state;
         totals_are = m.totals_is;
       })
 
 -- the outcome of what is accepted is accepted
 pub accepted-done : {o : RunOutcome} {r : Ran} {members totals : List ℕ} → AcceptedBy o r members totals
-    → o.answer.refusal ≡ done
-accepted-done h = ap (λ (x : Ran). x.refusal) (sym h.meets.answer) ∙ h.accepted
+    → result_err o.answer ≡ None
+accepted-done h = ap result_err (sym h.meets.answer)
 
 -- an accepted run on a table is made, where its rule is good and its given shades are on the grid
 pub making-by : {used : ℕ} {ks ws : List ℕ} (rows : List Row) (rule : Rule) (B : Base) {k : ℕ} (limit : ℕ)
     {ms ts : List ℕ} {r : Ran} {members totals : List ℕ}
     → AcceptedBy (run_by rows rule B (colours_of used ks ws) k limit ms ts) r members totals
     → Runnable used ks ws k (limit_of limit) ms ts → GoodRule rule → ((q : ℕ) → Within most_coordinate (B.at q))
-    → Making rule (colours_of used ks ws) k (limit_of limit) (begin_from B (colours_of used ks ws) k ms) ts r members totals
+    → Making rule (colours_of used ks ws) k (limit_of limit) (begin_from B (colours_of used ks ws) k ms) ts r members
+    totals
 making-by {used} {ks} {ws} rows rule B {k} limit {ms} {ts} h able good low =
     let is = (by-refuses rows rule B (colours_of used ks ws) k limit ms ts).accepted_is (accepted-done h) in
     let fair = fair-of-table able.table in

@@ -6,9 +6,10 @@ use mathlib.Core.Path.{◌≡◌, refl, sym, ap, ◌∙◌}
 use native.Mathlib.Omega.{arith}
 use lib.ListN.{get_or}
 use borrow.Author.Tests.{eqb-true}
+use Rattle.std.specs.Prelude.{Ok, None}
+use Rattle.std.specs.Result.{result_err}
 use Rattle.number.specs.{sum}
 use Rattle.number.proofs.Sums.{sum-eq}
-use Rattle.refusal.specs.{done}
 use Rattle.table_test.specs.{Record, bad_table}
 use Rattle.method.specs.{
   Colours,
@@ -36,14 +37,16 @@ use Rattle.method.proofs.Fronts.{
   front-moved,
   front-step,
 }
-use Rattle.lloyd_rounds.specs.{RoundOutcome, made_round, plain_round, short_round}
+use Rattle.lloyd_rounds.specs.{Rounded, RoundOutcome, made_round, plain_round, short_round}
 use Rattle.lloyd_rounds.proofs.Accepts.{plain-made, short-made}
-use Rattle.lloyd.specs.Calling.{short_calls, lent_start, Stays}
+use Rattle.lloyd_rounds.proofs.Rounds.{ok-only}
+use Rattle.lloyd.specs.Calling.{short_calls, lent_start, distances_told, Stays}
 use Rattle.lloyd.specs.Outcomes.{AcceptedRun, left}
 use Rattle.lloyd.specs.declared.Ran.{Ran}
 use Rattle.lloyd.proofs.Accepted.{tests, making, joined}
 use Rattle.lloyd.proofs.Ends.{settled-final}
 use Rattle.lloyd.proofs.Made.{
+  answer-is,
   rounds-made,
   rounds-within,
   settled_is,
@@ -98,7 +101,8 @@ module _ {rec : Record} {ks ws : List ℕ} {k limit : ℕ} {ms ts : List ℕ} {r
   -- ---- the calls
 
   -- a call on the front of what the run has after n rounds is made
-  call_at : (n : ℕ) → short_round rec ks ws (front_of k (at n)) ≡ made_round to_mean C k (front_of k (at n)) short_distances
+  call_at : (n : ℕ) → short_round rec ks ws (front_of k (at n)) ≡ made_round to_mean C k (front_of k (at n))
+      short_distances
   call_at n = short-of-front rec ks ws k (at n) (tests h).table (fit_at n) (joined_at n)
 
   -- n calls leave that front
@@ -115,29 +119,36 @@ module _ {rec : Record} {ks ws : List ℕ} {k limit : ℕ} {ms ts : List ℕ} {r
   call-made n = ap (short_round rec ks ws) (calls-are-rounds n) ∙ call_at n
 
   -- and accepted
-  pub call-accepted : (n : ℕ) → (short_round rec ks ws (called n)).answer.refusal ≡ done
-  call-accepted n = ap (λ (o : RoundOutcome). o.answer.refusal) (call-made n)
+  pub call-accepted : (n : ℕ) → result_err (short_round rec ks ws (called n)).answer ≡ None
+  call-accepted n = ap (λ (o : RoundOutcome). result_err o.answer) (call-made n)
 
-  -- it answers the total of its round
-  pub call-total : (n : ℕ) → n < r.rounds → (short_round rec ks ws (called n)).answer.total ≡ get_or totals n 0
-  call-total n l =
-      ap (λ (o : RoundOutcome). o.answer.total) (call-made n)
+  -- what it answers is what its round makes
+  call-answers : (n : ℕ) {x : Rounded} → (short_round rec ks ws (called n)).answer ≡ Ok x
+      → Ok x ≡ (made_round to_mean C k (front_of k (at n)) short_distances).answer
+  call-answers n e = sym e ∙ ap (λ (o : RoundOutcome). o.answer) (call-made n)
+
+  -- the total of its round
+  pub call-total : (n : ℕ) → n < r.rounds → (x : Rounded) → (short_round rec ks ws (called n)).answer ≡ Ok x
+      → x.total ≡ get_or totals n 0
+  call-total n l x e =
+      ap (λ (x : Rounded). x.total) (ok-only (call-answers n e))
       ∙ front-total C k (at n) (making h).fit.some
       ∙ sym (total-recorded (making h) n l)
 
   -- and how many shades its round moves
-  pub call-moved : (n : ℕ) → (short_round rec ks ws (called n)).answer.moved ≡ moved_of to_mean C k (at n)
-  call-moved n =
-      ap (λ (o : RoundOutcome). o.answer.moved) (call-made n) ∙ front-moved C k (at n) to_mean
+  pub call-moved : (n : ℕ) (x : Rounded) → (short_round rec ks ws (called n)).answer ≡ Ok x
+      → x.moved ≡ moved_of to_mean C k (at n)
+  call-moved n x e =
+      ap (λ (x : Rounded). x.moved) (ok-only (call-answers n e)) ∙ front-moved C k (at n) to_mean
 
   -- the distances that the calls answer add up to the run's
-  pub calls-distances : sum r.rounds (λ n. (short_round rec ks ws (called n)).answer.distances) ≡ r.distances
+  pub calls-distances : sum r.rounds (λ n. distances_told (short_round rec ks ws (called n)).answer) ≡ r.distances
   calls-distances =
       sum-eq r.rounds _ (λ n. short_distances C k (at n))
-      (λ n l. ap (λ (o : RoundOutcome). o.answer.distances) (call-made n)
+      (λ n l. ap (λ (o : RoundOutcome). distances_told o.answer) (call-made n)
       ∙ front-distances C k (at n) (joined_at n))
       ∙ ap (λ m. sum m (λ n. short_distances C k (at n))) (rounds-made (making h))
-      ∙ sym (ap (λ (x : Ran). x.distances) (making h).meets.answer)
+      ∙ sym (ap (λ (x : Ran). x.distances) (answer-is (making h)))
 
   -- ---- what the run leaves
 
@@ -183,6 +194,7 @@ module _ {rec : Record} {ks ws : List ℕ} {k limit : ℕ} {ms ts : List ℕ} {r
     front-stays : (distances : Colours → ℕ → State → ℕ)
         → Stays (made_round to_mean C k (front_of k (left r members)) distances) (front_of k (left r members)) r.total
     front-stays distances = record {
+      answered = _;
       accepted = refl;
       state_is = front-step C k (left r members) to_mean ∙ ap (front_of k) left-again;
       moved_none = front-moved C k (left r members) to_mean ∙ left-moves-none;

@@ -8,8 +8,9 @@ use lib.Dec.{ltb}
 use lib.ListN.{length}
 use borrow.Author.Tests.{lt-ltb, ltb-true}
 use Rattle.number.specs.{first_that}
-use Rattle.refusal.specs.{Row, done, first_of}
-use Rattle.refusal.proofs.Promises.{done-exactly}
+use Rattle.std.specs.Prelude.{None}
+use Rattle.refusal.specs.{Row, first_refusal}
+use Rattle.refusal.proofs.By.{none-exactly}
 use Rattle.table_test.specs.{Record}
 use Rattle.method.specs.{
   Rule,
@@ -32,7 +33,7 @@ use Rattle.lloyd.specs.Outcomes.{AcceptedBy, made_run, run_by, run_with}
 use Rattle.lloyd.specs.declared.Ran.{Ran}
 use Rattle.lloyd.proofs.Accepted.{with-tests, with-making}
 use Rattle.lloyd.proofs.By.{by-refuses, accepted-done}
-use Rattle.lloyd.proofs.Made.{Making, rounds-made}
+use Rattle.lloyd.proofs.Made.{Making, answer-is, rounds-made}
 
 -- a run that is made and settles is made the same under another limit
 made-at-any-limit : (rule : Rule) (C : Colours) (k limit other : ℕ) (a : State) (ts : List ℕ)
@@ -48,12 +49,12 @@ made-at-any-limit rule C k limit other a ts settled enough =
 pub settled-by : (rows rows' : List Row) (rule : Rule) (B : Base) (C : Colours) (k limit other : ℕ) (ms ts : List ℕ)
     {r : Ran} {members totals : List ℕ} → AcceptedBy (run_by rows rule B C k limit ms ts) r members totals
     → Making rule C k (limit_of limit) (begin_from B C k ms) ts r members totals → r.settled ≡ true
-    → r.rounds ≤ limit_of other → first_of rows' ≡ done
+    → r.rounds ≤ limit_of other → first_refusal rows' ≡ None
     → run_by rows' rule B C k other ms ts ≡ run_by rows rule B C k limit ms ts
 settled-by rows rows' rule B C k limit other ms ts h m settled enough passes =
     (by-refuses rows' rule B C k other ms ts).by_none passes
     ∙ made-at-any-limit rule C k (limit_of limit) (limit_of other) (begin_from B C k ms) ts
-    (sym (ap (λ (x : Ran). x.settled) m.meets.answer) ∙ settled) (rw (rounds-made m) at enough)
+    (sym (ap (λ (x : Ran). x.settled) (answer-is m)) ∙ settled) (rw (rounds-made m) at enough)
     ∙ sym ((by-refuses rows rule B C k limit ms ts).accepted_is (accepted-done h))
 
 -- ---- a run from the table's mean
@@ -62,10 +63,10 @@ module _ (rule : Rule) (good : GoodRule rule) (rec : Record) (ks ws : List ℕ) 
     {members totals : List ℕ} (h : AcceptedBy (run_with rule rec ks ws k limit ms ts) r members totals) where
   -- under a limit that passes its own tests no row holds
   rows_pass : (other : ℕ) → other ≤ most_rounds → limit_of other ≤ length ts
-      → first_of (run_rows rec ks ws k other ms ts) ≡ done
+      → first_refusal (run_rows rec ks ws k other ms ts) ≡ None
   rows_pass other most room =
       let g = with-tests rule good rec ks ws k limit ms ts h in
-      (done-exactly (run_rows rec ks ws k other ms ts)).1 (
+      (none-exactly (run_rows rec ks ws k other ms ts)).1 (
         g.table,
         (
           g.count,

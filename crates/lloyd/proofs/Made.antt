@@ -7,6 +7,7 @@ use native.Mathlib.Nat.{le_refl, le_trans, mul-le-mul, mul-le-mul_left}
 use native.Mathlib.Omega.{arith}
 use lib.ListN.{get_or, length}
 use lib.Dec.{eqb}
+use Rattle.std.specs.Prelude.{Ok}
 use Rattle.number.specs.{sum}
 use Rattle.number.proofs.Fills.{fill-at, fill-kept}
 use Rattle.number.proofs.Sums.{sum_bound}
@@ -52,13 +53,14 @@ use Rattle.method.proofs.Falls.{
 use Rattle.method.proofs.Runs.{made-at-most, made_some, made-last, made-before}
 use Rattle.method.proofs.Sizes.{spent-at-most, short-at-most-plain}
 use Rattle.method.proofs.Totals.{pixels-by-groups}
-use Rattle.lloyd.specs.Outcomes.{made_run, left, RunMeets}
+use Rattle.lloyd_rounds.proofs.Rounds.{ok-only}
+use Rattle.lloyd.specs.Outcomes.{made_ran, made_run, left, RunMeets}
 use Rattle.lloyd.specs.declared.Ran.{Ran}
 
 -- answer and slices are those of a run that is made, and it can be made: from state a by the rule, to the limit
 pub record Making (rule : Rule) (C : Colours) (k limit : ℕ) (a : State) (ts : List ℕ) (r : Ran)
     (members totals : List ℕ) : Type 0 where
-  pub meets : RunMeets (made_run rule C k limit a ts) r members totals
+  pub meets : RunMeets (made_run rule C k limit a ts) (Ok r) members totals
   pub good : GoodRule rule
   pub fair : Fair C
   pub fit : Fit C k a
@@ -67,11 +69,15 @@ pub record Making (rule : Rule) (C : Colours) (k limit : ℕ) (a : State) (ts : 
 
 module _ {rule : Rule} {C : Colours} {k limit : ℕ} {a : State} {ts : List ℕ} {r : Ran} {members totals : List ℕ}
     (m : Making rule C k limit a ts r members totals) where
+  -- its answer is what the rounds make
+  pub answer-is : r ≡ made_ran rule C k limit a
+  answer-is = ok-only m.meets.answer
+
   -- ---- the rounds
 
   -- the rounds are those of the run
   pub rounds-made : r.rounds ≡ rounds_made limit (quiet rule C k a)
-  rounds-made = ap (λ (x : Ran). x.rounds) m.meets.answer
+  rounds-made = ap (λ (x : Ran). x.rounds) answer-is
 
   -- they are 1 at least and the limit at most
   pub rounds-within : (0 < r.rounds) × (r.rounds ≤ limit)
@@ -85,7 +91,7 @@ module _ {rule : Rule} {C : Colours} {k limit : ℕ} {a : State} {ts : List ℕ}
   -- settled is said exactly when the last round moves no shade
   pub settled_is : r.settled ≡ eqb (moved_of rule C k (after rule C k a (r.rounds - 1))) 0
   settled_is =
-      ap (λ (x : Ran). x.settled) m.meets.answer
+      ap (λ (x : Ran). x.settled) answer-is
       ∙ sym (made-last limit (quiet rule C k a) r.rounds rounds-within.0 rounds-made)
 
   -- each state on the way is fit
@@ -110,7 +116,7 @@ module _ {rule : Rule} {C : Colours} {k limit : ℕ} {a : State} {ts : List ℕ}
 
   -- the shades are its shades
   pub shades-last : r.shades ≡ (step rule C k (after rule C k a (r.rounds - 1))).coordinates
-  shades-last = ap (λ (x : Ran). x.shades) m.meets.answer ∙ ap (λ (z : State). z.coordinates) by_last
+  shades-last = ap (λ (x : Ran). x.shades) answer-is ∙ ap (λ (z : State). z.coordinates) by_last
 
   -- the members are its members
   pub members-last : members ≡ (step rule C k (after rule C k a (r.rounds - 1))).members
@@ -118,12 +124,12 @@ module _ {rule : Rule} {C : Colours} {k limit : ℕ} {a : State} {ts : List ℕ}
 
   -- and the final total is that of both
   pub total-last : r.total ≡ final_of C (step rule C k (after rule C k a (r.rounds - 1)))
-  total-last = ap (λ (x : Ran). x.total) m.meets.answer ∙ ap (final_of C) by_last
+  total-last = ap (λ (x : Ran). x.total) answer-is ∙ ap (final_of C) by_last
 
   -- it leaves what it has after its rounds
   pub left_is : left r members ≡ after rule C k a r.rounds
   left_is =
-      ap₂ state_of (ap (λ (x : Ran). x.shades) m.meets.answer) m.meets.members_are
+      ap₂ state_of (ap (λ (x : Ran). x.shades) answer-is) m.meets.members_are
       ∙ ap (after rule C k a) (sym rounds-made)
 
   -- and that is fit for a round
@@ -148,7 +154,7 @@ module _ {rule : Rule} {C : Colours} {k limit : ℕ} {a : State} {ts : List ℕ}
   -- the distances are at most one for each shade, colour and round
   pub distances-at-most : Joined C k a → r.distances ≤ r.rounds * (C.n * k)
   distances-at-most joined =
-      rw (ap (λ (x : Ran). x.distances) m.meets.answer, rounds-made)
+      rw (ap (λ (x : Ran). x.distances) answer-is, rounds-made)
       (sum_bound _ (C.n * k) (λ n. short_distances C k (after rule C k a n))
       (λ n l. le_trans
       (short-at-most-plain C k (after rule C k a n) (after-joined rule C k a m.good m.fair m.fit joined n))
@@ -158,7 +164,7 @@ module _ {rule : Rule} {C : Colours} {k limit : ℕ} {a : State} {ts : List ℕ}
   pub shades-fit : OnGrid r.shades × (3 * k ≤ length r.shades)
   shades-fit =
       let f = (fit_at (rounds_made limit (quiet rule C k a))).shades in
-      rw (ap (λ (x : Ran). x.shades) m.meets.answer) (f.low, f.room)
+      rw (ap (λ (x : Ran). x.shades) answer-is) (f.low, f.room)
 
   -- ---- how large its numbers are
 
@@ -166,7 +172,7 @@ module _ {rule : Rule} {C : Colours} {k limit : ℕ} {a : State} {ts : List ℕ}
   pub total-most : r.total ≤ most_pixels * most_distance
   total-most =
       let z = after rule C k a (rounds_made limit (quiet rule C k a)) in
-      rw (ap (λ (x : Ran). x.total) m.meets.answer)
+      rw (ap (λ (x : Ran). x.total) answer-is)
       (spent-at-most C m.fair z.coordinates (fit_at (rounds_made limit (quiet rule C k a))).shades.low
       (λ i. get_or z.members i 0) C.n (le_refl C.n))
 
@@ -181,13 +187,13 @@ module _ {rule : Rule} {C : Colours} {k limit : ℕ} {a : State} {ts : List ℕ}
   -- a shade that the rule holds, where it began
   pub shade-held : (f : ℕ) → Holds f rule → (q : ℕ) → q < f → q < k → shade_at r.shades q ≡ shade_at a.coordinates q
   shade-held f held q below l =
-      rw (ap (λ (x : Ran). x.shades) m.meets.answer)
+      rw (ap (λ (x : Ran). x.shades) answer-is)
       (after-held rule C k a m.good m.fair m.fit f held q below l (rounds_made limit (quiet rule C k a)))
 
   -- coordinates past the shades
   pub shades-past : (i : ℕ) → 3 * k ≤ i → get_or r.shades i 0 ≡ get_or a.coordinates i 0
   shades-past i l =
-      rw (ap (λ (x : Ran). x.shades) m.meets.answer)
+      rw (ap (λ (x : Ran). x.shades) answer-is)
       (after-past rule C k a (rounds_made limit (quiet rule C k a)) i l)
 
   -- members past the used entries

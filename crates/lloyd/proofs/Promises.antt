@@ -13,7 +13,7 @@ pub use Rattle.lloyd_tests.proofs.Promises.{limit_is}
 pub use Rattle.lloyd_rounds.proofs.Promises.{plain-refused-exactly, short-refused-exactly}
 -- and none exactly when no row holds
 pub use Rattle.lloyd_rounds.proofs.Promises.{plain-accepted-exactly, short-accepted-exactly}
--- a refused one answers its number and zeros, and no slice changes
+-- a refused one answers its error, and no slice changes
 pub use Rattle.lloyd_rounds.proofs.Promises.{plain-refused, short-refused}
 -- the contract determines the answer and both lent slices
 pub use Rattle.lloyd_rounds.proofs.Promises.{plain-only, short-only}
@@ -31,7 +31,7 @@ pub use Rattle.lloyd_rounds.proofs.Promises.{plain-members-kept, short-members-k
 pub mod Refusing
 -- a run gives each refusal exactly when its row is the first that holds, and none exactly when no row holds
 pub use Refusing.{run-refused-exactly, run-accepted-exactly}
--- a refused run answers its number and zeros, and no slice changes
+-- a refused run answers its error, and no slice changes
 pub use Refusing.{run-refused}
 -- ---- Promises/Runs.antt: runs
 pub mod Runs
@@ -67,7 +67,7 @@ pub use Runs.{total-most, distances-most}
 pub use Runs.{settled-final, settled-joined}
 -- ---- Promises/Jancey.antt: Jancey's run
 pub mod Jancey
--- it is refused as a run is, by the same number on every input
+-- it is refused as a run is, on every input
 pub use Jancey.{jancey-refused-exactly, jancey-accepted-exactly, jancey-refused, jancey-refused-as-run}
 -- its contract determines the answer and both lent slices
 pub use Jancey.{jancey-only}

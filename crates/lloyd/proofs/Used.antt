@@ -7,8 +7,9 @@ use mathlib.Core.Path.{◌≡◌, ap, ap₂, fun_ext, ◌∙◌}
 use lib.Dec.{ltb}
 use lib.ListN.{get_or, length}
 use Rattle.number.specs.{sum, fill, first_that}
-use Rattle.refusal.specs.{row, done, BAD_TABLE, BAD_COUNT, FEW_COLOURS, BAD_LIMIT, SHORT_ROOM}
-use Rattle.refusal.proofs.Outcomes.{outcome-alike}
+use Rattle.std.specs.Prelude.{Ok}
+use Rattle.refusal.specs.{row, BadTable, BadCount, FewColours, BadLimit, ShortRoom}
+use Rattle.refusal.proofs.By.{by-alike}
 use Rattle.colour.specs.{colour_of}
 use Rattle.table_test.specs.{Record, room_of, bad_table}
 use Rattle.table_test.proofs.Goods.{bad-table-alike}
@@ -59,14 +60,13 @@ shown_of C k z =
 -- the run from which rounds are quiet and what each state shows
 abbrev run_shown : ℕ → List ℕ → (ℕ → Bool) → (ℕ → Shown) → RunOutcome
 run_shown limit ts still shown = record {
-  answer = record {
-    refusal = done;
+  answer = Ok (record {
     shades = (shown (rounds_made limit still)).state.coordinates;
     rounds = rounds_made limit still;
     settled = ltb (first_that limit still) limit;
     distances = sum (rounds_made limit still) (λ r. (shown r).distances);
     total = (shown (rounds_made limit still)).final;
-  };
+  });
   members = (shown (rounds_made limit still)).state.members;
   totals = fill (rounds_made limit still) (λ r. (shown r).total) ts;
 }
@@ -120,10 +120,11 @@ module _ (rec : Record) (ks ws ks' ws' : List ℕ) (keys : (i : ℕ) → i < rec
 -- so runs on tables with the same record and the same used entries answer and leave the same
 pub run-of-used : (rule : Rule) {move : Move} → Goes rule move → (rec : Record) (ks ws ks' ws' : List ℕ) (k limit : ℕ)
     (ms ts : List ℕ) → rec.used ≤ room_of ks ws → rec.used ≤ room_of ks' ws'
-    → ((i : ℕ) → i < rec.used → get_or ks i 0 ≡ get_or ks' i 0) → ((i : ℕ) → i < rec.used → get_or ws i 0 ≡ get_or ws' i 0)
+    → ((i : ℕ) → i < rec.used → get_or ks i 0 ≡ get_or ks' i 0)
+    → ((i : ℕ) → i < rec.used → get_or ws i 0 ≡ get_or ws' i 0)
     → run_with rule rec ks ws k limit ms ts ≡ run_with rule rec ks' ws' k limit ms ts
 run-of-used rule by rec ks ws ks' ws' k limit ms ts room room' keys weights =
-    outcome-alike (run_rows rec ks ws k limit ms ts) (run_rows rec ks' ws' k limit ms ts) _ _ (kept_run ms ts)
+    by-alike (run_rows rec ks ws k limit ms ts) (run_rows rec ks' ws' k limit ms ts) _ _ (kept_run ms ts)
     (rw (bad-table-alike rec ks ws ks' ws' room room' keys weights))
     (λ e. made_alike rec ks ws ks' ws' keys weights k rule by (runnable-of-none rec ks ws k limit ms ts e).colours
     (limit_of limit) ms ts)
@@ -137,9 +138,9 @@ run-by-truth rule rec rec' ks ws k limit ms ts used truth = ap₂ (λ (bad : Boo
     -- the run on so many used entries, with a table that is bad or not
     judged : Bool → ℕ → RunOutcome
     judged bad n =
-        run_by (row bad BAD_TABLE
-        ∷ row (bad_count k) BAD_COUNT
-        ∷ row (ltb n k) FEW_COLOURS
-        ∷ row (bad_limit limit) BAD_LIMIT
-        ∷ row (ltb (length ms) n || short_totals limit ts) SHORT_ROOM
+        run_by (row bad BadTable
+        ∷ row (bad_count k) BadCount
+        ∷ row (ltb n k) FewColours
+        ∷ row (bad_limit limit) BadLimit
+        ∷ row (ltb (length ms) n || short_totals limit ts) ShortRoom
         ∷ []) rule (on_mean (colours_of n ks ws)) (colours_of n ks ws) k limit ms ts

@@ -1,25 +1,24 @@
 -- The outcome of a run: refused or made, and what every accepted run leaves and answers.
-use Prim.Native.Nat.{ℕ, ◌-◌}
-use mathlib.Core.Bool.{Bool, false}
+use Prim.Native.Nat.{ℕ}
+use mathlib.Core.Bool.{false}
 use mathlib.Core.List.{List}
 use mathlib.Core.Path.{◌≡◌, sym, ◌∙◌}
 use native.Mathlib.Omega.{arith}
 use lib.ListN.{length}
 use borrow.Author.Tests.{ltb-false}
 use Rattle.number.proofs.Cases.{neither}
-use Rattle.refusal.specs.{done, first_of, NoneHolds, Refuses}
-use Rattle.refusal.proofs.Promises.{done-exactly}
+use Rattle.std.specs.Prelude.{None}
+use Rattle.std.specs.Result.{result_err}
+use Rattle.refusal.specs.{first_refusal, NoneHolds, RefusesBy}
+use Rattle.refusal.proofs.By.{none-exactly}
 use Rattle.table_test.specs.{Record, bad_table, GoodTable}
 use Rattle.table_test.proofs.Promises.{bad-table-exactly}
-use Rattle.method.specs.{Rule, Colours, State, colours_of, to_mean, leap_to, on_mean, final_of, begin}
-use Rattle.method.specs.{most_rounds}
-use Rattle.rounds_many.specs.{SeriesMeets}
+use Rattle.method.specs.{Rule, Colours, colours_of, to_mean, leap_to, on_mean, begin, most_rounds}
 use Rattle.rounds.specs.{Runnable}
 use Rattle.lloyd_tests.specs.{limit_of, bad_count, few_colours, bad_limit, short_members, short_totals}
 use Rattle.lloyd_refusal.specs.{run_rows}
-use Rattle.lloyd.specs.Outcomes.{RunMeets, refused_run, kept_run, made_run, run_with, run_of, jancey_run}
-use Rattle.lloyd.specs.declared.Ran.{Ran}
-use Rattle.lloyd.proofs.By.{by-refuses, by-meets-refused, by-meets-made}
+use Rattle.lloyd.specs.Outcomes.{kept_run, made_run, run_with, run_of, jancey_run}
+use Rattle.lloyd.proofs.By.{by-refuses}
 use Rattle.lloyd_tests.proofs.Checks.{bad-count-exactly, limit_some, limit_most}
 use Rattle.lloyd_tests.proofs.Tables.{tabled-of-test, pixels-of-test}
 
@@ -31,55 +30,33 @@ module _ (rec : Record) (ks ws : List ℕ) (k limit : ℕ) (ms ts : List ℕ) wh
   -- ---- refused or made
 
   module _ (rule : Rule) where
-    -- a run by a rule refuses by its rows: it is made, or its number and zeros, and no slice changes
-    pub with-refuses : Refuses (run_rows rec ks ws k limit ms ts) (run_with rule rec ks ws k limit ms ts)
-        (λ o. o.answer.refusal)
+    -- a run by a rule refuses by its rows: it is made, or its error, and no slice changes
+    pub with-refuses : RefusesBy (run_rows rec ks ws k limit ms ts) (run_with rule rec ks ws k limit ms ts)
+        (λ o. result_err o.answer)
         (made_run rule (colours_of rec.used ks ws) k (limit_of limit) (begin (colours_of rec.used ks ws) k ms) ts)
         (kept_run ms ts)
     with-refuses = by-refuses (run_rows rec ks ws k limit ms ts) rule (on_mean C) C k limit ms ts
 
-    -- the contract where it is refused
-    pub with-meets-refused : (n : ℕ) (r : Ran) → n ≡ first_of (run_rows rec ks ws k limit ms ts) → ¬ (n ≡ done)
-        → r ≡ refused_run n → RunMeets (run_with rule rec ks ws k limit ms ts) r ms ts
-    with-meets-refused = by-meets-refused (run_rows rec ks ws k limit ms ts) rule (on_mean C) C k limit ms ts
-
-    -- the contract where it is made
-    pub with-meets-made : (z : State) (totals : List ℕ) (rounds : ℕ) (settled : Bool) (distances total : ℕ)
-        (r : Ran)
-        → first_of (run_rows rec ks ws k limit ms ts) ≡ done
-        → SeriesMeets rule (colours_of rec.used ks ws) k (limit_of limit)
-        (begin (colours_of rec.used ks ws) k ms) z ts totals rounds settled distances
-        → total ≡ final_of (colours_of rec.used ks ws) z
-        → r ≡ record {
-          refusal = done;
-          shades = z.coordinates;
-          rounds = rounds;
-          settled = settled;
-          distances = distances;
-          total = total;
-        }
-        → RunMeets (run_with rule rec ks ws k limit ms ts) r z.members totals
-    with-meets-made = by-meets-made (run_rows rec ks ws k limit ms ts) rule (on_mean C) C k limit ms ts
-
   -- a run, by Lloyd's rule
-  pub run-refuses : Refuses (run_rows rec ks ws k limit ms ts) (run_of rec ks ws k limit ms ts)
-      (λ o. o.answer.refusal)
+  pub run-refuses : RefusesBy (run_rows rec ks ws k limit ms ts) (run_of rec ks ws k limit ms ts)
+      (λ o. result_err o.answer)
       (made_run to_mean (colours_of rec.used ks ws) k (limit_of limit) (begin (colours_of rec.used ks ws) k ms) ts)
       (kept_run ms ts)
   unfolding run_of
   run-refuses = with-refuses to_mean
 
   -- and Jancey's
-  pub jancey-refuses : Refuses (run_rows rec ks ws k limit ms ts) (jancey_run rec ks ws k limit ms ts)
-      (λ o. o.answer.refusal)
+  pub jancey-refuses : RefusesBy (run_rows rec ks ws k limit ms ts) (jancey_run rec ks ws k limit ms ts)
+      (λ o. result_err o.answer)
       (made_run leap_to (colours_of rec.used ks ws) k (limit_of limit) (begin (colours_of rec.used ks ws) k ms) ts)
       (kept_run ms ts)
   unfolding jancey_run
   jancey-refuses = with-refuses leap_to
 
-  -- on every input both have one number: a rule decides nothing of it
-  pub same-refusal : (jancey_run rec ks ws k limit ms ts).answer.refusal ≡ (run_of rec ks ws k limit ms ts).answer.refusal
-  same-refusal = jancey-refuses.number_is ∙ sym run-refuses.number_is
+  -- on every input both have one refusal or none: a rule decides nothing of it
+  pub same-refusal : result_err (jancey_run rec ks ws k limit ms ts).answer
+      ≡ result_err (run_of rec ks ws k limit ms ts).answer
+  same-refusal = jancey-refuses.refusal_is ∙ sym run-refuses.refusal_is
 
   -- ---- what the tests give
 
@@ -123,11 +100,11 @@ module _ (rec : Record) (ks ws : List ℕ) (k limit : ℕ) (ms ts : List ℕ) wh
       }
 
   -- and where no row holds the record is the table's
-  pub table-of-none : first_of (run_rows rec ks ws k limit ms ts) ≡ done → GoodTable rec ks ws
+  pub table-of-none : first_refusal (run_rows rec ks ws k limit ms ts) ≡ None → GoodTable rec ks ws
   table-of-none e =
-      (bad-table-exactly rec ks ws).0 (run-good ((done-exactly (run_rows rec ks ws k limit ms ts)).0 e)).table
+      (bad-table-exactly rec ks ws).0 (run-good ((none-exactly (run_rows rec ks ws k limit ms ts)).0 e)).table
 
   -- so where no row holds the run can be made
-  pub runnable-of-none : first_of (run_rows rec ks ws k limit ms ts) ≡ done
+  pub runnable-of-none : first_refusal (run_rows rec ks ws k limit ms ts) ≡ None
       → Runnable rec.used ks ws k (limit_of limit) ms ts
-  runnable-of-none e = runnable (run-good ((done-exactly (run_rows rec ks ws k limit ms ts)).0 e))
+  runnable-of-none e = runnable (run-good ((none-exactly (run_rows rec ks ws k limit ms ts)).0 e))

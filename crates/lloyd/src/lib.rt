@@ -6,9 +6,8 @@
 //                 this order.
 //   run_jancey    the same run with shades that step past the mean.   Refuses as run does.
 //   plain_round, short_round   one round: those of the crate lloyd_rounds
-//   refused       the answer of a refusal, for every kind of run
-// A refusal answers its number and zeros and writes nothing. The tests stand in lloyd_refusal;
-// the work is done by the crate rounds.
+// A refusal is the error of the answer, and writes nothing. The tests stand in lloyd_refusal; the
+// work is done by the crate rounds.
 //
 // Read next: specs/Lib.antt (what the words mean), proofs/Promises.antt (what is shown).
 
@@ -19,14 +18,13 @@ mod runs;
 pub use lloyd_refusal::MOST_ROUNDS;
 pub use lloyd_rounds::{Rounded, plain_round, short_round};
 pub use lloyd_tests::USUAL_LIMIT;
-pub use runs::{refused, run, run_jancey};
+pub use runs::{run, run_jancey};
 
-// The answer of a run: 0 or the refusal's number; the shades, three coordinates each, zeros past
-// the count; the rounds made; whether the last moved no shade; the distances of all rounds; the
-// last grouping against the final shades.
+// The answer of a run: the shades, three coordinates each, zeros past the count; the rounds made;
+// whether the last moved no shade; the distances of all rounds; the last grouping against the final
+// shades.
 #[derive(Clone, Copy)]
 pub struct Ran {
-    pub refusal: u8,
     pub shades: [u32; 192],
     pub rounds: usize,
     pub settled: bool,

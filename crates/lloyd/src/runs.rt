@@ -1,48 +1,33 @@
 // The run, by Lloyd's rule and by Jancey's.
-ghost use Rattle.std.specs.Prelude.{◌≡◌};
 ghost use Rattle.method.specs.{kind_of};
-ghost use Rattle.lloyd.specs.Outcomes.{run_with, run_of, jancey_run, refused_run, RunMeets};
+ghost use Rattle.moves.specs.{leaps};
+ghost use Rattle.lloyd.specs.Outcomes.{run_with, run_of, jancey_run, RunMeets};
 
 use super::Ran;
 use lloyd_refusal::run_refusal;
 use lloyd_tests::limit_of;
-use refusal::DONE;
+use moves::Stride;
+use refusal::Refusal;
 use rounds::Whole;
 use table_test::Record;
 
-// The answer of a refusal: its number and zeros.
-pub fn refused(number: u8) -> Ran
-    ensures { result ≡ refused_run number }
-{
-    Ran {
-        refusal: number,
-        shades: [0u32; 192],
-        rounds: 0,
-        settled: false,
-        distances: 0,
-        total: 0,
-    }
-}
-
-// A run by Jancey's rule where the shades leap, else by Lloyd's: what `run` and `run_jancey` do.
+// A run by Jancey's rule where the shades go past their means, else by Lloyd's: what `run` and
+// `run_jancey` do.
 fn run_with(
     rec: Record,
     keys: &[u32],
     weights: &[u32],
     count: usize,
-    leaps: bool,
+    stride: Stride,
     limit: usize,
     members: &mut [u32],
     totals: &mut [u64],
-) -> Ran
-    ensures { RunMeets (run_with (kind_of leaps) rec keys.now
+) -> Result<Ran, Refusal>
+    ensures { RunMeets (run_with (kind_of (leaps stride)) rec keys.now
         weights.now count limit members.old totals.old)
         result members.new totals.new }
 {
-    let number = run_refusal(rec, keys, weights, count, limit, members, totals);
-    if number != DONE {
-        return refused(number);
-    }
+    run_refusal(rec, keys, weights, count, limit, members, totals)?;
     let rounds = limit_of(limit);
     let mut shades = [0u32; 192];
     let a = rounds::make_run(
@@ -51,19 +36,18 @@ fn run_with(
         weights,
         &mut shades,
         count,
-        leaps,
+        stride,
         rounds,
         members,
         totals,
     );
-    Ran {
-        refusal: DONE,
+    Ok(Ran {
         shades,
         rounds: a.rounds,
         settled: a.settled,
         distances: a.distances,
         total: a.total,
-    }
+    })
 }
 
 // A run of `count` shades: maximin starting shades, every colour in shade 0, then shortened rounds
@@ -76,6 +60,7 @@ fn run_with(
 //   7 SHORT ROOM    there are fewer members than used entries, or fewer totals than the limit.
 // Leaves the last round's grouping in the members and each round's total in the totals; members
 // past the used entries and totals past the rounds made stay. A refusal leaves both as they came.
+#[tactic(auto, unfolding(crate::specs::Outcomes::run_of))]
 pub fn run(
     rec: Record,
     keys: &[u32],
@@ -84,12 +69,21 @@ pub fn run(
     limit: usize,
     members: &mut [u32],
     totals: &mut [u64],
-) -> Ran
+) -> Result<Ran, Refusal>
     ensures { RunMeets (run_of rec keys.now weights.now count limit
         members.old totals.old)
         result members.new totals.new }
 {
-    run_with(rec, keys, weights, count, false, limit, members, totals)
+    run_with(
+        rec,
+        keys,
+        weights,
+        count,
+        Stride::ToMean,
+        limit,
+        members,
+        totals,
+    )
 }
 
 // A run in which a shade with a group steps past the mean: on each coordinate nine fifths of the
@@ -98,7 +92,8 @@ pub fn run(
 // rounded mean. In all else it is `run`: it begins, counts and ends as that does.
 // Refuses, in this order: 2 BAD TABLE, 4 BAD COUNT, 5 FEW COLOURS, 6 BAD LIMIT, 7 SHORT ROOM, each
 // where `run` does. Leaves in members and totals what `run` leaves there; a refusal leaves both as
-// they came.
+// they came. It is a call beside `run`, and no argument of it, as C links each by its name.
+#[tactic(auto, unfolding(crate::specs::Outcomes::jancey_run))]
 pub fn run_jancey(
     rec: Record,
     keys: &[u32],
@@ -107,10 +102,19 @@ pub fn run_jancey(
     limit: usize,
     members: &mut [u32],
     totals: &mut [u64],
-) -> Ran
+) -> Result<Ran, Refusal>
     ensures { RunMeets (jancey_run rec keys.now weights.now count limit
         members.old totals.old)
         result members.new totals.new }
 {
-    run_with(rec, keys, weights, count, true, limit, members, totals)
+    run_with(
+        rec,
+        keys,
+        weights,
+        count,
+        Stride::PastMean,
+        limit,
+        members,
+        totals,
+    )
 }

@@ -1,12 +1,12 @@
--- What is shown of a run with fixed shades, by subject: the names, under what they say. Each stands as a theorem in full in
--- the file named above it. What the tests of the fixed list say stands in the Promises of lloyd_stock, what is shown of a
--- rule that holds shades in those of method.
+-- What is shown of a run with fixed shades, by subject: the names, under what they say. Each stands as a theorem in
+-- full in the file named above it. What the tests of the fixed list say stands in the Promises of lloyd_stock, what is
+-- shown of a rule that holds shades in those of method.
 
 -- ---- Promises/Refusing.antt: refusals, and the contract
 pub mod Refusing
 -- it gives each refusal exactly when its row is the first that holds, and none exactly when no row holds
 pub use Refusing.{fixed-refused-exactly, fixed-accepted-exactly}
--- a refused one answers its number and zeros, and no slice changes; an empty list is refused
+-- a refused one answers its error, and no slice changes; an empty list is refused
 pub use Refusing.{fixed-refused, fixed-none-refused}
 -- its contract determines the answer and both lent slices
 pub use Refusing.{fixed-only}

@@ -6,19 +6,18 @@ use mathlib.Core.List.{List, [], ◌∷◌}
 use mathlib.Core.Path.{◌≡◌, ap, ap₂}
 use lib.Dec.{ltb}
 use lib.ListN.{get_or, length}
+use Rattle.std.specs.Prelude.{None}
 use Rattle.refusal.specs.{
   row,
-  done,
-  first_of,
-  BAD_TABLE,
-  BAD_PALETTE,
-  BAD_COUNT,
-  FEW_COLOURS,
-  BAD_LIMIT,
-  SHORT_ROOM,
+  first_refusal,
+  BadTable,
+  BadPalette,
+  BadCount,
+  FewColours,
+  BadLimit,
+  ShortRoom,
 }
-use Rattle.refusal.proofs.Outcomes.{outcome-alike}
-use Rattle.refusal.proofs.Promises.{done-exactly}
+use Rattle.refusal.proofs.By.{none-exactly, by-alike}
 use Rattle.colour.specs.{Bytes, colour_of}
 use Rattle.table_test.specs.{Record, room_of, bad_table}
 use Rattle.table_test.proofs.Goods.{bad-table-alike}
@@ -39,10 +38,10 @@ module _ {rec : Record} {ks ws fixed : List ℕ} {k limit : ℕ} {ms ts : List �
     (h : AcceptedFixed rec ks ws fixed k limit ms ts r members totals) where
   -- under a limit that passes its own tests no row holds
   rows_pass : (other : ℕ) → other ≤ most_rounds → limit_of other ≤ length ts
-      → first_of (fixed_rows rec ks ws fixed k other ms ts) ≡ done
+      → first_refusal (fixed_rows rec ks ws fixed k other ms ts) ≡ None
   rows_pass other most room =
       let g = fixed-tests h in
-      (done-exactly (fixed_rows rec ks ws fixed k other ms ts)).1 (
+      (none-exactly (fixed_rows rec ks ws fixed k other ms ts)).1 (
         g.table,
         (
           g.whole,
@@ -62,7 +61,8 @@ module _ {rec : Record} {ks ws fixed : List ℕ} {k limit : ℕ} {ms ts : List �
       → fixed_run rec ks ws fixed k other ms ts ≡ fixed_run rec ks ws fixed k limit ms ts
   unfolding fixed_run
   settled-at-any-limit bytes settled other enough most room =
-      settled-by (fixed_rows rec ks ws fixed k limit ms ts) (fixed_rows rec ks ws fixed k other ms ts) (fixed_rule fixed)
+      settled-by (fixed_rows rec ks ws fixed k limit ms ts) (fixed_rows rec ks ws fixed k other ms ts)
+      (fixed_rule fixed)
       (listed (stock fixed)) (colours_of rec.used ks ws) k limit other ms ts (by-fixed h) (fixed-making h bytes) settled
       enough (rows_pass other most room)
 
@@ -76,22 +76,23 @@ run-by-truth rec rec' ks ws fixed k limit ms ts used truth = ap₂ (λ (bad : Bo
     -- the run on so many used entries, with a table that is bad or not
     judged : Bool → ℕ → RunOutcome
     judged bad n =
-        run_by (row bad BAD_TABLE
-        ∷ row (bad_fixed fixed) BAD_PALETTE
-        ∷ row (bad_free fixed k) BAD_COUNT
-        ∷ row (ltb (colours_left n ks fixed) (k - fixed_in fixed)) FEW_COLOURS
-        ∷ row (bad_limit limit) BAD_LIMIT
-        ∷ row (ltb (length ms) n || short_totals limit ts) SHORT_ROOM
+        run_by (row bad BadTable
+        ∷ row (bad_fixed fixed) BadPalette
+        ∷ row (bad_free fixed k) BadCount
+        ∷ row (ltb (colours_left n ks fixed) (k - fixed_in fixed)) FewColours
+        ∷ row (bad_limit limit) BadLimit
+        ∷ row (ltb (length ms) n || short_totals limit ts) ShortRoom
         ∷ []) (fixed_rule fixed) (listed (stock fixed)) (colours_of n ks ws) k limit ms ts
 
 -- on tables with the same record and the same used entries it answers and leaves the same
 pub run-of-used : (rec : Record) (ks ws ks' ws' fixed : List ℕ) (k limit : ℕ) (ms ts : List ℕ)
     → rec.used ≤ room_of ks ws → rec.used ≤ room_of ks' ws'
-    → ((i : ℕ) → i < rec.used → get_or ks i 0 ≡ get_or ks' i 0) → ((i : ℕ) → i < rec.used → get_or ws i 0 ≡ get_or ws' i 0)
+    → ((i : ℕ) → i < rec.used → get_or ks i 0 ≡ get_or ks' i 0)
+    → ((i : ℕ) → i < rec.used → get_or ws i 0 ≡ get_or ws' i 0)
     → fixed_run rec ks ws fixed k limit ms ts ≡ fixed_run rec ks' ws' fixed k limit ms ts
 unfolding fixed_run
 run-of-used rec ks ws ks' ws' fixed k limit ms ts room room' keys weights =
-    outcome-alike (fixed_rows rec ks ws fixed k limit ms ts) (fixed_rows rec ks' ws' fixed k limit ms ts) _ _
+    by-alike (fixed_rows rec ks ws fixed k limit ms ts) (fixed_rows rec ks' ws' fixed k limit ms ts) _ _
     (kept_run ms ts)
     (rw (
       bad-table-alike rec ks ws ks' ws' room room' keys weights,

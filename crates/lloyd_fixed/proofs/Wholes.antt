@@ -7,8 +7,10 @@ use native.Mathlib.Omega.{arith}
 use lib.ListN.{length}
 use borrow.Author.Tests.{ltb-false}
 use Rattle.number.proofs.Cases.{neither}
-use Rattle.refusal.specs.{number_of, done, first_of, NoneHolds, Refuses, BAD_PALETTE}
-use Rattle.refusal.proofs.Promises.{done-exactly}
+use Rattle.std.specs.Prelude.{Ok, None, Some}
+use Rattle.std.specs.Result.{result_err}
+use Rattle.refusal.specs.{first_refusal, NoneHolds, RefusesBy, BadPalette}
+use Rattle.refusal.proofs.By.{none-exactly}
 use Rattle.table_test.specs.{Record, bad_table, GoodTable}
 use Rattle.table_test.proofs.Promises.{bad-table-exactly}
 use Rattle.method.specs.{State, colours_of, listed, begin_from, final_of, most_rounds}
@@ -17,22 +19,22 @@ use Rattle.rounds.specs.{Runnable}
 use Rattle.lloyd_tests.specs.{limit_of, bad_limit, short_members, short_totals}
 use Rattle.lloyd_tests.proofs.Checks.{limit_some, limit_most}
 use Rattle.lloyd_tests.proofs.Tables.{tabled-of-test, pixels-of-test}
-use Rattle.lloyd.specs.{Ran, RunMeets, refused_run, made_run, kept_run}
-use Rattle.lloyd.proofs.By.{by-refuses, by-meets-refused, by-meets-made}
-use Rattle.lloyd_stock.specs.{fixed_in, stock, bad_fixed, bad_free, few_left}
-use Rattle.lloyd_stock.proofs.Promises.{bad-free-exactly, enough-left-exactly, left-at-most}
+use Rattle.lloyd.specs.{Ran, RunMeets, made_run, kept_run}
+use Rattle.lloyd.proofs.By.{by-refuses, by-meets-made}
+use Rattle.lloyd_stock.specs.{most_fixed, fixed_in, stock, bad_fixed, bad_free, few_left}
+use Rattle.lloyd_stock.proofs.Promises.{bad-fixed-exactly, bad-free-exactly, enough-left-exactly, left-at-most}
 use Rattle.lloyd_fixed.specs.Outcomes.{fixed_rows, fixed_rule, fixed_start, fixed_run}
 
 -- on a table an empty list is BAD PALETTE
 pub none-refused : (rec : Record) (ks ws : List ℕ) (k limit : ℕ) (ms ts : List ℕ) → bad_table rec ks ws ≡ false
-    → (fixed_run rec ks ws [] k limit ms ts).answer.refusal ≡ number_of BAD_PALETTE
+    → result_err (fixed_run rec ks ws [] k limit ms ts).answer ≡ Some BadPalette
 unfolding fixed_run
 none-refused rec ks ws k limit ms ts table = rw table
 
 module _ (rec : Record) (ks ws fixed : List ℕ) (k limit : ℕ) (ms ts : List ℕ) where
-  -- it refuses by its rows: it is made, or its number and zeros, and no slice changes
-  pub fixed-refuses : Refuses (fixed_rows rec ks ws fixed k limit ms ts) (fixed_run rec ks ws fixed k limit ms ts)
-      (λ o. o.answer.refusal)
+  -- it refuses by its rows: it is made, or its error, and no slice changes
+  pub fixed-refuses : RefusesBy (fixed_rows rec ks ws fixed k limit ms ts) (fixed_run rec ks ws fixed k limit ms ts)
+      (λ o. result_err o.answer)
       (made_run (fixed_rule fixed) (colours_of rec.used ks ws) k (limit_of limit) (fixed_start rec ks ws fixed k ms) ts)
       (kept_run ms ts)
   unfolding fixed_run
@@ -40,30 +42,21 @@ module _ (rec : Record) (ks ws fixed : List ℕ) (k limit : ℕ) (ms ts : List �
       by-refuses (fixed_rows rec ks ws fixed k limit ms ts) (fixed_rule fixed) (listed (stock fixed))
       (colours_of rec.used ks ws) k limit ms ts
 
-  -- the contract where it is refused
-  pub fixed-meets-refused : (n : ℕ) (r : Ran) → n ≡ first_of (fixed_rows rec ks ws fixed k limit ms ts) → ¬ (n ≡ done)
-      → r ≡ refused_run n → RunMeets (fixed_run rec ks ws fixed k limit ms ts) r ms ts
-  unfolding fixed_run
-  fixed-meets-refused =
-      by-meets-refused (fixed_rows rec ks ws fixed k limit ms ts) (fixed_rule fixed) (listed (stock fixed))
-      (colours_of rec.used ks ws) k limit ms ts
-
   -- the contract where it is made, from shades that are the fixed ones
   pub fixed-meets-made : (base : List ℕ) (asked : ℕ) → base ≡ stock fixed → asked ≡ limit_of limit
       → (z : State) (totals : List ℕ) (rounds : ℕ) (settled : Bool) (distances total : ℕ) (r : Ran)
-      → first_of (fixed_rows rec ks ws fixed k limit ms ts) ≡ done
+      → first_refusal (fixed_rows rec ks ws fixed k limit ms ts) ≡ None
       → SeriesMeets (fixed_rule fixed) (colours_of rec.used ks ws) k asked
       (begin_from (listed base) (colours_of rec.used ks ws) k ms) z ts totals rounds settled distances
       → total ≡ final_of (colours_of rec.used ks ws) z
       → r ≡ record {
-        refusal = done;
         shades = z.coordinates;
         rounds = rounds;
         settled = settled;
         distances = distances;
         total = total;
       }
-      → RunMeets (fixed_run rec ks ws fixed k limit ms ts) r z.members totals
+      → RunMeets (fixed_run rec ks ws fixed k limit ms ts) (Ok r) z.members totals
   unfolding fixed_run
   fixed-meets-made base asked given limited z totals rounds settled distances total r none series =
       by-meets-made (fixed_rows rec ks ws fixed k limit ms ts) (fixed_rule fixed) (listed (stock fixed))
@@ -103,6 +96,12 @@ module _ (rec : Record) (ks ws fixed : List ℕ) (k limit : ℕ) (ms ts : List �
     pub some-free : (fixed_in fixed < k) × (k ≤ 64)
     some-free = (bad-free-exactly fixed k).0 g.count
 
+    -- the fixed list has 3 to 189 bytes
+    pub fixed-most : (3 ≤ length fixed) × (length fixed ≤ most_fixed)
+    fixed-most =
+        let w = (bad-fixed-exactly fixed).0 g.whole in
+        (omega (arith, w.0, w.2), omega (arith, w.1, w.2))
+
     -- the table has a colour
     some-used : 0 < rec.used
     some-used =
@@ -123,5 +122,5 @@ module _ (rec : Record) (ks ws fixed : List ℕ) (k limit : ℕ) (ms ts : List �
     }
 
   -- so where no row holds they fail
-  pub good-of-none : first_of (fixed_rows rec ks ws fixed k limit ms ts) ≡ done → FixedGood
-  good-of-none e = fixed-good ((done-exactly (fixed_rows rec ks ws fixed k limit ms ts)).0 e)
+  pub good-of-none : first_refusal (fixed_rows rec ks ws fixed k limit ms ts) ≡ None → FixedGood
+  good-of-none e = fixed-good ((none-exactly (fixed_rows rec ks ws fixed k limit ms ts)).0 e)

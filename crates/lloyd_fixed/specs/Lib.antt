@@ -3,7 +3,7 @@
 --   fixed_rule fixed  Lloyd's rule with the fixed shades held
 --   fixed_start       the state in which the run begins: from the fixed shades, every colour in shade 0
 --   fixed_run         the outcome of the run
---   AcceptedFixed    answer and slices are those of one that is accepted
+--   AcceptedFixed     answer and slices are those of one that is accepted
 pub mod Outcomes
 unfoldable pub use Outcomes.{fixed_rows, fixed_rule, fixed_start, fixed_run}
 pub use Outcomes.{AcceptedFixed}

@@ -5,7 +5,8 @@ ghost use Rattle.lloyd_fixed.specs.Outcomes.{fixed_run};
 use super::order::fixed_refusal;
 use lloyd::Ran;
 use lloyd_tests::limit_of;
-use refusal::DONE;
+use moves::Stride;
+use refusal::Refusal;
 use rounds::Whole;
 use table_test::Record;
 
@@ -23,6 +24,7 @@ use table_test::Record;
 //   7 SHORT ROOM    there are fewer members than used entries, or fewer totals than the limit.
 // Leaves the last round's grouping in the members and each round's total in the totals; members
 // past the used entries and totals past the rounds made stay. A refusal leaves both as they came.
+#[tactic(auto, unfolding(crate::specs::Outcomes::fixed_run))]
 pub fn run_fixed(
     rec: Record,
     keys: &[u32],
@@ -32,22 +34,19 @@ pub fn run_fixed(
     limit: usize,
     members: &mut [u32],
     totals: &mut [u64],
-) -> Ran
+) -> Result<Ran, Refusal>
     ensures { RunMeets (fixed_run rec keys.now weights.now
         fixed.now count limit members.old totals.old)
         result members.new totals.new }
 {
-    let number = fixed_refusal(rec, keys, weights, fixed, count, limit, members, totals);
-    if number != DONE {
-        return lloyd::refused(number);
-    }
+    fixed_refusal(rec, keys, weights, fixed, count, limit, members, totals)?;
     let rounds = limit_of(limit);
     let n = fixed.len();
     let held = n / 3;
     let mut base = [0u32; 192];
     lloyd_stock::lay_stock(fixed, &mut base);
     let mut shades = [0u32; 192];
-    let a = rounds::run_from_holding(
+    let a = rounds::run_from(
         keys,
         weights,
         rec.used,
@@ -55,17 +54,16 @@ pub fn run_fixed(
         &mut shades,
         held,
         count,
-        false,
+        Stride::ToMean,
         rounds,
         members,
         totals,
     );
-    Ran {
-        refusal: DONE,
+    Ok(Ran {
         shades,
         rounds: a.rounds,
         settled: a.settled,
         distances: a.distances,
         total: a.total,
-    }
+    })
 }

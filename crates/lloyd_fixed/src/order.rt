@@ -1,10 +1,11 @@
 // The tests of a run with fixed shades, one after the other.
 ghost use Rattle.std.specs.Prelude.{◌≡◌, false, ◌<◌};
-ghost use Rattle.refusal.specs.{first_of};
+ghost use Rattle.std.specs.Result.{result_err};
+ghost use Rattle.refusal.specs.{first_refusal};
 ghost use Rattle.lloyd_stock.specs.{UsedKeys, fixed_in, bad_fixed, few_left};
 ghost use Rattle.lloyd_fixed.specs.Outcomes.{fixed_rows};
 
-use refusal::{BAD_COUNT, BAD_PALETTE, BAD_TABLE, FEW_COLOURS};
+use refusal::Refusal;
 use table_test::Record;
 
 // Whether fewer used colours are unlike every fixed shade than there are free shades: the test of
@@ -23,8 +24,7 @@ fn few_left(rec: Record, keys: &[u32], fixed: &[u8], count: usize) -> bool
     lloyd_stock::colours_left(keys, used, fixed) < count - fixed.len() / 3
 }
 
-// The number of the first test of a run with fixed shades that holds, 0 where none does; in this
-// order:
+// The first test of a run with fixed shades that holds, `Ok` where none does; in this order:
 //   2 BAD TABLE     the record and the used entries are no table;
 //   10 BAD PALETTE  the fixed list is not of 3 to 189 bytes, or not a multiple of 3;
 //   4 BAD COUNT     the shades are not 1 to 64, or no more than are fixed;
@@ -39,25 +39,25 @@ pub fn fixed_refusal(
     limit: usize,
     members: &[u32],
     totals: &[u64],
-) -> u8
-    ensures { result ≡ first_of (fixed_rows rec keys.now weights.now
-        fixed.now count limit members.now totals.now) }
+) -> Result<(), Refusal>
+    ensures { result_err result ≡ first_refusal (fixed_rows rec keys.now
+        weights.now fixed.now count limit members.now totals.now) }
 {
     if table_test::bad_table(rec, keys, weights) {
-        return BAD_TABLE;
+        return Err(Refusal::BadTable);
     }
     if lloyd_stock::bad_fixed(fixed.len()) {
-        return BAD_PALETTE;
+        return Err(Refusal::BadPalette);
     }
     if lloyd_tests::bad_count(count) {
-        return BAD_COUNT;
+        return Err(Refusal::BadCount);
     }
     let held = fixed.len() / 3;
     if count <= held {
-        return BAD_COUNT;
+        return Err(Refusal::BadCount);
     }
     if few_left(rec, keys, fixed, count) {
-        return FEW_COLOURS;
+        return Err(Refusal::FewColours);
     }
     lloyd_refusal::room_refusal(rec, limit, members, totals)
 }

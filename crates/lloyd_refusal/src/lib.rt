@@ -1,7 +1,7 @@
 // When a run is refused: its tests, in their order.
 //
-// Calls; none refuses, and none requires anything of its caller
-//   run_refusal    the number of the first test of a run that holds, 0 where none does   order.rt
+// Calls; none requires anything of its caller
+//   run_refusal    refuses by the first test of a run that holds                order.rt
 //   room_refusal   the same of limit and rooms, the tests at the end of every run
 // The tests themselves stand in table_test and lloyd_tests.
 //

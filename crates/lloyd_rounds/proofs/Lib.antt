@@ -2,7 +2,7 @@
 pub mod Promises
 -- The outcomes of single rounds.
 pub mod Rounds
--- The ways out of a single round.
+-- The ways in which a shortened round is refused.
 pub mod Ways
 -- Single rounds that are accepted.
 pub mod Accepts

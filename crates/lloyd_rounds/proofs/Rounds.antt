@@ -2,13 +2,15 @@
 use Prim.Native.Nat.{ℕ, ◌/◌, ◌≤◌, ◌<◌}
 use mathlib.Core.Bool.{false}
 use mathlib.Core.List.{List, [], ◌∷◌}
-use mathlib.Core.Path.{◌≡◌, refl, sym, ◌∙◌}
+use mathlib.Core.Path.{◌≡◌, refl, sym, ap, ◌∙◌}
 use lib.ListN.{get_or, length}
 use borrow.Author.Tests.{ltb-false}
 use Rattle.number.proofs.Fills.{fill-kept}
-use Rattle.refusal.specs.{Row, done, first_of, NoneHolds, Refuses}
+use Rattle.std.specs.Prelude.{Result, Ok, None}
+use Rattle.std.specs.Result.{result_err, result_unwrap_or}
+use Rattle.refusal.specs.{Row, Refusal, first_refusal, NoneHolds, RefusesBy}
 use Rattle.refusal.proofs.Order.{none-front}
-use Rattle.refusal.proofs.Outcomes.{refuses, refuses-all}
+use Rattle.refusal.proofs.By.{none-exactly, refuses_by, refuses-by-all}
 use Rattle.table_test.specs.{Record, bad_table}
 use Rattle.shades.specs.{colour_at, nearest_shade, bad_coordinates, bad_centre}
 use Rattle.shades.proofs.Checks.{bad-coordinates-exactly, shades-of-tests}
@@ -30,10 +32,14 @@ use Rattle.lloyd_rounds.specs.declared.Rounded.{Rounded}
 use Rattle.lloyd_tests.proofs.Checks.{bad-member-exactly}
 use Rattle.lloyd_tests.proofs.Tables.{tabled-of-test}
 
+-- two answers that are one answer have one value
+pub ok-only : {T : Type 0} {x y : T} → ◌≡◌ {A = Result T Refusal} (Ok x) (Ok y) → x ≡ y
+ok-only {x} e = ap (λ r. result_unwrap_or r x) e
+
 -- ---- a round of either kind
 
 -- the contract of an outcome leaves one answer and one content of each lent slice
-pub meets-only : {o : RoundOutcome} {r r' : Rounded} {cs cs' ms ms' : List ℕ} → RoundMeets o r cs ms
+pub meets-only : {o : RoundOutcome} {r r' : Result Rounded Refusal} {cs cs' ms ms' : List ℕ} → RoundMeets o r cs ms
     → RoundMeets o r' cs' ms' → (r ≡ r') × (cs ≡ cs') × (ms ≡ ms')
 meets-only a b =
     (a.answer ∙ sym b.answer, a.coordinates_are ∙ sym b.coordinates_are, a.members_are ∙ sym b.members_are)
@@ -41,10 +47,10 @@ meets-only a b =
 -- members past the used entries stay, on every input
 outcome-kept : {rows : List Row} {o : RoundOutcome} (C : Colours) (k : ℕ) (a : State)
     (distances : Colours → ℕ → State → ℕ)
-    → Refuses rows o (λ o. o.answer.refusal) (made_round to_mean C k a distances) (kept_round a)
+    → RefusesBy rows o (λ o. result_err o.answer) (made_round to_mean C k a distances) (kept_round a)
     → (i : ℕ) → C.n ≤ i → get_or o.state.members i 0 ≡ get_or a.members i 0
 outcome-kept C k a distances r i h =
-    refuses-all r (λ o. get_or o.state.members i 0 ≡ get_or a.members i 0)
+    refuses-by-all r (λ o. get_or o.state.members i 0 ≡ get_or a.members i 0)
     (fill-kept C.n i (joins C k a.coordinates) a.members h) (λ n. refl)
 
 -- ---- what the tests give
@@ -85,45 +91,75 @@ module _ (rec : Record) (ks ws : List ℕ) (a : State) where
       → PlainGood × (bad_member rec.used (length a.coordinates / 3) a.members ≡ false)
   short-good h = (plain-good (none-front (plain_rows rec ks ws a) (member_row rec a ∷ []) h), h.1.1.1.1.0)
 
+  -- where no row of a plain round holds its tests fail
+  pub good-of-none : first_refusal (plain_rows rec ks ws a) ≡ None → PlainGood
+  good-of-none e = plain-good ((none-exactly (plain_rows rec ks ws a)).0 e)
+
   -- where the tests of a plain round fail, no row of it holds
-  pub plain-none : PlainGood → first_of (plain_rows rec ks ws a) ≡ done
-  plain-none g = simp (g.table, g.count, g.centre, g.room)
+  pub plain-none : PlainGood → first_refusal (plain_rows rec ks ws a) ≡ None
+  plain-none g = (none-exactly (plain_rows rec ks ws a)).1 (g.table, (g.count, (g.centre, (g.room, tt))))
 
   -- and where that of the members fails too, none of a shortened one
   pub short_none : PlainGood → bad_member rec.used (length a.coordinates / 3) a.members ≡ false
-      → first_of (short_rows rec ks ws a) ≡ done
-  short_none g m = simp (g.table, g.count, g.centre, g.room, m)
+      → first_refusal (short_rows rec ks ws a) ≡ None
+  short_none g m = (none-exactly (short_rows rec ks ws a)).1 (g.table, (g.count, (g.centre, (g.room, (m, tt)))))
 
   -- ---- the two calls
 
-  -- a plain round refuses by its rows: it is a round, or its number and zeros, and no slice changes
-  pub plain-refuses : Refuses (plain_rows rec ks ws a) (plain_round rec ks ws a) (λ o. o.answer.refusal)
+  -- a plain round refuses by its rows: it is a round, or its error, and no slice changes
+  pub plain-refuses : RefusesBy (plain_rows rec ks ws a) (plain_round rec ks ws a) (λ o. result_err o.answer)
       (made_round to_mean (colours_of rec.used ks ws) (length a.coordinates / 3) a plain_distances) (kept_round a)
   unfolding plain_round
-  plain-refuses = refuses _ _ _ _ refl (λ n. refl)
+  plain-refuses = refuses_by _ _ _ _ refl (λ n. refl)
 
   -- and so does a shortened one
-  pub short-refuses : Refuses (short_rows rec ks ws a) (short_round rec ks ws a) (λ o. o.answer.refusal)
+  pub short-refuses : RefusesBy (short_rows rec ks ws a) (short_round rec ks ws a) (λ o. result_err o.answer)
       (made_round to_mean (colours_of rec.used ks ws) (length a.coordinates / 3) a short_distances) (kept_round a)
   unfolding short_round
-  short-refuses = refuses _ _ _ _ refl (λ n. refl)
+  short-refuses = refuses_by _ _ _ _ refl (λ n. refl)
 
-  -- where a shortened round is accepted, a plain one is, and leaves the same
-  pub short-leaves-plain : (short_round rec ks ws a).answer.refusal ≡ done
-      → ((plain_round rec ks ws a).answer.refusal ≡ done)
+  -- an accepted shortened round passes its tests
+  short-good-of : {s : Rounded} → (short_round rec ks ws a).answer ≡ Ok s
+      → PlainGood × (bad_member rec.used (length a.coordinates / 3) a.members ≡ false)
+  short-good-of e = short-good (short-refuses.accepted_exactly.0 (ap result_err e))
+
+  -- and answers what it makes
+  short-answers : {s : Rounded} → (short_round rec ks ws a).answer ≡ Ok s
+      → Ok s ≡ (made_round to_mean (colours_of rec.used ks ws) (length a.coordinates / 3) a short_distances).answer
+  short-answers e =
+      sym e ∙ ap (λ (o : RoundOutcome). o.answer) (short-refuses.accepted_is (ap result_err e))
+
+  -- where it is accepted a plain one is made
+  plain-of-short : {s : Rounded} → (short_round rec ks ws a).answer ≡ Ok s
+      → plain_round rec ks ws a
+      ≡ made_round to_mean (colours_of rec.used ks ws) (length a.coordinates / 3) a plain_distances
+  plain-of-short e = plain-refuses.by_none (plain-none (short-good-of e).0)
+
+  -- and leaves the same
+  pub short-leaves-plain : (s : Rounded) → (short_round rec ks ws a).answer ≡ Ok s
+      → (p : Rounded)
+      × ((plain_round rec ks ws a).answer ≡ Ok p)
       × ((short_round rec ks ws a).state ≡ (plain_round rec ks ws a).state)
-      × ((short_round rec ks ws a).answer.total ≡ (plain_round rec ks ws a).answer.total)
-      × ((short_round rec ks ws a).answer.moved ≡ (plain_round rec ks ws a).answer.moved)
-  short-leaves-plain h =
-      let g = short-good (short-refuses.accepted_exactly.0 h) in
-      rw (plain-refuses.by_none (plain-none g.0), short-refuses.accepted_is h) (refl, refl, refl, refl)
+      × (s.total ≡ p.total)
+      × (s.moved ≡ p.moved)
+  short-leaves-plain s e =
+      let is = ok-only (short-answers e) in (
+        _,
+        ap (λ (o : RoundOutcome). o.answer) (plain-of-short e),
+        ap (λ (o : RoundOutcome). o.state) (short-refuses.accepted_is (ap result_err e))
+            ∙ ap (λ (o : RoundOutcome). o.state) (sym (plain-of-short e)),
+        ap (λ (x : Rounded). x.total) is,
+        ap (λ (x : Rounded). x.moved) is,
+      )
 
   -- and counts at least as many distances
-  pub short-distances-at-most : (short_round rec ks ws a).answer.refusal ≡ done
-      → (short_round rec ks ws a).answer.distances ≤ (plain_round rec ks ws a).answer.distances
-  short-distances-at-most h =
-      let g = short-good (short-refuses.accepted_exactly.0 h) in
-      rw (plain-refuses.by_none (plain-none g.0), short-refuses.accepted_is h)
+  pub short-distances-at-most : (s p : Rounded) → (short_round rec ks ws a).answer ≡ Ok s
+      → (plain_round rec ks ws a).answer ≡ Ok p → s.distances ≤ p.distances
+  short-distances-at-most s p e f =
+      let is = ok-only (short-answers e) in
+      let was = ok-only (sym f ∙ ap (λ (o : RoundOutcome). o.answer) (plain-of-short e)) in
+      let g = short-good-of e in
+      rw (is, was)
       (short-at-most-plain (colours_of rec.used ks ws) (length a.coordinates / 3) a
       (short-walkable g.0 g.1).joined)
 
@@ -140,7 +176,7 @@ module _ (rec : Record) (ks ws : List ℕ) (a : State) where
       outcome-kept (colours_of rec.used ks ws) (length a.coordinates / 3) a short_distances short-refuses
 
   -- in an accepted plain round each used member is the nearest shade, as the shades came
-  pub plain-joined : (plain_round rec ks ws a).answer.refusal ≡ done → (i : ℕ) → i < rec.used
+  pub plain-joined : result_err (plain_round rec ks ws a).answer ≡ None → (i : ℕ) → i < rec.used
       → get_or (plain_round rec ks ws a).state.members i 0
       ≡ nearest_shade a.coordinates (length a.coordinates / 3) (colour_at ks i)
   plain-joined h i l =
@@ -149,7 +185,7 @@ module _ (rec : Record) (ks ws : List ℕ) (a : State) where
       (plain-steppable (plain-good (plain-refuses.accepted_exactly.0 h))).fit i l)
 
   -- and in an accepted shortened one
-  pub short-joined : (short_round rec ks ws a).answer.refusal ≡ done → (i : ℕ) → i < rec.used
+  pub short-joined : result_err (short_round rec ks ws a).answer ≡ None → (i : ℕ) → i < rec.used
       → get_or (short_round rec ks ws a).state.members i 0
       ≡ nearest_shade a.coordinates (length a.coordinates / 3) (colour_at ks i)
   short-joined h i l =

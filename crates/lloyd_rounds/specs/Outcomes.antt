@@ -1,6 +1,6 @@
 -- The outcome of a single round: the answer, and both lent slices at exit.
-use Rattle.std.specs.Prelude.{ℕ, ◌/◌, List, ◌≡◌, length}
-use Rattle.refusal.specs.{done, outcome_of}
+use Rattle.std.specs.Prelude.{ℕ, ◌/◌, List, ◌≡◌, length, Result, Ok, Err}
+use Rattle.refusal.specs.{Refusal, outcome_by}
 use Rattle.table_test.specs.{Record}
 use Rattle.method.specs.{
   Rule,
@@ -19,43 +19,38 @@ use Rattle.lloyd_rounds.specs.declared.Rounded.{Rounded}
 
 -- the answer, and the lent coordinates and members at exit
 pub record RoundOutcome : Type 0 where
-  pub answer : Rounded
+  pub answer : Result Rounded Refusal
   pub state : State
-
--- the answer of a refusal: its number and zeros
-abbrev pub refused_round : ℕ → Rounded
-refused_round n = record { refusal = n; total = 0; moved = 0; distances = 0 }
 
 -- a round of the rule on k shades, with the distances that a round of its kind works out
 abbrev pub made_round : Rule → Colours → ℕ → State → (Colours → ℕ → State → ℕ) → RoundOutcome
 made_round rule C k a distances = record {
-  answer = record {
-    refusal = done;
+  answer = Ok (record {
     total = total_of C k a;
     moved = moved_of rule C k a;
     distances = distances C k a;
-  };
+  });
   state = step rule C k a;
 }
 
--- that of a refusal: its answer, and no slice changes
-abbrev pub kept_round : State → ℕ → RoundOutcome
-kept_round a n = record { answer = refused_round n; state = a }
+-- that of a refusal: its error, and no slice changes
+abbrev pub kept_round : State → Refusal → RoundOutcome
+kept_round a n = record { answer = Err n; state = a }
 
 -- the whole outcome of a plain round: a third of the coordinates lent is the count of shades
 unfoldable pub plain_round : Record → List ℕ → List ℕ → State → RoundOutcome
 plain_round rec ks ws a =
-    outcome_of (plain_rows rec ks ws a)
+    outcome_by (plain_rows rec ks ws a)
     (made_round to_mean (colours_of rec.used ks ws) (length a.coordinates / 3) a plain_distances) (kept_round a)
 
 -- the whole outcome of a shortened round
 unfoldable pub short_round : Record → List ℕ → List ℕ → State → RoundOutcome
 short_round rec ks ws a =
-    outcome_of (short_rows rec ks ws a)
+    outcome_by (short_rows rec ks ws a)
     (made_round to_mean (colours_of rec.used ks ws) (length a.coordinates / 3) a short_distances) (kept_round a)
 
 -- the contract: answer and slices are those of the outcome
-pub record RoundMeets (o : RoundOutcome) (r : Rounded) (coordinates members : List ℕ) : Type 0 where
+pub record RoundMeets (o : RoundOutcome) (r : Result Rounded Refusal) (coordinates members : List ℕ) : Type 0 where
   pub answer : r ≡ o.answer
   pub coordinates_are : coordinates ≡ o.state.coordinates
   pub members_are : members ≡ o.state.members

@@ -5,8 +5,8 @@
 //                 Refuses 2 BAD TABLE, 4 BAD COUNT, 8 BAD CENTRE, 7 SHORT ROOM, in this order.
 //   short_round   one round by the shortened search.
 //                 Refuses 2, 4, 8, 7, 9 BAD MEMBER, in this order.
-// A refusal answers its number and zeros and writes nothing. The tests stand in table_test,
-// shades and lloyd_tests; the work is done by the crate rounds.
+// A refusal is the error of the answer, and writes nothing. The tests stand in table_test, shades
+// and lloyd_tests; the work is done by the crate rounds.
 //
 // Read next: specs/Lib.antt (what the words mean), proofs/Promises.antt (what is shown).
 
@@ -16,11 +16,10 @@ mod round;
 
 pub use round::{plain_round, short_round};
 
-// The answer of a single round: 0 or the refusal's number; the round's total; the number of shades
-// that moved; the distances worked out.
+// The answer of a single round: the round's total; the number of shades that moved; the distances
+// worked out.
 #[derive(Clone, Copy)]
 pub struct Rounded {
-    pub refusal: u8,
     pub total: u64,
     pub moved: u32,
     pub distances: u64,

@@ -1,18 +1,27 @@
 -- Values among others. Of some values that all differ, those that are none of some others are as many as are left when
 -- each of the others that is one of them, and has no equal before it, takes one away.
 use mathlib.Core.Bool.{Bool, true, false, not, ◌&&◌, ◌||◌}
-use mathlib.Core.Logic.{inl, inr, ⊎_elim}
+use mathlib.Core.Logic.{inl, inr}
 use mathlib.Core.Path.{◌≡◌, sym, ap, ◌∙◌}
-use Prim.Native.Nat.{ℕ, zero, suc, ◌+◌, ◌≤◌, ◌<◌}
+use Prim.Native.Nat.{ℕ, zero, suc, ◌+◌, ◌<◌}
 use native.Mathlib.Decide.{ℕ_discrete}
+use native.Mathlib.Nat.{add-zero}
 use native.Mathlib.Omega.{arith}
 use lib.Dec.{ltb, eqb}
 use borrow.Author.Tests.{lt-ltb, ltb-true, eq-eqb, ne_eqb, eqb-true}
+use Rattle.std.specs.List.{list_any, range_with_len}
 use Rattle.number.specs.{bit, how_many}
 use Rattle.number.proofs.Cases.{bool, never}
 use Rattle.number.proofs.Counts.{none-how_many}
-use Rattle.number.proofs.Searches.{below-or-last}
-use Rattle.number.proofs.Tallies.{how_many-all, how_many-find, how_many-last, how_many-others, how_many-same, how_many-some}
+use Rattle.number.proofs.Tallies.{
+  how_many-all,
+  how_many-find,
+  how_many-first,
+  how_many-last,
+  how_many-others,
+  how_many-same,
+  how_many-some,
+}
 use Rattle.lloyd_stock.specs.Keys.{among}
 
 -- ---- one value among others
@@ -53,27 +62,28 @@ among-kept n f v same = among-more n f v ∙ elim (bool (eqb (f n) v)) [
   | inr t ↦ simp t
 ]
 
--- ---- a loop that looks for a value
+-- ---- a search for a value
 
--- none of the first i of n values is v
-pub record Unseen (n : ℕ) (f : ℕ → ℕ) (v i : ℕ) : Type 0 where
-  pub within : i ≤ n
-  pub before : (j : ℕ) → j < i → ¬ (f j ≡ v)
+-- some place passes a test exactly where those that pass are counted above 0; a is the first place
+any-counted : (t : ℕ → Bool) (n a : ℕ) → list_any t (range_with_len a n) ≡ ltb 0 (how_many n (λ i. t (a + i)))
+any-counted t zero a = rw (none-how_many 0 (λ i. t (a + i)) (λ i l. absurd (omega arith)))
+any-counted t (suc n) a = elim (bool (t a)) [
+  | inl h ↦
+      let first : t (a + 0) ≡ true = rw add-zero h in
+      simp h (sym (lt-ltb 0 _ (how_many-some (suc n) 0 (λ i. t (a + i)) (omega arith) first)))
+  | inr h ↦
+      let first : t (a + 0) ≡ false = rw add-zero h in
+      let next : how_many n (λ i. t (a + 1 + i)) ≡ how_many n (λ i. t (a + suc i)) =
+      how_many-same n _ _ (λ i l. ap t (omega arith)) in
+      simp h (any-counted t n (a + 1)
+      ∙ ap (ltb 0) (omega (arith, how_many-first n (λ i. t (a + i)), ap bit first, next)))
+]
 
--- before the first
-pub unseen-start : (n : ℕ) (f : ℕ → ℕ) (v : ℕ) → Unseen n f v 0
-unseen-start n f v = record { within = omega arith; before = λ j h. absurd (omega arith) }
-
--- one more, which is another value
-pub unseen-step : {n : ℕ} {f : ℕ → ℕ} {v i : ℕ} → Unseen n f v i → i < n → ¬ (f i ≡ v) → Unseen n f v (i + 1)
-unseen-step {n} {f} {v} {i} u l d = record {
-  within = omega arith;
-  before = λ j h. ⊎_elim (u.before j) (λ e. rw e d) (below-or-last i j h);
-}
-
--- past the last it is none of them
-pub unseen-done : {n : ℕ} {f : ℕ → ℕ} {v i : ℕ} → Unseen n f v i → n ≤ i → among n f v ≡ false
-unseen-done {n} {f} {v} {i} u h = among_none n f v (λ j l. u.before j (omega arith))
+-- so it is one of n values where a search of their places finds it
+pub any-among : (n : ℕ) (f : ℕ → ℕ) (v : ℕ) → list_any (λ i. eqb (f i) v) (range_with_len 0 n) ≡ among n f v
+any-among n f v =
+    any-counted (λ i. eqb (f i) v) n 0
+    ∙ ap (ltb 0) (how_many-same n _ _ (λ i l. ap (λ j. eqb (f j) v) (omega arith)))
 
 -- ---- values that are none of some others
 

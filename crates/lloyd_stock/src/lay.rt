@@ -11,10 +11,7 @@ pub fn lay_stock(fixed: &[u8], base: &mut [u32])
         ≡ fill (length fixed.now) (λ i. sixteenth (get_or fixed.now i 0))
         base.old }
 {
-    let n = fixed.len();
-    let mut i = 0;
-    while i < n {
-        base[i] = 16 * (fixed[i] as u32);
-        i += 1;
+    for (i, level) in fixed.iter().enumerate() {
+        base[i] = 16 * u32::from(*level);
     }
 }

@@ -9,8 +9,7 @@ fn fixed_key(fixed: &[u8], q: usize) -> u32
     requires { q < fixed_in fixed.now }
     ensures { result ≡ fixed_key fixed.now q }
 {
-    let at = 3 * q;
-    colour::key_of(fixed[at], fixed[at + 1], fixed[at + 2])
+    colour::key_at(fixed, 3 * q)
 }
 
 // Whether a fixed shade equal to shade `q` stands before it. Requires the shade.
@@ -19,14 +18,7 @@ fn has_equal(fixed: &[u8], q: usize) -> bool
     ensures { result ≡ has_equal fixed.now q }
 {
     let key = fixed_key(fixed, q);
-    let mut i = 0;
-    while i < q {
-        if fixed_key(fixed, i) == key {
-            return true;
-        }
-        i += 1;
-    }
-    false
+    (0..q).any(|i| fixed_key(fixed, i) == key)
 }
 
 // Whether fixed shade `q` takes a used colour: its key stands among the used ones, and it has no
@@ -37,10 +29,7 @@ fn takes_one(keys: &[u32], used: usize, fixed: &[u8], q: usize) -> bool
 {
     let key = fixed_key(fixed, q);
     let at = table_pixel::pixel::place(keys, used, key);
-    if table_pixel::pixel::stands(keys, used, at, key) {
-        return !has_equal(fixed, q);
-    }
-    false
+    table_pixel::pixel::stands(keys, used, at, key) && !has_equal(fixed, q)
 }
 
 // How many used colours are unlike every fixed shade. Requires the used keys of a table, and a
@@ -50,11 +39,9 @@ pub fn colours_left(keys: &[u32], used: usize, fixed: &[u8]) -> usize
     ensures { result ≡ colours_left used keys.now fixed.now }
 {
     let n = fixed.len() / 3;
-    let mut taken: u32 = 0;
-    let mut q = 0;
-    while q < n {
-        taken += bits::bit(takes_one(keys, used, fixed, q));
-        q += 1;
+    let mut taken = 0;
+    for q in 0..n {
+        taken += usize::from(takes_one(keys, used, fixed, q));
     }
-    used - taken as usize
+    used - taken
 }

@@ -9,10 +9,7 @@ use super::USUAL_LIMIT;
 pub fn bad_count(count: usize) -> bool
     ensures { result ≡ bad_count count }
 {
-    if count < 1 {
-        return true;
-    }
-    shades::MOST_SHADES < count
+    !(1..=shades::MOST_SHADES).contains(&count)
 }
 
 // The limit asked for: 100 for 0.
@@ -22,13 +19,6 @@ pub fn limit_of(limit: usize) -> usize
     if limit == 0 { USUAL_LIMIT } else { limit }
 }
 
-// A member, in the width of a count.
-fn wide(member: u32) -> usize
-    ensures { result ≡ member }
-{
-    member as usize
-}
-
 // Whether a used member is not below the count: the test of 9 BAD MEMBER. Requires a table's number
 // of entries, and a member for each.
 pub fn bad_member(members: &[u32], used: usize, count: usize) -> bool
@@ -36,10 +26,8 @@ pub fn bad_member(members: &[u32], used: usize, count: usize) -> bool
     ensures { result ≡ bad_member used count members.now }
 {
     let mut bad: u32 = 0;
-    let mut i = 0;
-    while i < used {
-        bad += bits::bit(count <= wide(members[i]));
-        i += 1;
+    for member in &members[..used] {
+        bad += u32::from(count <= *member as usize);
     }
     0 < bad
 }

@@ -1,8 +1,7 @@
 -- The numbers that the pixels of a block get, and what mapping one asks.
-use Rattle.std.specs.Prelude.{ℕ, ◌≤◌, ◌<◌, List, length}
+use Rattle.std.specs.Prelude.{ℕ, ◌≤◌, ◌<◌, List}
 use Rattle.colour.specs.{Point}
 use Rattle.shades.specs.{nearest_shade}
-use Rattle.search_all.specs.{RoomFor}
 use Rattle.map_slots.specs.{slot_of}
 use Rattle.map_join.specs.{few_slots}
 use Rattle.map_errors.specs.{pixel_at}
@@ -14,13 +13,6 @@ nearest_to s k strip i = nearest_shade s k (pixel_at strip i)
 -- the number of the nearest of k shades to point c i
 abbrev pub nearest_at : List ℕ → ℕ → (ℕ → Point) → ℕ → ℕ
 nearest_at s k c i = nearest_shade s k (c i)
-
--- the lists that a block of n pixels is mapped in have a place for each pixel
-pub record Room (n : ℕ) (keys which reds greens blues best : List ℕ) : Type 0 where
-  pub key : n ≤ length keys
-  pub slot : n ≤ length which
-  pub point : RoomFor n reds greens blues
-  pub number : n ≤ length best
 
 -- n pixels take at most 256 slots, and none but these
 pub record FewTaken (n : ℕ) (which : List ℕ) (m : ℕ) : Type 0 where

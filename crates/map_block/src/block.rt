@@ -5,36 +5,29 @@ ghost use Rattle.shades.specs.{Shades};
 ghost use Rattle.map_errors.specs.{pixel_at, misses_of};
 ghost use Rattle.map_block.specs.Blocks.{nearest_to};
 ghost use Rattle.map_slots.specs.{most_slots, pixel_key, Gathered};
-ghost use Rattle.map_block.specs.Blocks.{Room};
 
+use super::Scratch;
 use super::few::map_few;
 use map_errors::Errors;
 use map_errors::settle::settle;
 use map_find::search_slots;
 use map_slots::gather;
 
-// Maps a block of pixels that are gathered in the first `slots` places of `keys` to the first
-// `count` of `shades`; the four lists before `index` are where it works. Requires that they are,
-// some shades on the grid, three bytes for each place of `index`, at most 1024 pixels, and room to
-// work.
+// Maps a block of pixels that are gathered in the first `slots` slots of `scratch` to the first
+// `count` of `shades`. Requires that they are, some shades on the grid, three bytes for each place
+// of `index`, and at most 1024 pixels.
 fn map_many(
     strip: &[u8],
-    keys: &[u32],
-    which: &[u16],
+    scratch: &mut Scratch,
     slots: usize,
     shades: &[u32],
     count: usize,
-    reds: &mut [u16],
-    greens: &mut [u16],
-    blues: &mut [u16],
-    best: &mut [u32],
     index: &mut [u8],
 ) -> Errors
     requires { (length strip.now ≡ 3 * length index.old) × Shades count shades.now
         × (0 < count) × (length index.old ≤ most_slots)
-        × Room (length index.old) keys.now which.now reds.old greens.old blues.old
-        best.old
-        × Gathered (pixel_key strip.now) (length index.old) keys.now which.now slots }
+        × Gathered (pixel_key strip.now) (length index.old) scratch.old.keys
+        scratch.old.which slots }
     ensures index { index.new
         ≡ fill (length index.old)
         (nearest_to shades.now count strip.now) index.old }
@@ -43,29 +36,29 @@ fn map_many(
         (nearest_to shades.now count strip.now)
         (length index.old) }
 {
-    search_slots(keys, slots, shades, count, reds, greens, blues, best);
-    settle(strip, which, shades, best, index)
+    search_slots(
+        &scratch.keys[..slots],
+        shades,
+        count,
+        &mut scratch.reds,
+        &mut scratch.greens,
+        &mut scratch.blues,
+        &mut scratch.best,
+    );
+    settle(strip, &scratch.which, shades, &scratch.best, index)
 }
 
-// Maps a block of pixels to the first `count` of `shades`; the six lists before `index` are where
-// it works. Requires some shades on the grid, three bytes for each place of `index`, at most 1024
-// pixels, and room to work.
+// Maps a block of pixels to the first `count` of `shades`, in `scratch`. Requires some shades on
+// the grid, three bytes for each place of `index`, and at most 1024 pixels.
 pub fn map_block(
     strip: &[u8],
     shades: &[u32],
     count: usize,
-    keys: &mut [u32],
-    which: &mut [u16],
-    reds: &mut [u16],
-    greens: &mut [u16],
-    blues: &mut [u16],
-    best: &mut [u32],
+    scratch: &mut Scratch,
     index: &mut [u8],
 ) -> Errors
     requires { (length strip.now ≡ 3 * length index.old) × Shades count shades.now
-        × (0 < count) × (length index.old ≤ most_slots)
-        × Room (length index.old) keys.old which.old reds.old greens.old blues.old
-        best.old }
+        × (0 < count) × (length index.old ≤ most_slots) }
     ensures index { index.new
         ≡ fill (length index.old)
         (nearest_to shades.now count strip.now) index.old }
@@ -74,14 +67,10 @@ pub fn map_block(
         (nearest_to shades.now count strip.now)
         (length index.old) }
 {
-    let slots = gather(strip, keys, which);
+    let slots = gather(strip, &mut scratch.keys, &mut scratch.which);
     if slots <= 256 {
-        map_few(
-            which, slots, shades, count, keys, reds, greens, blues, best, index,
-        )
+        map_few(scratch, slots, shades, count, index)
     } else {
-        map_many(
-            strip, keys, which, slots, shades, count, reds, greens, blues, best, index,
-        )
+        map_many(strip, scratch, slots, shades, count, index)
     }
 }

@@ -2,7 +2,8 @@
 // differences are added up for each channel.
 //
 // Calls; none refuses, and what one requires stands above it
-//   map_block   maps a block to some shades   block.rt
+//   map_block      maps a block to some shades   block.rt
+//   Scratch::new   what it works in
 // Crate `map_slots` gathers the pixels of a block in slots, and `map_find` searches these as the
 // plain round does, on levels in place of sixteenths. Where the slots are few (few.rt) those with
 // one colour are joined (crate `map_join`), and numbers and errors are told slot by slot (crate
@@ -16,3 +17,29 @@ mod block;
 mod few;
 
 pub use block::map_block;
+
+// What a block is mapped in: places for the pixels of a block, which are at most 1024, and for
+// their slots.
+#[derive(Drop)]
+pub struct Scratch {
+    keys: [u32; 1024],
+    which: [u16; 1024],
+    reds: [u16; 1024],
+    greens: [u16; 1024],
+    blues: [u16; 1024],
+    best: [u32; 1024],
+}
+
+impl Scratch {
+    // All places are 0.
+    pub fn new() -> Scratch {
+        Scratch {
+            keys: [0; 1024],
+            which: [0; 1024],
+            reds: [0; 1024],
+            greens: [0; 1024],
+            blues: [0; 1024],
+            best: [0; 1024],
+        }
+    }
+}

@@ -16,7 +16,8 @@ pub entry-is-nearest : (p s : List ℕ) (i : ℕ) → 0 < entry_count p → Near
 entry-is-nearest = nears.entry-is-nearest
 
 -- No other number is that.
-pub nearest-entry-only : (p s : List ℕ) (i : ℕ) → 0 < entry_count p → (q : ℕ) → NearestEntry p s i q → q ≡ entry_for p s i
+pub nearest-entry-only : (p s : List ℕ) (i : ℕ) → 0 < entry_count p → (q : ℕ) → NearestEntry p s i q
+    → q ≡ entry_for p s i
 nearest-entry-only = nears.nearest-entry-only
 
 -- ---- the errors

@@ -81,7 +81,8 @@ module _ (palette strip : List ℕ) (n : ℕ) (colours : Bytes palette) (bytes :
   channel-most e =
       omega (
         arith,
-        miss-most most_level (pixel_at strip) palette (entry_for palette strip) (λ q. pixel-within palette q colours) e n
+        miss-most most_level (pixel_at strip) palette (entry_for palette strip) (λ q. pixel-within palette q colours) e
+            n
             (λ i l. pixel-within strip i bytes),
       )
 

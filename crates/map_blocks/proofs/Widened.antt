@@ -71,6 +71,7 @@ module _ {strip palette wide : List ℕ} {n : ℕ} (may : Mappable strip palette
       (λ i l. nearest-same wide palette _ (shade-same wide palette _ widened-agree) (pixel_at strip i))
 
   -- and the errors are those from the entries
-  pub widened-errors : {r : Errors} → r ≡ misses_of (pixel_at strip) wide (nearest_to wide (entry_count palette) strip) n
+  pub widened-errors : {r : Errors} → r ≡ misses_of (pixel_at strip) wide (nearest_to wide (entry_count palette) strip)
+      n
       → r ≡ errors_of palette strip n
   widened-errors e = e ∙ misses-agree wide palette _ widened-agree may.some strip n

@@ -1,16 +1,9 @@
 -- What the strip mapper asks.
-use Rattle.std.specs.Prelude.{ℕ, ◌-◌, ◌*◌, ◌≤◌, ◌<◌, List, ◌≡◌, length}
+use Rattle.std.specs.Prelude.{ℕ, ◌*◌, ◌≤◌, ◌<◌, List, ◌≡◌, length}
 use Rattle.colour.specs.{most_coordinate, most_pixels}
 use Rattle.shades.specs.{most_shades}
-use Rattle.map_slots.specs.{most_slots}
 use Rattle.map_errors.specs.{Errors}
 use Rattle.map_blocks.specs.Meaning.{entry_count}
-
--- the block that begins at pixel i of n ends at e: it has some pixels, and no more than a block may have
-pub record BlockEnd (i n e : ℕ) : Type 0 where
-  pub some : i < e
-  pub within : e ≤ n
-  pub few : e - i ≤ most_slots
 
 -- no error is above that of 16,777,216 pixels
 pub record SmallErrors (a : Errors) : Type 0 where

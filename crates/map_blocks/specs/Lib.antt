@@ -4,13 +4,12 @@
 --   entry_count palette        a third of the palette's bytes
 --   entry_at palette q         entry q, in whole levels
 --   entry_for palette strip i  the nearest entry to pixel i
---   NearestEntry p s i q      entry q is the nearest to pixel i, and every lower number is farther
+--   NearestEntry p s i q       entry q is the nearest to pixel i, and every lower number is farther
 --   errors_of palette strip n  the channel errors of the first n pixels
 --   error_of palette strip n   their error: the sum of squared level differences
---   BlockEnd i n e            the block that begins at pixel i of n ends at e
---   SmallErrors, Mappable     what adding errors up and mapping a strip ask
+--   SmallErrors, Mappable      what adding errors up and mapping a strip ask
 pub mod Meaning
 pub mod Asking
 unfoldable pub use Meaning.{pixel_count, entry_count, entry_at, entry_for, errors_of, error_of}
 pub use Meaning.{NearestEntry}
-pub use Asking.{BlockEnd, SmallErrors, Mappable}
+pub use Asking.{SmallErrors, Mappable}

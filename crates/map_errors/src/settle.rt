@@ -13,7 +13,7 @@ fn miss(level: u8, coordinate: u32) -> u64
     requires { coordinate ≤ most_coordinate }
     ensures { (result ≡ sq level coordinate) × (result ≤ most_coordinate * most_coordinate) }
 {
-    colour::square(level as u32, coordinate) as u64
+    u64::from(colour::square(u32::from(level), coordinate))
 }
 
 // Stores the number found for each pixel of `strip`, at its slot, which `which` tells, and adds up
@@ -27,20 +27,17 @@ pub fn settle(strip: &[u8], which: &[u16], shades: &[u32], best: &[u32], index: 
     ensures errors { result ≡ misses_of (pixel_at strip.now) shades.now
         (found_number which.now best.now) (length index.old) }
 {
-    let n = index.len();
-    let mut red: u64 = 0;
-    let mut green: u64 = 0;
-    let mut blue: u64 = 0;
-    let mut i = 0;
-    while i < n {
-        let number = best[which[i] as usize] % 64;
+    let mut red = 0;
+    let mut green = 0;
+    let mut blue = 0;
+    for i in 0..index.len() {
+        let number = best[usize::from(which[i])] % 64;
         index[i] = number as u8;
         let from = 3 * i;
         let at = 3 * (number as usize);
         red += miss(strip[from], shades[at]);
         green += miss(strip[from + 1], shades[at + 1]);
         blue += miss(strip[from + 2], shades[at + 2]);
-        i += 1;
     }
     Errors { red, green, blue }
 }

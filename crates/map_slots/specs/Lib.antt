@@ -4,8 +4,8 @@
 --   slot_key keys q            the key at slot q
 --   slot_of which i            the slot of pixel i
 --   levels_of keys which i     the colour at the slot of pixel i, in whole levels
---   Gathered f n keys which m the keys f 0 .. f (n - 1) are at their slots, m in all
---   Takes keys m key h        a key takes slot h: one of m where it stands (`there`), or the `next`
+--   Gathered f n keys which m  the keys f 0 .. f (n - 1) are at their slots, m in all
+--   Takes keys m key h         a key takes slot h: one of m where it stands (`there`), or the `next`
 pub mod Gathering
 unfoldable pub use Gathering.{
   most_slots,

@@ -13,19 +13,16 @@ pub fn gather(strip: &[u8], keys: &mut [u32], which: &mut [u16]) -> usize
     ensures { Gathered (pixel_key strip.now) (length strip.now / 3)
         keys.new which.new result }
 {
-    let n = strip.len() / 3;
     let mut slots = 0;
-    let mut last: u32 = 4294967295;
-    let mut i = 0;
-    while i < n {
-        let at = 3 * i;
-        let key = colour::key_of(strip[at], strip[at + 1], strip[at + 2]);
-        slots += bits::bit(key != last) as usize;
+    let mut last = u32::MAX;
+    // Not by `chunks_exact`, which is no plainer to prove: its loop is known by what is left of it.
+    for i in 0..strip.len() / 3 {
+        let key = colour::key_at(strip, 3 * i);
+        slots += usize::from(key != last);
         let slot = slots - 1;
         keys[slot] = key;
         which[i] = slot as u16;
         last = key;
-        i += 1;
     }
     slots
 }

@@ -5,7 +5,7 @@ use mathlib.Core.Path.{◌≡◌, refl, sym, ap, ◌∙◌}
 use native.Mathlib.Omega.{arith}
 use lib.ListN.{length, get_or, set}
 use Rattle.number.specs.{fill, sq}
-use Rattle.number.proofs.Fills.{fill-at, fill-length, fill_more}
+use Rattle.number.proofs.Fills.{fill-at, fill_more}
 use Rattle.colour.specs.{Point}
 use Rattle.shades.specs.{shade_at}
 use Rattle.map_tell.specs.Telling.{cell_of, cells_of, told_at}
@@ -34,48 +34,29 @@ told-first told q =
 
 -- ---- the loop
 
--- the cells of the first i of n points are in front of `before`
-pub record Telling (c : ℕ → Point) (s : List ℕ) (f : ℕ → ℕ) (n : ℕ) (before told : List ℕ) (i : ℕ) : Type 0 where
-  pub within : i ≤ n
-  pub is : told ≡ fill (4 * i) (cells_of c s f) before
-
--- before the first point
-pub telling-start : (c : ℕ → Point) (s : List ℕ) (f : ℕ → ℕ) (n : ℕ) (before : List ℕ)
-    → Telling c s f n before before 0
-unfolding fill
-telling-start c s f n before = record { within = omega arith; is = refl }
-
 -- a store behind the m values that are filled in fills one more
 fill-next : (g : ℕ → ℕ) (d : List ℕ) (m p : ℕ) {e : List ℕ} {v : ℕ} → e ≡ fill m g d → p ≡ m + 1 → m < length d
     → v ≡ g m → set e m v ≡ fill p g d
 fill-next g d m p is next l same = rw (is, same, next) (fill_more m g d l)
 
-module _ {c : ℕ → Point} {s : List ℕ} {f : ℕ → ℕ} {n : ℕ} {before told : List ℕ} {i : ℕ}
-    (w : Telling c s f n before told i) where
-  -- as many cells as before
-  pub telling-long : length told ≡ length before
-  telling-long = ap length w.is ∙ fill-length (4 * i) (cells_of c s f) before
-
-  -- one point more: u, v and t are its levels
-  pub telling-step : i < n → 4 * n ≤ length before → {u v t x y z : ℕ} → u ≡ (c i).r → v ≡ (c i).g → t ≡ (c i).b
-      → x ≡ sq u (shade_at s (f i)).r → y ≡ sq v (shade_at s (f i)).g → z ≡ sq t (shade_at s (f i)).b
-      → Telling c s f n before
-      (set (set (set (set told (4 * i) x) (4 * i + 1) y) (4 * i + 2) z) (4 * i + 3) (f i)) (i + 1)
-  telling-step l room eu ev et ex ey ez =
-      let p = shade_at s (f i) in
-      let g = cells_of c s f in
-      let d = before in
-      let one = fill-next g d (4 * i) (4 * i + 1) w.is refl (omega arith)
-      (ex ∙ ap (λ a. sq a p.r) eu ∙ sym (first_cell c s f i)) in
-      let two = fill-next g d (4 * i + 1) (4 * i + 2) one (omega arith) (omega arith)
-      (ey ∙ ap (λ a. sq a p.g) ev ∙ sym (cell_at c s f i 1 (omega arith))) in
-      let three = fill-next g d (4 * i + 2) (4 * i + 3) two (omega arith) (omega arith)
-      (ez ∙ ap (λ a. sq a p.b) et ∙ sym (cell_at c s f i 2 (omega arith))) in
-      record {
-        within = omega arith;
-        is = fill-next g d (4 * i + 3) (4 * (i + 1)) three (omega arith) (omega arith)
-            (sym (cell_at c s f i 3 (omega arith)));
-      }
+-- where the cells of the first i points are in front of d, those of one more, whose levels are u, v and t, follow
+pub telling-step : (c : ℕ → Point) (s : List ℕ) (f : ℕ → ℕ) (i : ℕ) (d : List ℕ) {told : List ℕ}
+    → told ≡ fill (4 * i) (cells_of c s f) d → 4 * i + 3 < length d
+    → {u v t x y z : ℕ} → u ≡ (c i).r → v ≡ (c i).g → t ≡ (c i).b
+    → x ≡ sq u (shade_at s (f i)).r → y ≡ sq v (shade_at s (f i)).g → z ≡ sq t (shade_at s (f i)).b
+    → set (set (set (set told (4 * i) x) (4 * i + 1) y) (4 * i + 2) z) (4 * i + 3) (f i)
+    ≡ fill (4 * (i + 1)) (cells_of c s f) d
+telling-step c s f i d is room eu ev et ex ey ez =
+    let p = shade_at s (f i) in
+    let g = cells_of c s f in
+    let one = fill-next g d (4 * i) (4 * i + 1) is refl (omega arith)
+    (ex ∙ ap (λ a. sq a p.r) eu ∙ sym (first_cell c s f i)) in
+    let two = fill-next g d (4 * i + 1) (4 * i + 2) one (omega arith) (omega arith)
+    (ey ∙ ap (λ a. sq a p.g) ev ∙ sym (cell_at c s f i 1 (omega arith))) in
+    let three = fill-next g d (4 * i + 2) (4 * i + 3) two (omega arith) (omega arith)
+    (ez ∙ ap (λ a. sq a p.b) et ∙ sym (cell_at c s f i 2 (omega arith))) in
+    fill-next g d (4 * i + 3) (4 * (i + 1)) three (omega arith) (omega arith)
+    (sym (cell_at c s f i 3 (omega arith)))
 
 -- cells told are read back
 pub told_at_lem : (c : ℕ → Point) (s : List ℕ) (f : ℕ → ℕ) (n : ℕ) (d : List ℕ) {told : List ℕ}

@@ -8,19 +8,18 @@ ghost use Rattle.map_tell.specs.Telling.{cells_of, told_of, told_errors, Tellabl
 
 use map_errors::Errors;
 
-// Tells of so many slots, in the front of `told`, the rest of which stays: how far the colour that
-// a slot is linked to is from the shade found for it, channel by channel, and the shade's number.
-// Requires that the links are slots, that the shades are there, and room.
-pub fn tell(keys: &[u32], link: &[u8], best: &[u32], slots: usize, shades: &[u32], told: &mut [u32])
-    requires { Tellable keys.now link.now best.now shades.now told.old slots }
+// Tells of slots, in the front of `told`, the rest of which stays: how far the colour that a slot
+// is linked to is from the shade found for it, channel by channel, and the shade's number. Requires
+// that the links are slots, that the shades are there, and room.
+pub fn tell(keys: &[u32], link: &[u8], best: &[u32], shades: &[u32], told: &mut [u32])
+    requires { Tellable keys.now link.now best.now shades.now told.old (length link.now) }
     ensures { told.new
-        ≡ fill (4 * slots) (cells_of (levels_of keys.now link.now)
+        ≡ fill (4 * length link.now) (cells_of (levels_of keys.now link.now)
         shades.now (found_number link.now best.now))
         told.old }
 {
-    let mut i = 0;
-    while i < slots {
-        let slot = link[i] as usize;
+    for i in 0..link.len() {
+        let slot = usize::from(link[i]);
         let key = keys[slot];
         let number = best[slot] % 64;
         let from = 3 * (number as usize);
@@ -29,7 +28,6 @@ pub fn tell(keys: &[u32], link: &[u8], best: &[u32], slots: usize, shades: &[u32
         told[at + 1] = colour::square(colour::green_of(key), shades[from + 1]);
         told[at + 2] = colour::square(colour::blue_of(key), shades[from + 2]);
         told[at + 3] = number;
-        i += 1;
     }
 }
 
@@ -44,18 +42,15 @@ pub fn add_told(which: &[u16], told: &[u32], index: &mut [u8]) -> Errors
     ensures errors { result ≡ told_errors which.now told.now
         (length index.old) }
 {
-    let n = index.len();
-    let mut red: u64 = 0;
-    let mut green: u64 = 0;
-    let mut blue: u64 = 0;
-    let mut i = 0;
-    while i < n {
-        let at = 4 * (which[i] as usize);
+    let mut red = 0;
+    let mut green = 0;
+    let mut blue = 0;
+    for i in 0..index.len() {
+        let at = 4 * usize::from(which[i]);
         index[i] = told[at + 3] as u8;
-        red += told[at] as u64;
-        green += told[at + 1] as u64;
-        blue += told[at + 2] as u64;
-        i += 1;
+        red += u64::from(told[at]);
+        green += u64::from(told[at + 1]);
+        blue += u64::from(told[at + 2]);
     }
     Errors { red, green, blue }
 }

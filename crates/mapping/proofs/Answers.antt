@@ -9,8 +9,9 @@ use lib.ListN.{length, get_or}
 use lib.Ieee.Exact.{HasValue}
 use lib.Pow.{pow_pos}
 use borrow.Author.Tests.{ltb-false}
-use Rattle.refusal.specs.{Refusal, number_of, done}
-use Rattle.refusal.proofs.Outcomes.{outcome-all}
+use Rattle.std.specs.Prelude.{None, Some}
+use Rattle.refusal.specs.{Refusal}
+use Rattle.refusal.proofs.By.{by-all}
 use Rattle.colour.specs.{Bytes, most_pixels}
 use Rattle.shades.proofs.Checks.{bad-coordinates-exactly}
 use Rattle.figures.specs.{
@@ -32,6 +33,8 @@ use Rattle.map_blocks.proofs.Totals.{errors-most}
 use Rattle.mapping.specs.Outcomes.{
   MapOutcome,
   map_rows,
+  refusal_in,
+  mapped_in,
   made_map,
   kept_map,
   map_strip,
@@ -45,27 +48,28 @@ use Rattle.mapping.proofs.Meaning.{map-refuses, index_at}
 module _ (s p d : List ℕ) (a : ℕ) where
   -- the answer
   abbrev r : Mapped
-  r = (map_strip s p d a).answer
+  r = mapped_in (map_strip s p d a).answer
 
   -- the channels add up to the error, in refused calls too
   pub channels-add : r.errors.red + r.errors.green + r.errors.blue ≡ r.error
   unfolding map_strip
   channels-add =
-      outcome-all (map_rows s p d a) (made_map s p d a) (kept_map p d)
+      by-all (map_rows s p d a) (made_map s p d a) (kept_map p d)
       (λ (o : MapOutcome).
-      o.answer.errors.red + o.answer.errors.green + o.answer.errors.blue ≡ o.answer.error)
+      (mapped_in o.answer).errors.red + (mapped_in o.answer).errors.green + (mapped_in o.answer).errors.blue
+      ≡ (mapped_in o.answer).error)
       (strips.channels-add p s (pixel_count s)) (λ n. refl)
 
   -- a refusal holds no figure
-  pub none-of-refused : (n : Refusal) → r.refusal ≡ number_of n → NoFigure r
+  pub none-of-refused : (n : Refusal) → refusal_in (map_strip s p d a).answer ≡ Some n → NoFigure r
   none-of-refused n e =
-      rw (ap (λ (o : MapOutcome). o.answer) ((map-refuses s p d a).refused_is n e))
+      rw (ap (λ (o : MapOutcome). mapped_in o.answer) ((map-refuses s p d a).refused_is n e))
       (record { number = refl; values = refl; zeros = refl })
 
-  module _ (ok : r.refusal ≡ done) where
+  module _ (ok : refusal_in (map_strip s p d a).answer ≡ None) where
     -- an accepted answer is that of the strip
-    answer-made : r ≡ (made_map s p d a).answer
-    answer-made = ap (λ (o : MapOutcome). o.answer) ((map-refuses s p d a).accepted_is ok)
+    answer-made : r ≡ mapped_in (made_map s p d a).answer
+    answer-made = ap (λ (o : MapOutcome). mapped_in o.answer) ((map-refuses s p d a).accepted_is ok)
 
     -- its error and its channel errors
     pub error-is : (r.error ≡ error_of p s (pixel_count s)) × (r.errors ≡ errors_of p s (pixel_count s))

@@ -8,7 +8,7 @@ use lib.ListN.{length, length-append, take-append-drop}
 use borrow.Author.Tests.{le-ltb, ltb-false}
 use Rattle.number.specs.{fill, fill_from, sum}
 use Rattle.number.proofs.Parts.{from-joined, from-same}
-use Rattle.refusal.specs.{done}
+use Rattle.std.specs.Prelude.{None}
 use Rattle.colour.specs.{bad_strip, joined_strips, EachWhole, most_pixels}
 use Rattle.colour.proofs.Strips.{whole-exactly, whole-behind}
 use Rattle.palette.specs.{bad_palette}
@@ -16,7 +16,7 @@ use Rattle.palette_twins.specs.{twin_shade}
 use Rattle.map_errors.specs.{plus_errors}
 use Rattle.map_blocks.specs.{pixel_count, entry_for, error_of, errors_of}
 use Rattle.map_blocks.proofs.Totals.{entry_first, entry-second, error-joined, errors-joined}
-use Rattle.mapping.specs.Outcomes.{MapOutcome, map_strip}
+use Rattle.mapping.specs.Outcomes.{MapOutcome, refusal_in, mapped_in, map_strip}
 use Rattle.mapping.specs.Pieces.{Pieced, left_by, in_strips, EachAccepted}
 use Rattle.mapping.proofs.Meaning.{
   map-refuses,
@@ -29,7 +29,7 @@ whole_length : (s : List ℕ) → bad_strip s ≡ false → length s ≡ 3 * pix
 whole_length s h = let z = (whole-exactly s).0 h in omega arith
 
 module _ (s t p d : List ℕ) (a : ℕ) (whole : bad_strip s ≡ false)
-    (ok : (map_strip (s ++ t) p d a).answer.refusal ≡ done) where
+    (ok : refusal_in (map_strip (s ++ t) p d a).answer ≡ None) where
   -- the tests of the whole
   none : (bad_strip (s ++ t) ≡ false) × (bad_palette p ≡ false) × (twin_shade p ≡ false)
       × (pixel_count (s ++ t) ≤ most_pixels)
@@ -46,14 +46,14 @@ module _ (s t p d : List ℕ) (a : ℕ) (whole : bad_strip s ≡ false)
   second-whole = whole-behind s t whole none.0
 
   -- the first is accepted
-  first-accepted : (map_strip s p d a).answer.refusal ≡ done
+  first-accepted : refusal_in (map_strip s p d a).answer ≡ None
   first-accepted =
       let few : pixel_count s ≤ most_pixels = omega (arith, none.3, pixels-joined) in
       let room : a + pixel_count s ≤ length d = omega (arith, stretch-within (s ++ t) p d a ok, pixels-joined) in
       (map-refuses s p d a).accepted_exactly.1 (whole, (none.1, (none.2, (le-ltb _ _ few, (le-ltb _ _ room, tt)))))
 
   -- and so is the second, behind it
-  second-accepted : (map_strip t p (map_strip s p d a).index (a + pixel_count s)).answer.refusal ≡ done
+  second-accepted : refusal_in (map_strip t p (map_strip s p d a).index (a + pixel_count s)).answer ≡ None
   second-accepted =
       let e = (map_strip s p d a).index in
       let few : pixel_count t ≤ most_pixels = omega (arith, none.3, pixels-joined) in
@@ -95,25 +95,26 @@ module _ (s t p d : List ℕ) (a : ℕ) (whole : bad_strip s ≡ false)
   second_call = map_strip t p (map_strip s p d a).index (a + pixel_count s)
 
   -- the error of an accepted call is that of its strip
-  error-is : (u : List ℕ) (e : List ℕ) (b : ℕ) → (map_strip u p e b).answer.refusal ≡ done
-      → (map_strip u p e b).answer.error ≡ error_of p u (pixel_count u)
-  error-is u e b k = ap (λ (o : MapOutcome). o.answer.error) ((map-refuses u p e b).accepted_is k)
+  error-is : (u : List ℕ) (e : List ℕ) (b : ℕ) → refusal_in (map_strip u p e b).answer ≡ None
+      → (mapped_in (map_strip u p e b).answer).error ≡ error_of p u (pixel_count u)
+  error-is u e b k = ap (λ (o : MapOutcome). (mapped_in o.answer).error) ((map-refuses u p e b).accepted_is k)
 
   -- and so on each channel
-  errors_are : (u : List ℕ) (e : List ℕ) (b : ℕ) → (map_strip u p e b).answer.refusal ≡ done
-      → (map_strip u p e b).answer.errors ≡ errors_of p u (pixel_count u)
-  errors_are u e b k = ap (λ (o : MapOutcome). o.answer.errors) ((map-refuses u p e b).accepted_is k)
+  errors_are : (u : List ℕ) (e : List ℕ) (b : ℕ) → refusal_in (map_strip u p e b).answer ≡ None
+      → (mapped_in (map_strip u p e b).answer).errors ≡ errors_of p u (pixel_count u)
+  errors_are u e b k = ap (λ (o : MapOutcome). (mapped_in o.answer).errors) ((map-refuses u p e b).accepted_is k)
 
   -- the errors of both add up to that of the whole
-  error-of-both : first-call.answer.error + second_call.answer.error ≡ whole-call.answer.error
+  error-of-both : (mapped_in first-call.answer).error + (mapped_in second_call.answer).error
+      ≡ (mapped_in whole-call.answer).error
   error-of-both =
       ap₂ ◌+◌ (error-is s d a first-accepted) (error-is t _ (a + pixel_count s) second-accepted)
       ∙ sym (error-joined p s t (pixel_count s) (whole_length s whole) (pixel_count t))
       ∙ ap (error_of p (s ++ t)) (sym pixels-joined) ∙ sym (error-is (s ++ t) d a ok)
 
   -- and so on each channel
-  errors-of-both : plus_errors first-call.answer.errors second_call.answer.errors
-      ≡ whole-call.answer.errors
+  errors-of-both : plus_errors (mapped_in first-call.answer).errors (mapped_in second_call.answer).errors
+      ≡ (mapped_in whole-call.answer).errors
   errors-of-both =
       ap₂ plus_errors (errors_are s d a first-accepted) (errors_are t _ (a + pixel_count s) second-accepted)
       ∙ sym (errors-joined p s t (pixel_count s) (whole_length s whole) (pixel_count t))
@@ -122,7 +123,7 @@ module _ (s t p d : List ℕ) (a : ℕ) (whole : bad_strip s ≡ false)
 -- ---- any number of strips
 
 -- no strips are a strip of no pixels
-none-joined : (p d : List ℕ) (a : ℕ) → (map_strip [] p d a).answer.refusal ≡ done
+none-joined : (p d : List ℕ) (a : ℕ) → refusal_in (map_strip [] p d a).answer ≡ None
     → in_strips [] p d a ≡ left_by (map_strip [] p d a)
 unfolding fill_from fill sum
 none-joined p d a ok =
@@ -132,7 +133,7 @@ none-joined p d a ok =
 
 -- a picture that is accepted whole is accepted strip by strip
 pub each-accepted : (ss : List (List ℕ)) (p d : List ℕ) (a : ℕ) → EachWhole ss
-    → (map_strip (joined_strips ss) p d a).answer.refusal ≡ done → EachAccepted ss p d a
+    → refusal_in (map_strip (joined_strips ss) p d a).answer ≡ None → EachAccepted ss p d a
 each-accepted [] p d a w ok = tt
 each-accepted (s ∷ ss) p d a (w, ws) ok = (
   first-accepted s (joined_strips ss) p d a w ok,
@@ -141,7 +142,7 @@ each-accepted (s ∷ ss) p d a (w, ws) ok = (
 
 -- and leaves the same index picture and the same errors
 pub in-strips : (ss : List (List ℕ)) (p d : List ℕ) (a : ℕ) → EachWhole ss
-    → (map_strip (joined_strips ss) p d a).answer.refusal ≡ done
+    → refusal_in (map_strip (joined_strips ss) p d a).answer ≡ None
     → in_strips ss p d a ≡ left_by (map_strip (joined_strips ss) p d a)
 in-strips [] p d a w ok = none-joined p d a ok
 in-strips (s ∷ ss) p d a (w, ws) ok =
@@ -149,8 +150,8 @@ in-strips (s ∷ ss) p d a (w, ws) ok =
     let rest = in-strips ss p o.index (a + pixel_count s) ws (second-accepted s (joined_strips ss) p d a w ok) in
     ap (λ (r : Pieced). record {
       index = r.index;
-      error = o.answer.error + r.error;
-      errors = plus_errors o.answer.errors r.errors;
+      error = (mapped_in o.answer).error + r.error;
+      errors = plus_errors (mapped_in o.answer).errors r.errors;
     }) rest
     ∙ rw (
       index-joined s (joined_strips ss) p d a w ok,

@@ -9,11 +9,21 @@ use lib.ListN.{length, get_or}
 use borrow.Author.Tests.{ltb-true, lt-ltb, ltb-false}
 use Rattle.number.specs.{fill_from}
 use Rattle.number.proofs.Parts.{from_at, from-before, from-behind, from-length}
-use Rattle.refusal.specs.{done, Refuses}
-use Rattle.refusal.proofs.Outcomes.{refuses}
+use Rattle.std.specs.Prelude.{None}
+use Rattle.refusal.specs.{RefusesBy}
+use Rattle.refusal.proofs.By.{refuses_by}
 use Rattle.colour.specs.{most_pixels}
 use Rattle.map_blocks.specs.{pixel_count, entry_for}
-use Rattle.mapping.specs.Outcomes.{many_pixels, short_index, map_rows, MapOutcome, made_map, kept_map, map_strip}
+use Rattle.mapping.specs.Outcomes.{
+  many_pixels,
+  short_index,
+  map_rows,
+  MapOutcome,
+  refusal_in,
+  made_map,
+  kept_map,
+  map_strip,
+}
 
 -- ---- the tests
 
@@ -28,16 +38,15 @@ short-index-exactly s d a = (ltb-true _ _, lt-ltb _ _)
 module _ (s p d : List ℕ) (a : ℕ) where
   -- ---- refusals
 
-  -- mapping refuses by its rows: it is made, or its number, zeros, "no pixels" and the twins told, and the index
-  -- picture stays
-  pub map-refuses : Refuses (map_rows s p d a) (map_strip s p d a) (λ o. o.answer.refusal) (made_map s p d a)
+  -- mapping refuses by its rows: it is made, or its refusal answered with the twins told, and the index picture stays
+  pub map-refuses : RefusesBy (map_rows s p d a) (map_strip s p d a) (λ o. refusal_in o.answer) (made_map s p d a)
       (kept_map p d)
   unfolding map_strip
-  map-refuses = refuses _ _ _ _ refl (λ n. refl)
+  map-refuses = refuses_by _ _ _ _ refl (λ n. refl)
 
   -- ---- the index picture of an accepted call
 
-  module _ (ok : (map_strip s p d a).answer.refusal ≡ done) where
+  module _ (ok : refusal_in (map_strip s p d a).answer ≡ None) where
     -- its stretch is filled
     index_is : (map_strip s p d a).index ≡ fill_from a (pixel_count s) (entry_for p s) d
     index_is = ap (λ (o : MapOutcome). o.index) (map-refuses.accepted_is ok)

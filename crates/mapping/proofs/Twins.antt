@@ -1,4 +1,4 @@
--- What a mapping tells of twins: with TWIN SHADE the pair, and 0 and 0 in every other answer.
+-- What a mapping tells of twins: with TWIN SHADE the pair, and none in every other answer.
 use Prim.Native.Nat.{ℕ}
 use mathlib.Core.Bool.{true, false}
 use mathlib.Core.List.{List}
@@ -6,18 +6,20 @@ use mathlib.Core.Logic.{◌↔◌, inl, inr}
 use mathlib.Core.Path.{◌≡◌, refl, sym, ap, ◌∙◌, subst}
 use native.Mathlib.Omega.{arith}
 use borrow.Author.Tests.{ne_eqb}
-use Rattle.refusal.specs.{Refusal, number_of, done, Given, TWIN_SHADE}
+use Rattle.std.specs.Prelude.{None, Some}
+use Rattle.std.specs.Option.{IsSomeAnd}
+use Rattle.refusal.specs.{Refusal, number_of, Given, TwinShade}
 use Rattle.refusal.proofs.Promises.{number-only}
 use Rattle.colour.specs.{bad_strip}
 use Rattle.palette.specs.{bad_palette}
-use Rattle.palette_twins.specs.{twin_shade, no_twins, TwoEqual, AreTwins, AllDiffer}
+use Rattle.palette_twins.specs.{twin_shade, TwoEqual, AreTwins, AllDiffer}
 use Rattle.palette_twins.proofs.Promises.{twin-shade-exactly, all-differ-exactly, twins-are}
-use Rattle.mapping.specs.Outcomes.{MapOutcome, map_rows, twins_told, map_strip}
+use Rattle.mapping.specs.Outcomes.{MapOutcome, map_rows, twins_told, refusal_in, answered_twins, map_strip}
 use Rattle.mapping.proofs.Meaning.{map-refuses}
 
 module _ (s p d : List ℕ) (a : ℕ) where
   -- where TWIN SHADE is given strip and palette are whole, and there are twins
-  given-twins : Given (map_rows s p d a) TWIN_SHADE
+  given-twins : Given (map_rows s p d a) TwinShade
       → (bad_strip s ≡ false) × (bad_palette p ≡ false) × (twin_shade p ≡ true)
   given-twins (inl (t, e)) = let z = ap number_of e in absurd (omega arith)
   given-twins (inr (f, inl (t, e))) = let z = ap number_of e in absurd (omega arith)
@@ -27,39 +29,39 @@ module _ (s p d : List ℕ) (a : ℕ) where
   given-twins (inr (f, inr (g, inr (h, inr (i, inr (j, none)))))) = absurd none
 
   -- it is given exactly where they are whole and two entries are equal
-  pub twins-refused-exactly : ((map_strip s p d a).answer.refusal ≡ number_of TWIN_SHADE)
+  pub twins-refused-exactly : (refusal_in (map_strip s p d a).answer ≡ Some TwinShade)
       ↔ ((bad_strip s ≡ false) × (bad_palette p ≡ false) × TwoEqual p)
   twins-refused-exactly = (
     λ e.
-        let g = given-twins (((map-refuses s p d a).refused_exactly TWIN_SHADE).0 e) in
+        let g = given-twins (((map-refuses s p d a).refused_exactly TwinShade).0 e) in
         (g.0, g.1, (twin-shade-exactly p).0 g.2),
     λ t.
-        ((map-refuses s p d a).refused_exactly TWIN_SHADE).1
+        ((map-refuses s p d a).refused_exactly TwinShade).1
         (inr (t.0, inr (t.1, inl ((twin-shade-exactly p).1 t.2, refl)))),
   )
 
   -- the twins of a refusal are those that it tells
-  told : (n : Refusal) → (map_strip s p d a).answer.refusal ≡ number_of n
-      → (map_strip s p d a).answer.twins ≡ twins_told p (number_of n)
-  told n e = ap (λ (o : MapOutcome). o.answer.twins) ((map-refuses s p d a).refused_is n e)
+  told : (n : Refusal) → refusal_in (map_strip s p d a).answer ≡ Some n
+      → answered_twins (map_strip s p d a).answer ≡ twins_told p n
+  told n e = ap (λ (o : MapOutcome). answered_twins o.answer) ((map-refuses s p d a).refused_is n e)
 
   -- TWIN SHADE tells the pair
-  pub twins-told : (map_strip s p d a).answer.refusal ≡ number_of TWIN_SHADE
-      → AreTwins p (map_strip s p d a).answer.twins
+  pub twins-told : refusal_in (map_strip s p d a).answer ≡ Some TwinShade
+      → IsSomeAnd (answered_twins (map_strip s p d a).answer) (AreTwins p)
   twins-told e =
-      let g = given-twins (((map-refuses s p d a).refused_exactly TWIN_SHADE).0 e) in
-      subst (AreTwins p) (sym (told TWIN_SHADE e)) (twins-are p g.2)
+      let g = given-twins (((map-refuses s p d a).refused_exactly TwinShade).0 e) in
+      subst (λ t. IsSomeAnd t (AreTwins p)) (sym (told TwinShade e)) (twins-are p g.2)
 
   -- another refusal none
-  pub no-twins-refused : (n : Refusal) → (map_strip s p d a).answer.refusal ≡ number_of n → ¬ (n ≡ TWIN_SHADE)
-      → (map_strip s p d a).answer.twins ≡ no_twins
+  pub no-twins-refused : (n : Refusal) → refusal_in (map_strip s p d a).answer ≡ Some n → ¬ (n ≡ TwinShade)
+      → answered_twins (map_strip s p d a).answer ≡ None
   no-twins-refused n e other =
-      told n e ∙ rw (ne_eqb (number_of n) (number_of TWIN_SHADE) (λ z. other (number-only n TWIN_SHADE z)))
+      told n e ∙ rw (ne_eqb (number_of n) (number_of TwinShade) (λ z. other (number-only n TwinShade z)))
 
-  module _ (ok : (map_strip s p d a).answer.refusal ≡ done) where
+  module _ (ok : refusal_in (map_strip s p d a).answer ≡ None) where
     -- and an accepted call none either
-    pub no-twins-accepted : (map_strip s p d a).answer.twins ≡ no_twins
-    no-twins-accepted = ap (λ (o : MapOutcome). o.answer.twins) ((map-refuses s p d a).accepted_is ok)
+    pub no-twins-accepted : answered_twins (map_strip s p d a).answer ≡ None
+    no-twins-accepted = ap (λ (o : MapOutcome). answered_twins o.answer) ((map-refuses s p d a).accepted_is ok)
 
     -- of an accepted call all entries differ
     pub entries-differ : AllDiffer p

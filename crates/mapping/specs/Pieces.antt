@@ -1,9 +1,8 @@
 -- A picture mapped in strips, one call after the other: each stretch begins where the one before ended.
-use Rattle.std.specs.Prelude.{ℕ, ◌+◌, List, [], ◌∷◌, ◌≡◌}
-use Rattle.refusal.specs.{done}
+use Rattle.std.specs.Prelude.{ℕ, ◌+◌, List, [], ◌∷◌, None, ◌≡◌}
 use Rattle.map_errors.specs.{Errors, plus_errors}
 use Rattle.map_blocks.specs.{pixel_count}
-use Rattle.mapping.specs.Outcomes.{MapOutcome, map_strip}
+use Rattle.mapping.specs.Outcomes.{MapOutcome, refusal_in, mapped_in, map_strip}
 
 -- what the calls leave: the index picture, and the errors added up
 pub record Pieced : Type 0 where
@@ -13,7 +12,7 @@ pub record Pieced : Type 0 where
 
 -- what one call leaves
 abbrev pub left_by : MapOutcome → Pieced
-left_by o = record { index = o.index; error = o.answer.error; errors = o.answer.errors }
+left_by o = record { index = o.index; error = (mapped_in o.answer).error; errors = (mapped_in o.answer).errors }
 
 -- the calls, from the first strip to the last
 abbrev pub in_strips : List (List ℕ) → List ℕ → List ℕ → ℕ → Pieced
@@ -27,8 +26,8 @@ in_strips (s ∷ ss) palette index first =
     let rest = in_strips ss palette o.index (first + pixel_count s) in
     record {
       index = rest.index;
-      error = o.answer.error + rest.error;
-      errors = plus_errors o.answer.errors rest.errors;
+      error = (mapped_in o.answer).error + rest.error;
+      errors = plus_errors (mapped_in o.answer).errors rest.errors;
     }
 
 -- every one of them is accepted
@@ -36,4 +35,4 @@ abbrev pub EachAccepted : List (List ℕ) → List ℕ → List ℕ → ℕ → 
 EachAccepted [] palette index first = Unit {0}
 EachAccepted (s ∷ ss) palette index first =
     let o = map_strip s palette index first in
-    (o.answer.refusal ≡ done) × EachAccepted ss palette o.index (first + pixel_count s)
+    (refusal_in o.answer ≡ None) × EachAccepted ss palette o.index (first + pixel_count s)

@@ -3,35 +3,11 @@ ghost use Rattle.std.specs.Prelude.{◌≡◌, ◌+◌, ◌≤◌, length};
 ghost use Rattle.number.specs.{fill_from};
 ghost use Rattle.colour.specs.{most_pixels};
 ghost use Rattle.map_blocks.specs.{entry_for, errors_of, Mappable, SmallErrors};
-ghost use Rattle.mapping.specs.Outcomes.{refused_map, answer_of, map_strip, MapMeets};
+ghost use Rattle.mapping.specs.Outcomes.{answer_of, map_strip, MapMeets};
 
-use super::Mapped;
-use figures::{Mean, Means};
+use super::{Mapped, Unmapped};
 use map_errors::Errors;
-use palette_twins::Twins;
-use refusal::{BAD_PALETTE, BAD_STRIP, DONE, MANY_PIXELS, SHORT_ROOM, TWIN_SHADE};
-
-// The answer of a refusal: its number, zeros, "no pixels", and these twins.
-fn refused(number: u8, twins: Twins) -> Mapped
-    ensures { result ≡ refused_map number twins }
-{
-    Mapped {
-        refusal: number,
-        error: 0,
-        errors: Errors {
-            red: 0,
-            green: 0,
-            blue: 0,
-        },
-        mean: Mean::NoPixels,
-        means: Means {
-            red: 0.0,
-            green: 0.0,
-            blue: 0.0,
-        },
-        twins,
-    }
-}
+use refusal::Refusal;
 
 // The answer of a strip that is mapped, from its errors and its pixel count. Requires errors as
 // small as a strip's.
@@ -44,15 +20,10 @@ fn answer(errors: Errors, pixels: u64) -> Mapped
     let blue = errors.blue;
     let error = red + green + blue;
     Mapped {
-        refusal: DONE,
         error,
         errors,
         mean: figures::mean_figure(error, pixels),
         means: figures::channel_means(red, green, blue, pixels),
-        twins: Twins {
-            lower: 0,
-            higher: 0,
-        },
     }
 }
 
@@ -87,38 +58,41 @@ fn map_stretch(
 // Answers error and figures of this strip; with TWIN SHADE the numbers of the two entries, of
 // several pairs that with the smallest higher number. Every other index byte stays, and a refusal
 // leaves all as they came.
-pub fn map_strip(strip: &[u8], palette: &[u8], index: &mut [u8], first: usize) -> Mapped
+pub fn map_strip(
+    strip: &[u8],
+    palette: &[u8],
+    index: &mut [u8],
+    first: usize,
+) -> Result<Mapped, Unmapped>
     ensures { MapMeets
         (map_strip strip.now palette.now index.old first)
         result index.new }
 {
-    let none = Twins {
-        lower: 0,
-        higher: 0,
-    };
     if strip.len() % 3 != 0 {
-        return refused(BAD_STRIP, none);
+        return Err(Unmapped::from(Refusal::BadStrip));
     }
     if palette::bad_palette(palette) {
-        return refused(BAD_PALETTE, none);
+        return Err(Unmapped::from(Refusal::BadPalette));
     }
-    let twins = palette_twins::twin_of(palette);
-    if 0 < twins.higher {
-        return refused(TWIN_SHADE, twins);
+    if let Some(twins) = palette_twins::twin_of(palette) {
+        return Err(Unmapped {
+            refusal: Refusal::TwinShade,
+            twins: Some(twins),
+        });
     }
     let pixels = strip.len() / 3;
     let count = pixels as u64;
     if colour::MOST_PIXELS < count {
-        return refused(MANY_PIXELS, none);
+        return Err(Unmapped::from(Refusal::ManyPixels));
     }
     let room = index.len();
     if room < pixels {
-        return refused(SHORT_ROOM, none);
+        return Err(Unmapped::from(Refusal::ShortRoom));
     }
     let last = room - pixels;
     if last < first {
-        return refused(SHORT_ROOM, none);
+        return Err(Unmapped::from(Refusal::ShortRoom));
     }
     let errors = map_stretch(strip, palette, index, first, pixels);
-    answer(errors, count)
+    Ok(answer(errors, count))
 }

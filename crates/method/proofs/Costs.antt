@@ -89,7 +89,8 @@ module _ (C : Colours) where
       ))
 
   -- the true mean costs just the least, both times W and W²
-  pub fraction-exactly : pixels_in C * cost_at (drawn (pixels_in C) C) (sums_of C) ≡ pixels_in C * pixels_in C * least_of C
+  pub fraction-exactly : pixels_in C * cost_at (drawn (pixels_in C) C) (sums_of C) ≡ pixels_in C * pixels_in C *
+      least_of C
   fraction-exactly =
       rw mul-sub
       (omega (

@@ -163,4 +163,5 @@ module _ (B : Base) (n : ℕ) (c : ℕ → Point) where
   starts-low zero w h = λ i. omega arith
   starts-low (suc k) w h =
       let s = starts_from B n c k in
-      join-low s (flat (next_shade B n c k s)) (starts-low k w h) (flat-low (next_shade B n c k s) (next-within k s w h))
+      join-low s (flat (next_shade B n c k s)) (starts-low k w h)
+      (flat-low (next_shade B n c k s) (next-within k s w h))

@@ -43,7 +43,8 @@ module _ (used : ℕ) (ks ws : List ℕ) (t : Tabled used ks ws)
 
     -- the shades that the moves leave
     pub moves-laid : (s : List ℕ) (k : ℕ) → k ≤ most_shades
-        → fill (3 * k) (goes move sums s) s ≡ laid k (λ q. rule q (group_of (colours_of used ks ws) m q) (shade_at s q)) s
+        → fill (3 * k) (goes move sums s) s ≡ laid k (λ q. rule q (group_of (colours_of used ks ws) m q) (shade_at s q))
+        s
     moves-laid s k few =
         fill-same (3 * k) (goes move sums s) (coordinate_of (moved s)) s (λ n l. goes_moved s n (omega arith))
 
@@ -59,5 +60,6 @@ module _ (used : ℕ) (ks ws : List ℕ) (t : Tabled used ks ws)
     -- as many shades move
     pub movers-are : (s : List ℕ) (k : ℕ) → k ≤ most_shades
         → how_many k (λ q. not (stays move sums s q))
-        ≡ how_many k (λ q. not (same_place (rule q (group_of (colours_of used ks ws) m q) (shade_at s q)) (shade_at s q)))
+        ≡ how_many k (λ q. not (same_place (rule q (group_of (colours_of used ks ws) m q) (shade_at s q))
+        (shade_at s q)))
     movers-are s k few = how_many-same k _ _ (λ q l. ap not (stays-is s q (omega arith)))

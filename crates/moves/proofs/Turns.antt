@@ -1,12 +1,13 @@
 -- Shade after shade is moved: what the first q leave where they were, and one more; and those that are held.
 use Prim.Native.Nat.{ℕ, ◌+◌, ◌*◌, ◌/◌, ◌%◌, ◌≤◌, ◌<◌}
-use mathlib.Core.Bool.{Bool, false, cond, not}
+use mathlib.Core.Bool.{Bool, true, false, not}
 use mathlib.Core.List.{List}
-use mathlib.Core.Path.{◌≡◌, sym, ap, ◌∙◌}
+use mathlib.Core.Path.{◌≡◌, refl, sym, ap, ◌∙◌}
 use native.Mathlib.Omega.{arith}
 use lib.ListN.{get_or, length}
 use borrow.Author.Tests.{eq-eqb}
-use Rattle.number.specs.{fill}
+use Rattle.std.specs.Int.{from_bool}
+use Rattle.number.specs.{bit, fill}
 use Rattle.number.proofs.Fills.{fill_more, fill-kept, fill-self}
 use Rattle.colour.specs.{sixteenth}
 use Rattle.method.specs.{Move, holding_move}
@@ -19,7 +20,8 @@ use Rattle.moves.specs.Reading.{goes, stays, with_moved}
 -- a coordinate of a held shade stays
 held-goes : (f : ℕ) (move : Move) (t s : List ℕ) (n : ℕ) → n < 3 * f → goes (holding_move f move) t s n ≡ get_or s n 0
 held-goes f move t s n h =
-    move-held f move (n / 3) (group_pixels t (n / 3)) (sixteenth (level_sum t (n % 3) (n / 3))) (get_or s n 0) (omega arith)
+    move-held f move (n / 3) (group_pixels t (n / 3)) (sixteenth (level_sum t (n % 3) (n / 3))) (get_or s n 0)
+    (omega arith)
 
 -- so with those moved, all is as it was
 pub held-shades : (f : ℕ) (move : Move) (t s : List ℕ) → s ≡ fill (3 * f) (goes (holding_move f move) t s) s
@@ -62,6 +64,11 @@ module _ (f : ℕ) (move : Move) (t s : List ℕ) (q : ℕ) (free : f ≤ q) whe
 
 -- ---- shade after shade
 
+-- what a test counts as, as a number, is 1 where it holds and else 0
+pub from_bool-bit : (b : Bool) → from_bool b ≡ bit b
+from_bool-bit true = refl
+from_bool-bit false = refl
+
 module _ (move : Move) (t s : List ℕ) (q : ℕ) where
   -- a coordinate of a later shade is where it was, and goes where it went from there
   goes-still : (n : ℕ) → 3 * q ≤ n → goes move t (fill (3 * q) (goes move t s) s) n ≡ goes move t s n
@@ -99,11 +106,9 @@ module _ (move : Move) (t s : List ℕ) (q : ℕ) where
         → left ≡ fill (3 * (q + 1)) (goes move t s) s
     turn-shades room is = is ∙ ap (λ a. with_moved move t a q) e ∙ moved_more room
 
-    -- and it counts the shade where it moves from the shades as they were
-    pub turn-counted : {r : ℕ} (moved : ℕ) → r ≡ cond (not (stays move t at q)) (moved + 1) moved
-        → r ≡ cond (not (stays move t s q)) (moved + 1) moved
-    turn-counted moved is =
-        is ∙ ap (λ (b : Bool). cond (not b) (moved + 1) moved) (ap (λ a. stays move t a q) e ∙ stays-still)
+    -- and it tells whether the shade moves from the shades as they were
+    pub turn-told : {r : Bool} → r ≡ not (stays move t at q) → r ≡ not (stays move t s q)
+    turn-told is = is ∙ ap not (ap (λ a. stays move t a q) e ∙ stays-still)
 
 module _ (f : ℕ) (move : Move) (t s : List ℕ) (q : ℕ) (free : f ≤ q) {at : List ℕ}
     (e : at ≡ fill (3 * q) (goes (holding_move f move) t s) s) where
@@ -112,9 +117,6 @@ module _ (f : ℕ) (move : Move) (t s : List ℕ) (q : ℕ) (free : f ≤ q) {at
       → left ≡ fill (3 * (q + 1)) (goes (holding_move f move) t s) s
   turn-shades-holding room is = turn-shades (holding_move f move) t s q e room (is ∙ free_moved f move t at q free)
 
-  -- which counts this shade, as it is not held
-  pub turn-counted-holding : {r : ℕ} (moved : ℕ) → r ≡ cond (not (stays move t at q)) (moved + 1) moved
-      → r ≡ cond (not (stays (holding_move f move) t s q)) (moved + 1) moved
-  turn-counted-holding moved is =
-      turn-counted (holding_move f move) t s q e moved
-      (is ∙ ap (λ (b : Bool). cond (not b) (moved + 1) moved) (free_stays f move t at q free))
+  -- which tells of this shade, as it is not held
+  pub turn-told-holding : {r : Bool} → r ≡ not (stays move t at q) → r ≡ not (stays (holding_move f move) t s q)
+  turn-told-holding is = turn-told (holding_move f move) t s q e (is ∙ ap not (free_stays f move t at q free))

@@ -2,8 +2,7 @@
 // past it; the first shades may be held where they stand.
 //
 // Calls; none refuses, and what one requires stands above it
-//   move_shades           moves each shade, and answers how many that took elsewhere   step.rt
-//   move_shades_holding   the same with the first shades held
+//   move_shades   moves shades that are not held, and answers how many it took elsewhere   step.rt
 //
 // Read next: specs/Lib.antt (what the words mean), proofs/Lib.antt (what is shown).
 
@@ -11,4 +10,11 @@
 
 mod step;
 
-pub use step::{move_shades, move_shades_holding};
+pub use step::move_shades;
+
+// How far a shade goes: to the rounded mean of its group, or past it by Jancey's step.
+#[derive(Clone, Copy)]
+pub enum Stride {
+    ToMean,
+    PastMean,
+}

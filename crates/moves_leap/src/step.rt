@@ -1,6 +1,6 @@
 // Jancey's step, from the pixel count and the coordinate sum of a group, in whole numbers.
 ghost use Rattle.std.specs.Prelude.{◌≡◌, ◌*◌, ◌<◌, ◌≤◌};
-ghost use Rattle.number.specs.{gap, lesser_of, past_mean, leap};
+ghost use Rattle.number.specs.{gap, past_mean, leap};
 ghost use Rattle.colour.specs.{most_coordinate, most_pixels};
 
 use colour::MOST_COORDINATE;
@@ -12,21 +12,8 @@ fn past_mean(pixels: u64, coords: u64, z: u32) -> u32
     ensures { result ≡ past_mean pixels coords z }
 {
     let up = 9 * coords;
-    let down = 4 * (pixels * z as u64);
-    if up < down {
-        return 0;
-    }
-    ((2 * (up - down) + 5 * pixels) / (10 * pixels)) as u32
-}
-
-// A place on the way, held to the greatest coordinate.
-fn held(far: u32) -> u32
-    ensures { result ≡ lesser_of most_coordinate far }
-{
-    if far < MOST_COORDINATE {
-        return far;
-    }
-    MOST_COORDINATE
+    let down = 4 * (pixels * u64::from(z));
+    ((2 * up.saturating_sub(down) + 5 * pixels) / (10 * pixels)) as u32
 }
 
 // How far `z` is from the mean, times the pixels. Requires a table's pixel count.
@@ -34,11 +21,7 @@ fn off_mean(pixels: u64, coords: u64, z: u32) -> u64
     requires { pixels ≤ most_pixels }
     ensures { result ≡ gap coords (z * pixels) }
 {
-    let place = z as u64 * pixels;
-    if coords < place {
-        return place - coords;
-    }
-    coords - place
+    coords.abs_diff(u64::from(z) * pixels)
 }
 
 // Where a coordinate at `z` goes. Requires what colour::rounded_mean does: a group that is not
@@ -48,9 +31,10 @@ pub fn leap(pixels: u64, coords: u64, z: u32) -> u32
     ensures { result ≡ leap most_coordinate pixels coords z }
 {
     let far = past_mean(pixels, coords, z);
-    let place = held(far);
+    let place = far.min(MOST_COORDINATE);
     if off_mean(pixels, coords, place) < off_mean(pixels, coords, z) {
-        return place;
+        place
+    } else {
+        colour::rounded_mean(pixels, coords)
     }
-    colour::rounded_mean(pixels, coords)
 }

@@ -35,7 +35,8 @@ sum_of-more f i xs l =
     rw (add-one, take-suc xs i 0 l) (sum_of-append f (take i xs) (get_or xs i 0 ∷ []) ∙ omega arith)
 
 -- the front of a list, place by place
-pub sum_of-take : (f : ℕ → ℕ) (n : ℕ) (xs : List ℕ) → n ≤ length xs → sum_of f (take n xs) ≡ sum n (λ i. f (get_or xs i 0))
+pub sum_of-take : (f : ℕ → ℕ) (n : ℕ) (xs : List ℕ) → n ≤ length xs
+    → sum_of f (take n xs) ≡ sum n (λ i. f (get_or xs i 0))
 unfolding sum
 sum_of-take f zero xs l = refl
 sum_of-take f (suc n) xs l =

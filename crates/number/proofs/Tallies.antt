@@ -1,5 +1,5 @@
--- More laws of `how_many`: counts of tests that agree, of places in a row, of all, of some, of all but one, of two and of
--- one at most; of one test against two others; counts by value, added up; and a loop that counts.
+-- More laws of `how_many`: counts of tests that agree, of places in a row, of all, of some, of all but one, of two and
+-- of one at most; of one test against two others; counts by value, added up; and a loop that counts.
 use mathlib.Core.Bool.{Bool, true, false, cond, not, ◌&&◌}
 use mathlib.Core.Logic.{◌⊎◌, inl, inr, ⊎_elim}
 use mathlib.Core.Path.{◌≡◌, refl, sym, ap, ◌∙◌}

@@ -6,14 +6,13 @@ use mathlib.Core.Logic.{◌↔◌}
 use mathlib.Core.Path.{◌≡◌, refl, sym, ap, ◌∙◌}
 use lib.Dec.{ltb, eqb}
 use lib.ListN.{length, drop, length-drop}
-use borrow.Author.Tests.{ltb-false, le-ltb, eqb-true, eq-eqb, ne_eqb}
+use borrow.Author.Tests.{ltb-false, le-ltb, eqb-true, eq-eqb}
 use Rattle.number.proofs.Cases.{never, neither, not-not}
-use Rattle.refusal.specs.{Refusal, number_of, done, Refuses}
-use Rattle.refusal.proofs.Numbers.{number-not-done}
-use Rattle.refusal.proofs.Outcomes.{refuses, refuses-all}
+use Rattle.refusal.specs.{Refusal, NoneHolds, RefusesBy}
+use Rattle.refusal.proofs.By.{refuses_by, refuses-by-all}
 use Rattle.colour.specs.{most_pixels}
-use Rattle.p6_header.specs.{Header, header_of, offset_in}
-use Rattle.p6_header.specs.declared.Header.TheVariants.{Read, Bad}
+use Rattle.std.proofs.Common.{Some, Ok, Err}
+use Rattle.p6_header.specs.{HeaderReading, header_with, header_of, offset_in}
 use Rattle.p6_header.proofs.Headers.{start-inside}
 use Rattle.p6.specs.Refusals.{
   most_side,
@@ -30,7 +29,9 @@ use Rattle.p6.specs.Refusals.{
   bad_raster,
   picture_rows,
 }
-use Rattle.p6.specs.Outcomes.{refused_picture, made_picture, read_picture, raster_of}
+use Rattle.p6.specs.Outcomes.{refusal_in, refused_picture, made_picture, read_picture, raster_by, raster_of}
+use Rattle.p6.specs.declared.Fault.{Fault}
+use Rattle.p6.specs.declared.Picture.{Picture}
 
 -- ---- the tests
 
@@ -76,65 +77,76 @@ bad-raster-exactly w h n = (
 -- ---- the header
 
 -- a header that did not fail is read, with the numbers it says
-header_read : (h : Header) → is_bad h ≡ false → h ≡ Read (width_in h) (height_in h) (depth_in h) (start_in h)
-header_read (Read w h d n) e = refl
-header_read (Bad at) e = never e
+header_read : (h : HeaderReading) → is_bad h ≡ false → h ≡ header_with (width_in h) (height_in h) (depth_in h)
+    (start_in h)
+header_read (Ok h) e = refl
+header_read (Err at) e = never e
 
 -- and has no offset
-header-offset : (h : Header) → is_bad h ≡ false → offset_in h ≡ 0
-header-offset (Read w h d n) e = refl
-header-offset (Bad at) e = never e
+header-offset : (h : HeaderReading) → is_bad h ≡ false → offset_in h ≡ 0
+header-offset (Ok h) e = refl
+header-offset (Err at) e = never e
 
 module _ (s : List ℕ) where
   -- ---- refusals
 
-  -- reading refuses by its rows: a picture, or the number, the offset, and zeros
-  pub picture-refuses : Refuses (picture_rows s) (read_picture s) (λ p. p.refusal) (made_picture s)
+  -- reading refuses by its rows: a picture, or the refusal and the offset
+  pub picture-refuses : RefusesBy (picture_rows s) (read_picture s) refusal_in (made_picture s)
       (λ n. refused_picture n (offset_in (header_of s)))
   unfolding read_picture
-  picture-refuses = refuses _ _ _ _ refl (λ n. refl)
+  picture-refuses = refuses_by _ _ _ refusal_in refl (λ n. refl)
 
   -- with a header there is no offset
-  pub offset-zero : bad_header s ≡ false → (read_picture s).offset ≡ 0
-  offset-zero e = refuses-all picture-refuses (λ p. p.offset ≡ 0) refl (λ n. header-offset (header_of s) e)
+  pub offset-zero : {f : Fault} → bad_header s ≡ false → read_picture s ≡ Err f → f.offset ≡ 0
+  offset-zero {f} e refused =
+      refuses-by-all picture-refuses (λ p. p ≡ Err f → f.offset ≡ 0) (λ same. cc)
+      (λ n same. let is : f.offset ≡ offset_in (header_of s) = cc in is ∙ header-offset (header_of s) e) refused
 
   -- ---- accepted pictures
 
-  -- a picture that is accepted begins with a header of the answered numbers and depth 255
-  pub accepted-header : (read_picture s).refusal ≡ done
-      → header_of s ≡ Read (read_picture s).width (read_picture s).height the_depth (read_picture s).start
-  accepted-header ok =
-      let h = header_of s in
-      let none = picture-refuses.accepted_exactly.0 ok in
-      rw (picture-refuses.accepted_is ok)
-      (header_read h none.0
-      ∙ ap (λ d. Read (width_in h) (height_in h) d (start_in h)) ((bad-depth-exactly (depth_in h)).0 none.1.1.0))
+  module _ {p : Picture} (ok : read_picture s ≡ Ok p) where
+    -- of a picture that is accepted no test holds
+    none : NoneHolds (picture_rows s)
+    none = picture-refuses.accepted_exactly.0 (ap refusal_in ok)
 
-  -- its raster begins inside the input
-  pub accepted-start : (read_picture s).refusal ≡ done → (read_picture s).start ≤ length s
-  accepted-start ok = start-inside s _ _ _ _ (accepted-header ok)
+    -- and it is made of the header
+    made : Ok p ≡ made_picture s
+    made = sym ok ∙ picture-refuses.accepted_is (ap refusal_in ok)
 
-  -- ---- the raster
+    -- it begins with a header of the answered numbers and depth 255
+    pub accepted-header : header_of s ≡ header_with p.width p.height the_depth p.start
+    accepted-header =
+        let h = header_of s in
+        let is : p ≡ record { width = width_in h; height = height_in h; start = start_in h } = cc made in
+        rw is
+        (header_read h none.0
+        ∙ ap (λ d. header_with (width_in h) (height_in h) d (start_in h))
+        ((bad-depth-exactly (depth_in h)).0 none.1.1.0))
 
-  -- of a picture that is accepted it is the input from its first place on
-  pub raster-is-stretch : (read_picture s).refusal ≡ done → raster_of s ≡ drop (read_picture s).start s
-  unfolding raster_of
-  raster-is-stretch ok = rw ok
+    -- its raster begins inside the input
+    pub accepted-start : p.start ≤ length s
+    accepted-start = start-inside s _ _ _ _ accepted-header
+
+    -- ---- the raster
+
+    -- it is the input from its first place on
+    pub raster-is-stretch : raster_of s ≡ drop p.start s
+    unfolding raster_of
+    raster-is-stretch = ap (λ a. raster_by a s) ok
+
+    -- it has three bytes for each pixel
+    pub raster-length : length (raster_of s) ≡ 3 * (p.width * p.height)
+    raster-length =
+        let h = header_of s in
+        let is : p ≡ record { width = width_in h; height = height_in h; start = start_in h } = cc made in
+        rw (raster-is-stretch, is)
+        (length-drop (start_in h) s ∙ (bad-raster-exactly (width_in h) (height_in h) _).0 none.1.1.1.0)
 
   -- of a picture that is not accepted it is empty
-  pub raster-nothing : ((read_picture s).refusal ≡ done → ⊥) → raster_of s ≡ []
+  pub raster-nothing : {f : Fault} → read_picture s ≡ Err f → raster_of s ≡ []
   unfolding raster_of
-  raster-nothing no' = rw (ne_eqb (read_picture s).refusal done no')
+  raster-nothing refused = ap (λ a. raster_by a s) refused
 
   -- so it is for every refusal
-  pub raster-empty : (n : Refusal) → (read_picture s).refusal ≡ number_of n → raster_of s ≡ []
-  raster-empty n e = raster-nothing (λ ok. number-not-done n (sym e ∙ ok))
-
-  -- of a picture that is accepted it has three bytes for each pixel
-  pub raster-length : (read_picture s).refusal ≡ done
-      → length (raster_of s) ≡ 3 * ((read_picture s).width * (read_picture s).height)
-  raster-length ok =
-      let h = header_of s in
-      let none = picture-refuses.accepted_exactly.0 ok in
-      rw (raster-is-stretch ok, picture-refuses.accepted_is ok)
-      (length-drop (start_in h) s ∙ (bad-raster-exactly (width_in h) (height_in h) _).0 none.1.1.1.0)
+  pub raster-empty : (n : Refusal) → refusal_in (read_picture s) ≡ Some n → raster_of s ≡ []
+  raster-empty n e = raster-nothing (picture-refuses.refused_is n e)

@@ -1,9 +1,8 @@
 -- When a picture is refused: one test a row of document 01's table, and the order of the rows.
-use Rattle.std.specs.Prelude.{ℕ, ◌-◌, ◌*◌, Bool, true, false, not, ◌||◌, List, [], ◌∷◌, ltb, eqb, length}
-use Rattle.refusal.specs.{Row, row, BAD_HEADER, BAD_SIZE, BAD_DEPTH, BAD_RASTER}
+use Rattle.std.specs.Prelude.{ℕ, ◌-◌, ◌*◌, Bool, true, false, not, ◌||◌, List, [], ◌∷◌, ltb, eqb, length, Ok, Err}
+use Rattle.refusal.specs.{Row, row, BadHeader, BadSize, BadDepth, BadRaster}
 use Rattle.colour.specs.{most_pixels}
-use Rattle.p6_header.specs.{Header, header_of}
-use Rattle.p6_header.specs.declared.Header.TheVariants.{Read, Bad}
+use Rattle.p6_header.specs.{HeaderReading, header_of}
 
 -- the longest side
 abbrev pub most_side : ℕ
@@ -16,29 +15,29 @@ the_depth = 255
 -- ---- what a header says; zeros for one that failed
 
 -- it failed
-abbrev pub is_bad : Header → Bool
-is_bad (Read width height depth start) = false
-is_bad (Bad at) = true
+abbrev pub is_bad : HeaderReading → Bool
+is_bad (Ok header) = false
+is_bad (Err at) = true
 
 -- its width
-abbrev pub width_in : Header → ℕ
-width_in (Read width height depth start) = width
-width_in (Bad at) = 0
+abbrev pub width_in : HeaderReading → ℕ
+width_in (Ok header) = header.width
+width_in (Err at) = 0
 
 -- its height
-abbrev pub height_in : Header → ℕ
-height_in (Read width height depth start) = height
-height_in (Bad at) = 0
+abbrev pub height_in : HeaderReading → ℕ
+height_in (Ok header) = header.height
+height_in (Err at) = 0
 
 -- its depth
-abbrev pub depth_in : Header → ℕ
-depth_in (Read width height depth start) = depth
-depth_in (Bad at) = 0
+abbrev pub depth_in : HeaderReading → ℕ
+depth_in (Ok header) = header.depth
+depth_in (Err at) = 0
 
 -- the first place after it
-abbrev pub start_in : Header → ℕ
-start_in (Read width height depth start) = start
-start_in (Bad at) = 0
+abbrev pub start_in : HeaderReading → ℕ
+start_in (Ok header) = header.start
+start_in (Err at) = 0
 
 -- ---- the tests
 
@@ -66,8 +65,8 @@ bad_raster width height bytes = not (eqb bytes (3 * (width * height)))
 abbrev pub picture_rows : List ℕ → List Row
 picture_rows input =
     let header = header_of input in
-    row (bad_header input) BAD_HEADER
-    ∷ row (bad_size (width_in header) (height_in header)) BAD_SIZE
-    ∷ row (bad_depth (depth_in header)) BAD_DEPTH
-    ∷ row (bad_raster (width_in header) (height_in header) (length input - start_in header)) BAD_RASTER
+    row (bad_header input) BadHeader
+    ∷ row (bad_size (width_in header) (height_in header)) BadSize
+    ∷ row (bad_depth (depth_in header)) BadDepth
+    ∷ row (bad_raster (width_in header) (height_in header) (length input - start_in header)) BadRaster
     ∷ []

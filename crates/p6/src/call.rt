@@ -1,24 +1,11 @@
 // A picture, and its raster.
 ghost use Rattle.std.specs.Prelude.{◌≡◌};
-ghost use Rattle.p6.specs.Outcomes.{refused_picture, read_picture, raster_of};
+ghost use Rattle.p6.specs.Outcomes.{read_picture, raster_of};
 
 use super::test::{bad_raster, bad_size};
-use super::{DEPTH, Picture};
+use super::{DEPTH, Fault, Picture};
 use p6_header::Header;
-use refusal::{BAD_DEPTH, BAD_HEADER, BAD_RASTER, BAD_SIZE, DONE};
-
-// The answer of a refusal: its number, the offset, and zeros.
-fn refused(number: u8, offset: usize) -> Picture
-    ensures { result ≡ refused_picture number offset }
-{
-    Picture {
-        refusal: number,
-        offset,
-        width: 0,
-        height: 0,
-        start: 0,
-    }
-}
+use refusal::Refusal;
 
 // Reads a P6 picture: its width and height, and where its raster begins.
 // Refuses, in this order:
@@ -27,36 +14,45 @@ fn refused(number: u8, offset: usize) -> Picture
 //   13 BAD SIZE     a side is not 1 to 16,384, or the pixels are more than 16,777,216;
 //   14 BAD DEPTH    the depth is not 255;
 //   15 BAD RASTER   the bytes after the header are fewer or more than 3 for each pixel.
-// A refusal answers its number and zeros, and BAD HEADER its offset.
-pub fn read_picture(input: &[u8]) -> Picture
+// BAD HEADER carries its offset, and another refusal 0.
+pub fn read_picture(input: &[u8]) -> Result<Picture, Fault>
     ensures { result ≡ read_picture input.now }
 {
-    let header = p6_header::read_header(input);
-    let Header::Read {
+    let Header {
         width,
         height,
         depth,
         start,
-    } = header
-    else {
-        return refused(BAD_HEADER, p6_header::bad_at(header));
+    } = match p6_header::read_header(input) {
+        Ok(header) => header,
+        Err(at) => {
+            return Err(Fault {
+                refusal: Refusal::BadHeader,
+                offset: at,
+            });
+        }
     };
     if bad_size(width, height) {
-        return refused(BAD_SIZE, 0);
+        return Err(without_offset(Refusal::BadSize));
     }
     if depth != DEPTH {
-        return refused(BAD_DEPTH, 0);
+        return Err(without_offset(Refusal::BadDepth));
     }
     if bad_raster(width, height, input.len() - start) {
-        return refused(BAD_RASTER, 0);
+        return Err(without_offset(Refusal::BadRaster));
     }
-    Picture {
-        refusal: DONE,
-        offset: 0,
+    Ok(Picture {
         width,
         height,
         start,
-    }
+    })
+}
+
+// A refusal that tells no place.
+fn without_offset(refusal: Refusal) -> Fault
+    ensures { result ≡ record { refusal = refusal; offset = 0 } }
+{
+    Fault { refusal, offset: 0 }
 }
 
 // The raster of a P6 picture: that stretch of the input, uncopied. Refuses nothing: of an input
@@ -64,11 +60,8 @@ pub fn read_picture(input: &[u8]) -> Picture
 pub fn raster_of(input: &[u8]) -> &[u8]
     ensures { result.now ≡ raster_of input.now }
 {
-    let picture = read_picture(input);
-    let number = picture.refusal;
-    if number != DONE {
-        return &input[..0];
+    match read_picture(input) {
+        Ok(picture) => &input[picture.start..],
+        Err(_) => &input[..0],
     }
-    let start = picture.start;
-    &input[start..]
 }

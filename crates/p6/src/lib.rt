@@ -15,10 +15,13 @@
 
 #![tactic(auto)]
 
+ghost use Rattle.std.specs.Prelude.{◌≡◌};
+
 mod call;
 mod test;
 
 pub use call::{raster_of, read_picture};
+use refusal::Refusal;
 pub use test::{area, bad_size};
 
 // The longest side of a picture.
@@ -27,13 +30,26 @@ pub const MOST_SIDE: u32 = 16384;
 // The only depth.
 pub const DEPTH: u32 = 255;
 
-// The answer of a reading: 0 or the refusal's number; for BAD HEADER the offset of the first byte
-// that cannot stand there; width, height and the first place of the raster.
+// A picture that is read: width, height and the first place of the raster.
 #[derive(Clone, Copy)]
 pub struct Picture {
-    pub refusal: u8,
-    pub offset: usize,
     pub width: u32,
     pub height: u32,
     pub start: usize,
+}
+
+// Why there is none: the refusal, and for BAD HEADER the offset of the first byte that cannot stand
+// there, 0 for another.
+#[derive(Clone, Copy, Debug, PartialEq, Eq)]
+pub struct Fault {
+    pub refusal: Refusal,
+    pub offset: usize,
+}
+
+impl From<Fault> for Refusal {
+    ghost from_gives = { λ fault refusal. refusal ≡ fault.refusal };
+
+    fn from(fault: Fault) -> Refusal {
+        fault.refusal
+    }
 }

@@ -19,7 +19,7 @@ pub fn area(width: u32, height: u32) -> u64
     requires { (width ≤ most_side) × (height ≤ most_side) }
     ensures { result ≡ width * height }
 {
-    (width as u64) * (height as u64)
+    u64::from(width) * u64::from(height)
 }
 
 // Whether sides or product are out of range: the test of 13 BAD SIZE.

@@ -115,10 +115,12 @@ pub data Seen (s : List ℕ) (a : ℕ) : Type 0 where
 
 -- which it is
 pub seen : (s : List ℕ) (a : ℕ) → Seen s a
-seen s a = go (bool (is_white (byte_at s a))) (ℕ_discrete (byte_at s a) hash) (bool (ends_comment (byte_at s (text_end s a))))
+seen s a = go (bool (is_white (byte_at s a))) (ℕ_discrete (byte_at s a) hash)
+    (bool (ends_comment (byte_at s (text_end s a))))
   where
     go : (is_white (byte_at s a) ≡ true) ⊎ (is_white (byte_at s a) ≡ false) → Dec (byte_at s a ≡ hash)
-        → (ends_comment (byte_at s (text_end s a)) ≡ true) ⊎ (ends_comment (byte_at s (text_end s a)) ≡ false) → Seen s a
+        → (ends_comment (byte_at s (text_end s a)) ≡ true) ⊎ (ends_comment (byte_at s (text_end s a)) ≡ false)
+        → Seen s a
     go (inl w) h t = one (byte w (byte-end s a w))
     go (inr w) (no h) t = neither w h
     go (inr w) (yes h) (inl t) =

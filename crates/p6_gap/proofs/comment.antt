@@ -1,2 +1,2 @@
--- The text of a comment as the loop meets it.
-pub mod Turns
+-- Where a comment ends.
+pub mod Ends

@@ -4,13 +4,11 @@ ghost use Rattle.p6_gap.specs.Bytes.{ends_comment};
 ghost use Rattle.p6_gap.specs.Gaps.{comment_end};
 
 // Whether a byte ends a comment: LF or CR.
+#[tactic(auto, unfolding(crate::specs::Bytes::ends_comment))]
 fn ends_comment(byte: u8) -> bool
     ensures { result ≡ ends_comment byte }
 {
-    if byte == b'\n' {
-        return true;
-    }
-    byte == b'\r'
+    matches!(byte, b'\n' | b'\r')
 }
 
 // The place behind the comment that opens at `at`: behind the next LF or CR, or the input's length
@@ -19,12 +17,9 @@ pub fn comment_end(input: &[u8], at: usize) -> usize
     requires { at < length input.now }
     ensures { result ≡ comment_end input.now at }
 {
-    let mut i = at + 1;
-    while i < input.len() {
-        if ends_comment(input[i]) {
-            return i + 1;
-        }
-        i += 1;
+    let text = &input[at + 1..];
+    match text.iter().position(|byte| ends_comment(*byte)) {
+        Some(n) => at + n + 2,
+        None => input.len(),
     }
-    input.len()
 }

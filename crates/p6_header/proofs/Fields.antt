@@ -5,8 +5,8 @@ use mathlib.Core.List.{List}
 use mathlib.Core.Path.{◌≡◌, refl, sym, ap, ◌∙◌, subst}
 use native.Mathlib.Decide.{ℕ_discrete}
 use native.Mathlib.Omega.{arith}
-use Rattle.grammar.specs.{byte_at, is_digit, most_digits, digits_at, decimal, number_at, Reading}
-use Rattle.grammar.specs.declared.Reading.TheVariants.{Number, Failed}
+use Rattle.grammar.specs.{byte_at, is_digit, most_digits, digits_at, decimal, number_at, Reading, number_with}
+use Rattle.std.proofs.Common.{Err}
 use Rattle.grammar.proofs.Spans.{span-at-most, span-all, span-ends, span-only, all_first, byte_past, nothing-digit}
 use Rattle.grammar.proofs.Readings.{number-reads, number-fails}
 use Rattle.p6_gap.specs.{gap_end, Whites, GapRead}
@@ -46,7 +46,7 @@ field-start s a b value f =
 
 -- a field that stands, with its digits ended, is read
 pub field-is-read : (s : List ℕ) (a b value : ℕ) (f : Field s a b value) → DigitsEnd s a b value f
-    → field_at s a ≡ Number value b
+    → field_at s a ≡ number_with value b
 field-is-read s a b value f ended =
     let n = f.digits in
     let digits : n ≡ digits_at s f.start =
@@ -54,12 +54,12 @@ field-is-read s a b value f ended =
     sym (field-reads s a f.start (sym (field-start s a b value f))
     (λ e. omega (arith, gap-later s a f.start f.gap)))
     ∙ sym (number-reads s f.start n value digits (λ e. omega (arith, f.some_digit)) f.is)
-    ∙ ap (Number value) (sym f.ends)
+    ∙ ap (number_with value) (sym f.ends)
 
 -- ---- a field that fails
 
 -- with no digit there no number is read
-no_number : (s : List ℕ) (at : ℕ) → is_digit (byte_at s at) ≡ false → number_at s at ≡ Failed at
+no_number : (s : List ℕ) (at : ℕ) → is_digit (byte_at s at) ≡ false → number_at s at ≡ Err at
 no_number s at d =
     let none : 0 ≡ digits_at s at =
     span-only is_digit most_digits s at 0 (omega arith) (λ i h. absurd (omega arith))
@@ -67,14 +67,14 @@ no_number s at d =
     sym (number-fails s at 0 none refl)
 
 -- a field that fails is not read
-pub field-is-failed : (s : List ℕ) (a at : ℕ) → FieldFailed s a at → field_at s a ≡ Failed at
+pub field-is-failed : (s : List ℕ) (a at : ℕ) → FieldFailed s a at → field_at s a ≡ Err at
 field-is-failed s a at (no_part ws w h d) = go (ℕ_discrete at a)
   where
     end : at ≡ gap_end s a
     end = sym (gap-only s a at ws w h)
 
-    go : Dec (at ≡ a) → field_at s a ≡ Failed at
-    go (yes z) = sym (field-fails s a at end z) ∙ ap Failed (sym z)
+    go : Dec (at ≡ a) → field_at s a ≡ Err at
+    go (yes z) = sym (field-fails s a at end z) ∙ ap {B = Reading} Err (sym z)
     go (no z) =
         sym (field-reads s a at end z) ∙ no_number s at (d (omega (arith, z, whites-later s a at ws)))
 field-is-failed s a at (unended from ws u z) =
@@ -87,8 +87,8 @@ field-is-failed s a at (unended from ws u z) =
 
 -- a reading of a field is one of the two
 pub data Told (s : List ℕ) (a : ℕ) : Reading → Type 0 where
-  read : (value b : ℕ) → FieldRead s a b value → Told s a (Number value b)
-  failed : (at : ℕ) → FieldFailed s a at → Told s a (Failed at)
+  read : (value b : ℕ) → FieldRead s a b value → Told s a (number_with value b)
+  failed : (at : ℕ) → FieldFailed s a at → Told s a (Err at)
 
 -- a field that fails is told so
 told-failed : (s : List ℕ) (a at : ℕ) → FieldFailed s a at → Told s a (field_at s a)

@@ -6,33 +6,41 @@ use mathlib.Core.Path.{◌≡◌, refl, sym, ap, ◌∙◌, subst}
 use native.Mathlib.Decide.{ℕ_discrete}
 use native.Mathlib.Omega.{arith}
 use lib.ListN.{length}
+use Rattle.std.proofs.Common.{Ok, Err}
 use Rattle.number.proofs.Cases.{bool}
 use Rattle.grammar.specs.{byte_at, Reading}
 use Rattle.p6_gap.specs.{is_white}
 use Rattle.p6_gap.proofs.Bytes.{white-inside, white-not-digit}
 use Rattle.p6_header.specs.Bytes.{letter_p, figure_six}
 use Rattle.p6_header.specs.Fields.{field_at}
-use Rattle.p6_header.specs.Headers.{and_then, last_white, fields_by, header_of, header_number}
-use Rattle.p6_header.specs.declared.Header.{Header}
-use Rattle.p6_header.specs.declared.Header.TheVariants.{Read, Bad}
+use Rattle.p6_header.specs.Headers.{
+  HeaderReading,
+  header_with,
+  and_then,
+  last_white,
+  fields_by,
+  header_of,
+  header_number,
+}
 use Rattle.p6_header.specs.Standing.{Field, HeaderIn}
 use Rattle.p6_header.proofs.Fields.{field-first, field-later, field-is-read, Told, read, failed, field_told}
 use Rattle.p6_header.proofs.read.Ways.{letter-fails, figure-fails, letters-pass}
 
 -- a header that failed was not read
-bad-not-read : {X : Type 0} (at w h d n : ℕ) → Bad at ≡ Read w h d n → X
+bad-not-read : {X : Type 0} (at w h d n : ℕ) → Err at ≡ header_with w h d n → X
 bad-not-read at w h d n e = absurd (let z = ap header_number e in omega arith)
 
 -- ---- how an input opens
 
 -- another byte than the letter, another than the figure after it, or both and then the fields
 pub data Opening (s : List ℕ) : Type 0 where
-  no_letter : ¬ (byte_at s 0 ≡ letter_p) → header_of s ≡ Bad 0 → Opening s
-  no_figure : byte_at s 0 ≡ letter_p → ¬ (byte_at s 1 ≡ figure_six) → header_of s ≡ Bad 1 → Opening s
+  no_letter : ¬ (byte_at s 0 ≡ letter_p) → header_of s ≡ Err 0 → Opening s
+  no_figure : byte_at s 0 ≡ letter_p → ¬ (byte_at s 1 ≡ figure_six) → header_of s ≡ Err 1 → Opening s
   fields : byte_at s 0 ≡ letter_p → byte_at s 1 ≡ figure_six → header_of s ≡ fields_by field_at s → Opening s
 
 -- with both letters the header goes on with the fields
-pub header-fields : (s : List ℕ) → byte_at s 0 ≡ letter_p → byte_at s 1 ≡ figure_six → header_of s ≡ fields_by field_at s
+pub header-fields : (s : List ℕ) → byte_at s 0 ≡ letter_p → byte_at s 1 ≡ figure_six
+    → header_of s ≡ fields_by field_at s
 header-fields s l f = letters-pass s _ _ refl l refl f
 
 -- which it is
@@ -47,9 +55,9 @@ opening s = go (ℕ_discrete (byte_at s 0) letter_p) (ℕ_discrete (byte_at s 1)
 -- ---- what is read stands
 
 -- a header that is read stands at the front of its input
-abbrev Stands : List ℕ → Header → Type 0
-Stands s (Read w h d n) = HeaderIn s w h d n
-Stands s (Bad at) = Unit {0}
+abbrev Stands : List ℕ → HeaderReading → Type 0
+Stands s (Ok header) = HeaderIn s header.width header.height header.depth header.start
+Stands s (Err at) = Unit {0}
 
 module _ (s : List ℕ) (l : byte_at s 0 ≡ letter_p) (f : byte_at s 1 ≡ figure_six) where
   -- after the three fields
@@ -90,7 +98,7 @@ module _ (s : List ℕ) (l : byte_at s 0 ≡ letter_p) (f : byte_at s 1 ≡ figu
       width (failed at fw) = tt
 
 -- a header that is read stands
-pub header-stands : (s : List ℕ) (w h d n : ℕ) → header_of s ≡ Read w h d n → HeaderIn s w h d n
+pub header-stands : (s : List ℕ) (w h d n : ℕ) → header_of s ≡ header_with w h d n → HeaderIn s w h d n
 header-stands s w h d n e = elim (opening s) [
   | no_letter l is ↦ bad-not-read 0 w h d n (sym is ∙ e)
   | no_figure l f is ↦ bad-not-read 1 w h d n (sym is ∙ e)
@@ -100,7 +108,7 @@ header-stands s w h d n e = elim (opening s) [
 -- ---- what stands is read
 
 -- a header that stands is read
-pub header-reads : (s : List ℕ) (w h d n : ℕ) → HeaderIn s w h d n → header_of s ≡ Read w h d n
+pub header-reads : (s : List ℕ) (w h d n : ℕ) → HeaderIn s w h d n → header_of s ≡ header_with w h d n
 header-reads s w h d n H =
     let width = field-is-read s 2 H.after-width w H.width_is
     (λ l. field-first s _ _ h H.height_is) in
@@ -111,7 +119,7 @@ header-reads s w h d n H =
     header-fields s H.letter H.figure ∙ rw (width, height, depth, H.last, H.ends)
 
 -- a header is read exactly where it stands
-pub header-reads-exactly : (s : List ℕ) (w h d n : ℕ) → (header_of s ≡ Read w h d n) ↔ HeaderIn s w h d n
+pub header-reads-exactly : (s : List ℕ) (w h d n : ℕ) → (header_of s ≡ header_with w h d n) ↔ HeaderIn s w h d n
 header-reads-exactly s w h d n = (header-stands s w h d n, header-reads s w h d n)
 
 -- a header is longer than its letters
@@ -130,5 +138,5 @@ pub header-inside : (s : List ℕ) (w h d n : ℕ) → HeaderIn s w h d n → n 
 header-inside s w h d n H = omega (arith, H.ends, white-inside s H.after-depth H.last)
 
 -- so the place after one that is read is inside it, or its end
-pub start-inside : (s : List ℕ) (w h d n : ℕ) → header_of s ≡ Read w h d n → n ≤ length s
+pub start-inside : (s : List ℕ) (w h d n : ℕ) → header_of s ≡ header_with w h d n → n ≤ length s
 start-inside s w h d n e = header-inside s w h d n (header-stands s w h d n e)

@@ -12,14 +12,14 @@ use Rattle.p6_gap.proofs.Bytes.{nothing-white}
 use Rattle.p6_gap.proofs.Gaps.{gap-only, row-whites}
 use Rattle.p6_header.specs.Bytes.{letter_p, figure_six}
 use Rattle.p6_header.specs.Fields.{number_behind, field_at}
-use Rattle.p6_header.specs.Headers.{and_then, last_white, fields_by, header_of}
+use Rattle.p6_header.specs.Headers.{HeaderReading, and_then, last_white, fields_by, header_of}
 use Rattle.p6_header.specs.Plain.{whites_at, plain_field, plain_header}
 use Rattle.p6_header.specs.Standing.{FieldRead, PartEnds, letters, width, height, Between}
-use Rattle.p6_header.specs.declared.Header.{Header}
 use Rattle.p6_header.proofs.Fields.{Told, read, failed, field_told}
 
 -- a field in which none opens
-field_plain : (s : List ℕ) (a : ℕ) → ((at : ℕ) → Whites s a at → ¬ (byte_at s at ≡ hash)) → field_at s a ≡ plain_field s a
+field_plain : (s : List ℕ) (a : ℕ) → ((at : ℕ) → Whites s a at → ¬ (byte_at s at ≡ hash))
+    → field_at s a ≡ plain_field s a
 unfolding field_at
 field_plain s a none =
     let ws : Whites s a (a + whites_at s a) = row-whites s (whites_at s a) a (span-all is_white (length s) s a) in
@@ -28,7 +28,7 @@ field_plain s a none =
     ap (number_behind s a) end
 
 -- what goes on alike after a field that is read goes on alike
-then_same : (s : List ℕ) (a : ℕ) (k l : ℕ → ℕ → Header) {r : Reading} → Told s a r
+then_same : (s : List ℕ) (a : ℕ) (k l : ℕ → ℕ → HeaderReading) {r : Reading} → Told s a r
     → ((value b : ℕ) → FieldRead s a b value → k value b ≡ l value b) → and_then r k ≡ and_then r l
 then_same s a k l (read value b f) same = same value b f
 then_same s a k l (failed at f) same = refl

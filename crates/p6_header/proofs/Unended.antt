@@ -4,21 +4,20 @@ use mathlib.Core.Bool.{false}
 use mathlib.Core.List.{List}
 use mathlib.Core.Path.{◌≡◌, refl, ◌∙◌, subst}
 use lib.ListN.{length}
+use Rattle.std.proofs.Common.{Err}
 use Rattle.grammar.specs.{byte_at, is_digit}
-use Rattle.grammar.specs.declared.Reading.TheVariants.{Failed}
 use Rattle.p6_gap.specs.{Whites, Unended}
 use Rattle.p6_gap.proofs.Bytes.{hash-not-digit}
 use Rattle.p6_gap.proofs.Gaps.{whites-first}
 use Rattle.p6_header.specs.Fields.{field_at}
 use Rattle.p6_header.specs.Headers.{fields_by, header_of}
 use Rattle.p6_header.specs.Standing.{unended, PartEnds, letters, width, height, Between}
-use Rattle.p6_header.specs.declared.Header.TheVariants.{Bad}
 use Rattle.p6_header.proofs.Fields.{field-first, field-is-read, field-is-failed}
 use Rattle.p6_header.proofs.Headers.{header-fields}
 
 module _ (s : List ℕ) (at : ℕ) (u : Unended s at) where
   -- the field that it opens in fails there
-  field-unended : (end : ℕ) → Whites s end at → field_at s end ≡ Failed (length s)
+  field-unended : (end : ℕ) → Whites s end at → field_at s end ≡ Err (length s)
   field-unended end ws = field-is-failed s end (length s) (unended at ws u refl)
 
   -- a field before it is ended by it, or by the white bytes and comments before it
@@ -26,7 +25,7 @@ module _ (s : List ℕ) (at : ℕ) (u : Unended s at) where
   field-ended end ws = whites-first s end at ws (hash-not-digit _ u.opens)
 
   -- so the fields fail there, whichever it opens in
-  fields-unended : (end : ℕ) → PartEnds s end → Whites s end at → fields_by field_at s ≡ Bad (length s)
+  fields-unended : (end : ℕ) → PartEnds s end → Whites s end at → fields_by field_at s ≡ Err (length s)
   fields-unended end (letters e) ws = rw (field-unended 2 (subst (λ i. Whites s i at) e ws))
   fields-unended end (width v f) ws =
       rw (field-is-read s 2 end v f (λ l. field-ended end ws), field-unended end ws)
@@ -38,6 +37,6 @@ module _ (s : List ℕ) (at : ℕ) (u : Unended s at) where
       )
 
 -- and the header does
-pub unended-fails : (s : List ℕ) (at : ℕ) → Between s at → Unended s at → header_of s ≡ Bad (length s)
+pub unended-fails : (s : List ℕ) (at : ℕ) → Between s at → Unended s at → header_of s ≡ Err (length s)
 unended-fails s at b u =
     header-fields s b.letter b.figure ∙ fields-unended s at u b.end b.part b.whites

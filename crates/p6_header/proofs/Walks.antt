@@ -11,6 +11,7 @@ use native.Mathlib.Omega.{arith}
 use lib.Dec.{eqb}
 use lib.ListN.{length}
 use borrow.Author.Tests.{eq-eqb, ne_eqb, lt-ltb, le-ltb}
+use Rattle.std.proofs.Common.{Ok, Err}
 use Rattle.number.proofs.Cases.{bool, never}
 use Rattle.grammar.specs.{byte_at, is_digit, most_digits, AllOf, Digits, Reading}
 use Rattle.grammar.proofs.Spans.{all_first, all_rest, kind-inside, digit-inside}
@@ -30,10 +31,8 @@ use Rattle.p6_gap.proofs.Bytes.{
 use Rattle.p6_gap.proofs.Gaps.{whites-later, whites-gap}
 use Rattle.p6_header.specs.Bytes.{letter_p, figure_six}
 use Rattle.p6_header.specs.Fields.{field_at}
-use Rattle.p6_header.specs.Headers.{and_then, last_white, fields_by, header_of}
+use Rattle.p6_header.specs.Headers.{HeaderReading, and_then, last_white, fields_by, header_of}
 use Rattle.p6_header.specs.Standing.{FieldRead, FieldFailed, no_part, unended}
-use Rattle.p6_header.specs.declared.Header.{Header}
-use Rattle.p6_header.specs.declared.Header.TheVariants.{Read, Bad}
 use Rattle.p6_header.proofs.Fields.{Told, read, failed, field_told}
 use Rattle.p6_header.proofs.Items.{
   Part,
@@ -52,9 +51,9 @@ use Rattle.p6_header.proofs.Items.{
 }
 
 -- the wrong place that a header says; none where it is read
-abbrev pub wrong_in : Header → Option ℕ
-wrong_in (Read w h d n) = none
-wrong_in (Bad at) = some at
+abbrev pub wrong_in : HeaderReading → Option ℕ
+wrong_in (Ok header) = none
+wrong_in (Err at) = some at
 
 -- what the machine says of s where these items are to come from place a on
 abbrev says : List Item → List ℕ → ℕ → Option ℕ
@@ -72,7 +71,8 @@ module _ (s : List ℕ) where
       rw z (front-taken after comment rest [] s a (end-inside s a e) (rw e refl))
   comment-walk rest (suc n) a all ends =
       let next : a + suc n ≡ a + 1 + n = omega arith in
-      let text : ends_comment (byte_at s a) ≡ false = text-not-end _ (all_first is_text s a (suc n) all (omega arith)) in
+      let text : ends_comment (byte_at s a) ≡ false = text-not-end _ (all_first is_text s a (suc n) all (omega arith))
+      in
       let inside : a < length s = omega (arith, end-inside s (a + suc n) ends) in
       front-taken after comment rest (comment ∷ []) s a inside (rw text refl)
       ∙ comment-walk rest n (a + 1) (all_rest is_text s a n all) (rw next at ends)
@@ -208,7 +208,7 @@ module _ (s : List ℕ) (p : Part) (rest : List Item) where
           ∙ unended-walk s (number p) (number p ∷ []) rest (number-led s p) from u
 
   -- a field, and what comes next: where that says what the machine says, so does all
-  field-says : (a : ℕ) (next : ℕ → ℕ → Header)
+  field-says : (a : ℕ) (next : ℕ → ℕ → HeaderReading)
       → ((value b : ℕ) → says (stop p ∷ rest) s b ≡ wrong_in (next value b))
       → says (stop inner ∷ number p ∷ rest) s a ≡ wrong_in (and_then (field_at s a) next)
   field-says a next then = go (field_told s a)
@@ -248,7 +248,8 @@ module _ (s : List ℕ) where
   unfolding header_of
   header-says = go (ℕ_discrete (byte_at s 0) letter_p) (ℕ_discrete (byte_at s 1) figure_six)
     where
-      go : Dec (byte_at s 0 ≡ letter_p) → Dec (byte_at s 1 ≡ figure_six) → says header_items s 0 ≡ wrong_in (header_of s)
+      go : Dec (byte_at s 0 ≡ letter_p) → Dec (byte_at s 1 ≡ figure_six)
+          → says header_items s 0 ≡ wrong_in (header_of s)
       go (no l) f =
           front-wrong after (exact letter_p) _ s 0 (rw (ne_eqb _ _ l) refl) ∙ rw (ne_eqb _ _ l) refl
       go (yes l) (no f) =

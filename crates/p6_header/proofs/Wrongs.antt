@@ -5,12 +5,11 @@ use mathlib.Core.List.{List}
 use mathlib.Core.Logic.{◌↔◌}
 use mathlib.Core.Option.{none, some, some-ne-none, none-ne-some, some-injective}
 use mathlib.Core.Path.{◌≡◌, refl, sym, ap, ◌∙◌}
+use Rattle.std.proofs.Common.{Ok, Err}
 use Rattle.grammar.specs.{Fronts, step_items, nothing_left, front_step, judge_front}
 use Rattle.grammar.proofs.Promises as grammar
 use Rattle.grammar.proofs.Places.{front-first}
-use Rattle.p6_header.specs.Headers.{header_of}
-use Rattle.p6_header.specs.declared.Header.{Header}
-use Rattle.p6_header.specs.declared.Header.TheVariants.{Read, Bad}
+use Rattle.p6_header.specs.Headers.{HeaderReading, header_of}
 use Rattle.p6_header.specs.Standing.{FirstWrong, HeaderIn, IsHeader}
 use Rattle.p6_header.proofs.Items.{after, header_items, front-complete}
 use Rattle.p6_header.proofs.Walks.{wrong_in, header-says}
@@ -22,14 +21,16 @@ said : (s : List ℕ) → judge_front after header_items s ≡ wrong_in (header_
 said s = sym (front-first after header_items s) ∙ header-says s
 
 -- where no place is wrong a header is read
-read_none : (s : List ℕ) (x : Header) → header_of s ≡ x → wrong_in x ≡ none → Fronts IsHeader s
-read_none s (Read w h d n) e z = stands-front s w h d n (header-stands s w h d n e)
-read_none s (Bad at) e z = absurd (some-ne-none at z)
+read_none : (s : List ℕ) (x : HeaderReading) → header_of s ≡ x → wrong_in x ≡ none → Fronts IsHeader s
+read_none s (Ok h) e z =
+    let stands = header-stands s h.width h.height h.depth h.start e in
+    stands-front s h.width h.height h.depth h.start stands
+read_none s (Err at) e z = absurd (some-ne-none at z)
 
 -- where one is wrong it failed there
-failed-at : (x : Header) (at : ℕ) → wrong_in x ≡ some at → x ≡ Bad at
-failed-at (Read w h d n) at e = absurd (none-ne-some at e)
-failed-at (Bad b) at e = ap Bad (some-injective b at e)
+failed-at : (x : HeaderReading) (at : ℕ) → wrong_in x ≡ some at → x ≡ Err at
+failed-at (Ok h) at e = absurd (none-ne-some at e)
+failed-at (Err b) at e = ap {B = HeaderReading} Err (some-injective b at e)
 
 -- the machine takes exactly the inputs that begin with a header
 front-exactly : (s : List ℕ) → (judge_front after header_items s ≡ none) ↔ Fronts IsHeader s
@@ -39,7 +40,7 @@ front-exactly s = (
 )
 
 -- a header fails at the first wrong byte, and nowhere else
-pub header-fails-exactly : (s : List ℕ) (at : ℕ) → (header_of s ≡ Bad at) ↔ FirstWrong s at
+pub header-fails-exactly : (s : List ℕ) (at : ℕ) → (header_of s ≡ Err at) ↔ FirstWrong s at
 header-fails-exactly s at =
     let machine =
     grammar.wrong-exactly (front_step (step_items after) nothing_left) nothing_left front-complete (Fronts IsHeader)

@@ -3,8 +3,7 @@ use Rattle.std.specs.Prelude.{ℕ, ◌+◌, List, length}
 use Rattle.grammar.specs.{span_at, Reading}
 use Rattle.p6_gap.specs.{is_white}
 use Rattle.p6_header.specs.Fields.{number_behind}
-use Rattle.p6_header.specs.Headers.{header_by}
-use Rattle.p6_header.specs.declared.Header.{Header}
+use Rattle.p6_header.specs.Headers.{HeaderReading, header_by}
 
 -- the white bytes from `at` on
 abbrev pub whites_at : List ℕ → ℕ → ℕ
@@ -15,5 +14,5 @@ abbrev pub plain_field : List ℕ → ℕ → Reading
 plain_field input at = number_behind input at (at + whites_at input at)
 
 -- the header at the front of an input
-abbrev pub plain_header : List ℕ → Header
+abbrev pub plain_header : List ℕ → HeaderReading
 plain_header input = header_by plain_field input

@@ -2,16 +2,17 @@
 ghost use Rattle.std.specs.Prelude.{◌≡◌};
 ghost use Rattle.p6_header.specs.Fields.{field_at};
 
-use grammar::Reading;
+use grammar::Numeral;
 use p6_gap::gap_end;
 
 // One or more white bytes and comments from `at` on, and the number after them.
-pub fn field(input: &[u8], at: usize) -> Reading
+#[tactic(auto, unfolding(crate::specs::Fields::field_at))]
+pub fn field(input: &[u8], at: usize) -> Result<Numeral, usize>
     ensures { result ≡ field_at input.now at }
 {
     let start = gap_end(input, at);
     if start == at {
-        return Reading::Failed { at };
+        return Err(at);
     }
     grammar::number(input, start)
 }

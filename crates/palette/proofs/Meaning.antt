@@ -8,8 +8,10 @@ use native.Mathlib.Omega.{arith}
 use lib.ListN.{length, get_or}
 use borrow.Author.Tests.{ltb-true, ltb-false, lt-ltb}
 use Rattle.number.proofs.Fills.{fill-at, fill-kept, fill-at-most}
-use Rattle.refusal.specs.{Refusal, number_of, done, Refuses}
-use Rattle.refusal.proofs.Outcomes.{refuses, refuses-all}
+use Rattle.std.specs.Prelude.{None, Some}
+use Rattle.std.specs.Result.{result_err}
+use Rattle.refusal.specs.{Refusal, RefusesBy}
+use Rattle.refusal.proofs.By.{refuses_by, refuses-by-all}
 use Rattle.colour.specs.{Bytes, most_level, most_coordinate, sixteenth}
 use Rattle.shades.specs.{most_shades, OnGrid}
 use Rattle.shades.proofs.Checks.{bad-coordinates-exactly}
@@ -51,13 +53,13 @@ short-palette-exactly s d = (ltb-true _ _, lt-ltb _ _)
 
 module _ (s d : List ℕ) where
   -- making a palette refuses by its rows: it is made, or no byte changes
-  pub palette-refuses : Refuses (palette_rows s d) (palette_from_shades s d) (λ o. o.answer) (made_palette s d)
-      (kept_palette d)
+  pub palette-refuses : RefusesBy (palette_rows s d) (palette_from_shades s d) (λ o. result_err o.answer)
+      (made_palette s d) (kept_palette d)
   unfolding palette_from_shades
-  palette-refuses = refuses _ _ _ _ refl (λ n. refl)
+  palette-refuses = refuses_by _ _ _ _ refl (λ n. refl)
 
   -- a refusal leaves every byte
-  pub palette-refused-kept : (n : Refusal) → (palette_from_shades s d).answer ≡ number_of n
+  pub palette-refused-kept : (n : Refusal) → result_err (palette_from_shades s d).answer ≡ Some n
       → (palette_from_shades s d).palette ≡ d
   palette-refused-kept n e = ap (λ (o : PaletteOutcome). o.palette) (palette-refuses.refused_is n e)
 
@@ -66,13 +68,14 @@ module _ (s d : List ℕ) where
   palette-bytes low bytes i =
       omega (
         arith,
-        refuses-all palette-refuses (λ o. get_or o.palette i 0 ≤ most_level)
-            (fill-at-most (length s) most_level (λ j. level_of (get_or s j 0)) d (λ j. level-most (get_or s j 0) (low j))
+        refuses-by-all palette-refuses (λ o. get_or o.palette i 0 ≤ most_level)
+            (fill-at-most (length s) most_level (λ j. level_of (get_or s j 0)) d
+            (λ j. level-most (get_or s j 0) (low j))
             (λ j. omega (arith, bytes j)) i)
             (λ n. omega (arith, bytes i)),
       )
 
-  module _ (ok : (palette_from_shades s d).answer ≡ done) where
+  module _ (ok : result_err (palette_from_shades s d).answer ≡ None) where
     -- what is accepted is made
     made : (palette_from_shades s d).palette ≡ palette_of s d
     made = ap (λ (o : PaletteOutcome). o.palette) (palette-refuses.accepted_is ok)

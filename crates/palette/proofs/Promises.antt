@@ -7,7 +7,9 @@ use mathlib.Core.List.{List}
 use mathlib.Core.Logic.{◌↔◌}
 use mathlib.Core.Path.{◌≡◌, sym, ◌∙◌}
 use lib.ListN.{length, get_or}
-use Rattle.refusal.specs.{Refusal, number_of, done, Given, NoneHolds}
+use Rattle.std.specs.Prelude.{Result, None, Some}
+use Rattle.std.specs.Result.{result_err}
+use Rattle.refusal.specs.{Refusal, Given, NoneHolds}
 use Rattle.colour.specs.{most_level, most_coordinate, sixteenth}
 use Rattle.shades.specs.{most_shades}
 use Rattle.palette.specs.Palettes.{level_of}
@@ -17,7 +19,8 @@ use Rattle.palette.proofs.Meaning as meaning
 -- ---- the contracts leave one answer
 
 -- Whatever meets the contract of `palette_from_shades` on an input has one answer and one content of the lent bytes.
-pub palette-only : (s d : List ℕ) {r r' : ℕ} {x x' : List ℕ} → PaletteMeets (palette_from_shades s d) r x
+pub palette-only : (s d : List ℕ) {r r' : Result (Unit {0}) Refusal} {x x' : List ℕ}
+    → PaletteMeets (palette_from_shades s d) r x
     → PaletteMeets (palette_from_shades s d) r' x' → (r ≡ r') × (x ≡ x')
 palette-only s d a b = (a.answer ∙ sym b.answer, a.palette_is ∙ sym b.palette_is)
 
@@ -29,11 +32,12 @@ bad-palette-only p a b = a ∙ sym b
 
 -- A refusal is given exactly when its row is the first of 4, 8, 7 whose test holds.
 pub palette-refused-exactly : (s d : List ℕ) (n : Refusal)
-    → ((palette_from_shades s d).answer ≡ number_of n) ↔ Given (palette_rows s d) n
+    → (result_err (palette_from_shades s d).answer ≡ Some n) ↔ Given (palette_rows s d) n
 palette-refused-exactly s d = (meaning.palette-refuses s d).refused_exactly
 
 -- A palette is made exactly when none of the three tests holds.
-pub palette-accepted-exactly : (s d : List ℕ) → ((palette_from_shades s d).answer ≡ done) ↔ NoneHolds (palette_rows s d)
+pub palette-accepted-exactly : (s d : List ℕ)
+    → (result_err (palette_from_shades s d).answer ≡ None) ↔ NoneHolds (palette_rows s d)
 palette-accepted-exactly s d = (meaning.palette-refuses s d).accepted_exactly
 
 -- The test of SHORT ROOM holds exactly when the palette bytes are fewer than 3 for each shade.
@@ -46,19 +50,19 @@ pub bad-palette-exactly : (p : List ℕ)
 bad-palette-exactly = meaning.bad-palette-exactly
 
 -- A refusal leaves every byte as it came.
-pub palette-refused-kept : (s d : List ℕ) (n : Refusal) → (palette_from_shades s d).answer ≡ number_of n
+pub palette-refused-kept : (s d : List ℕ) (n : Refusal) → result_err (palette_from_shades s d).answer ≡ Some n
     → (palette_from_shades s d).palette ≡ d
 palette-refused-kept = meaning.palette-refused-kept
 
 -- ---- the palette
 
 -- In an accepted call each byte is the level of its coordinate.
-pub palette-byte : (s d : List ℕ) → (palette_from_shades s d).answer ≡ done → (i : ℕ) → i < length s
+pub palette-byte : (s d : List ℕ) → result_err (palette_from_shades s d).answer ≡ None → (i : ℕ) → i < length s
     → get_or (palette_from_shades s d).palette i 0 ≡ level_of (get_or s i 0)
 palette-byte = meaning.palette-byte
 
 -- Bytes past the last shade's stay.
-pub palette-kept : (s d : List ℕ) → (palette_from_shades s d).answer ≡ done → (i : ℕ) → length s ≤ i
+pub palette-kept : (s d : List ℕ) → result_err (palette_from_shades s d).answer ≡ None → (i : ℕ) → length s ≤ i
     → get_or (palette_from_shades s d).palette i 0 ≡ get_or d i 0
 palette-kept = meaning.palette-kept
 

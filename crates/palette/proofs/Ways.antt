@@ -6,8 +6,9 @@ use mathlib.Core.Path.{◌≡◌, refl, sym, ap, ◌∙◌}
 use lib.Dec.{ltb}
 use lib.ListN.{length}
 use borrow.Author.Tests.{le-ltb}
-use Rattle.refusal.specs.{Refusal, number_of, done, first_of}
-use Rattle.refusal.proofs.Outcomes.{outcome-made, outcome-refused}
+use Rattle.std.specs.Prelude.{None, Some, Ok, Err}
+use Rattle.refusal.specs.{Refusal, first_refusal}
+use Rattle.refusal.proofs.By.{by-made, by-refused}
 use Rattle.shades.specs.{bad_coordinates, bad_centre}
 use Rattle.shades.proofs.Checks.{bad-coordinates-exactly}
 use Rattle.palette.specs.Palettes.{palette_of}
@@ -26,18 +27,19 @@ module _ (s d : List ℕ) where
   short-palette whole = ap (ltb (length d)) (sym ((bad-coordinates-exactly (length s)).0 whole).2)
 
   -- a call that is refused leaves the bytes as they came
-  pub palette-meets-refused : (n : Refusal) → first_of (palette_rows s d) ≡ number_of n
-      → PaletteMeets (palette_from_shades s d) (number_of n) d
+  pub palette-meets-refused : (n : Refusal) → first_refusal (palette_rows s d) ≡ Some n
+      → PaletteMeets (palette_from_shades s d) (Err n) d
   unfolding palette_from_shades
   palette-meets-refused n e =
-      rw (outcome-refused (palette_rows s d) (made_palette s d) (kept_palette d) n e)
+      rw (by-refused (palette_rows s d) (made_palette s d) (kept_palette d) n e)
       (record { answer = refl; palette_is = refl })
 
   -- a call that passes all tests makes the palette
-  pub palette-meets-made : bad_coordinates (length s) ≡ false → bad_centre s ≡ false → length s ≤ length d → (x : List ℕ)
-      → x ≡ palette_of s d → PaletteMeets (palette_from_shades s d) done x
+  pub palette-meets-made : bad_coordinates (length s) ≡ false → bad_centre s ≡ false → length s ≤ length d
+      → (x : List ℕ)
+      → x ≡ palette_of s d → PaletteMeets (palette_from_shades s d) (Ok tt) x
   unfolding palette_from_shades
   palette-meets-made whole centre room x is =
-      let e : first_of (palette_rows s d) ≡ done = simp (whole, centre, short-palette whole ∙ le-ltb _ _ room) in
-      rw (outcome-made (palette_rows s d) (made_palette s d) (kept_palette d) e)
+      let e : first_refusal (palette_rows s d) ≡ None = simp (whole, centre, short-palette whole ∙ le-ltb _ _ room) in
+      rw (by-made (palette_rows s d) (made_palette s d) (kept_palette d) e)
       (record { answer = refl; palette_is = is })

@@ -1,6 +1,6 @@
 -- When a palette is refused, and what the call leaves on every input.
-use Rattle.std.specs.Prelude.{ℕ, ◌*◌, ◌/◌, Bool, List, [], ◌∷◌, ◌≡◌, ltb, length}
-use Rattle.refusal.specs.{Row, row, outcome_of, done, BAD_COUNT, BAD_CENTRE, SHORT_ROOM}
+use Rattle.std.specs.Prelude.{ℕ, ◌*◌, ◌/◌, Bool, List, [], ◌∷◌, ◌≡◌, Result, Ok, Err, ltb, length}
+use Rattle.refusal.specs.{Refusal, Row, row, outcome_by, BadCount, BadCentre, ShortRoom}
 use Rattle.shades.specs.{bad_coordinates, bad_centre}
 use Rattle.palette.specs.Palettes.{palette_of}
 
@@ -15,30 +15,30 @@ short_palette coordinates palette = ltb (length palette) (3 * (length coordinate
 -- the order of a palette from shades: 4, 8, 7
 abbrev pub palette_rows : List ℕ → List ℕ → List Row
 palette_rows coordinates palette =
-    row (bad_coordinates (length coordinates)) BAD_COUNT
-    ∷ row (bad_centre coordinates) BAD_CENTRE
-    ∷ row (short_palette coordinates palette) SHORT_ROOM
+    row (bad_coordinates (length coordinates)) BadCount
+    ∷ row (bad_centre coordinates) BadCentre
+    ∷ row (short_palette coordinates palette) ShortRoom
     ∷ []
 
 -- the answer, and the lent palette at exit
 pub record PaletteOutcome : Type 0 where
-  pub answer : ℕ
+  pub answer : Result (Unit {0}) Refusal
   pub palette : List ℕ
 
 -- where nothing is refused the palette is made
 abbrev pub made_palette : List ℕ → List ℕ → PaletteOutcome
-made_palette coordinates palette = record { answer = done; palette = palette_of coordinates palette }
+made_palette coordinates palette = record { answer = Ok tt; palette = palette_of coordinates palette }
 
--- a refusal answers its number, and no byte changes
-abbrev pub kept_palette : List ℕ → ℕ → PaletteOutcome
-kept_palette palette n = record { answer = n; palette = palette }
+-- a refused call answers its refusal, and no byte changes
+abbrev pub kept_palette : List ℕ → Refusal → PaletteOutcome
+kept_palette palette n = record { answer = Err n; palette = palette }
 
 -- the whole outcome of a call
 unfoldable pub palette_from_shades : List ℕ → List ℕ → PaletteOutcome
 palette_from_shades coordinates palette =
-    outcome_of (palette_rows coordinates palette) (made_palette coordinates palette) (kept_palette palette)
+    outcome_by (palette_rows coordinates palette) (made_palette coordinates palette) (kept_palette palette)
 
 -- the contract: answer and palette are those of the outcome
-pub record PaletteMeets (o : PaletteOutcome) (r : ℕ) (palette : List ℕ) : Type 0 where
+pub record PaletteMeets (o : PaletteOutcome) (r : Result (Unit {0}) Refusal) (palette : List ℕ) : Type 0 where
   pub answer : r ≡ o.answer
   pub palette_is : palette ≡ o.palette

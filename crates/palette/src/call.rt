@@ -9,7 +9,7 @@ ghost use Rattle.palette.specs.Outcomes.{
   PaletteMeets,
 };
 
-use refusal::{BAD_CENTRE, BAD_COUNT, DONE, SHORT_ROOM};
+use refusal::Refusal;
 
 // Whether this many bytes are no palette: the test of 10 BAD PALETTE.
 pub fn bad_palette(palette: &[u8]) -> bool
@@ -33,11 +33,8 @@ fn fill_palette(coordinates: &[u32], palette: &mut [u8])
     ensures { palette.new
         ≡ palette_of coordinates.now palette.old }
 {
-    let n = coordinates.len();
-    let mut i = 0;
-    while i < n {
-        palette[i] = level_of(coordinates[i]);
-        i += 1;
+    for (i, &coordinate) in coordinates.iter().enumerate() {
+        palette[i] = level_of(coordinate);
     }
 }
 
@@ -47,22 +44,21 @@ fn fill_palette(coordinates: &[u32], palette: &mut [u8])
 //   4 BAD COUNT    the coordinates are not 3 to 192 or not a multiple of 3;
 //   8 BAD CENTRE   a coordinate is above 4080;
 //   7 SHORT ROOM   the palette bytes are fewer than 3 for each shade.
-// Answers 0 or the refusal's number. Palette bytes past the last shade's stay; a refusal leaves all
-// as they came.
-pub fn palette_from_shades(coordinates: &[u32], palette: &mut [u8]) -> u8
+// Palette bytes past the last shade's stay; a refusal leaves all as they came.
+pub fn palette_from_shades(coordinates: &[u32], palette: &mut [u8]) -> Result<(), Refusal>
     ensures { PaletteMeets
         (palette_from_shades coordinates.now palette.old)
         result palette.new }
 {
     if shades::bad_coordinates(coordinates.len()) {
-        return BAD_COUNT;
+        return Err(Refusal::BadCount);
     }
     if shades::bad_centre(coordinates) {
-        return BAD_CENTRE;
+        return Err(Refusal::BadCentre);
     }
     if palette.len() < coordinates.len() {
-        return SHORT_ROOM;
+        return Err(Refusal::ShortRoom);
     }
     fill_palette(coordinates, palette);
-    DONE
+    Ok(())
 }

@@ -11,8 +11,10 @@ use Rattle.number.specs.{W, S, cost, rounded_mean, Nearest}
 use Rattle.number.proofs.Cases.{neither, either-exactly}
 use Rattle.number.proofs.Fills.{fill-at, fill-kept, fill-at-most}
 use Rattle.number.proofs.Promises.{rounded-mean-is-nearest, nearest-only, rounded-mean-best}
-use Rattle.refusal.specs.{Refusal, number_of, done, Refuses}
-use Rattle.refusal.proofs.Outcomes.{refuses}
+use Rattle.std.specs.Prelude.{None, Some}
+use Rattle.std.specs.Result.{result_err}
+use Rattle.refusal.specs.{Refusal, RefusesBy}
+use Rattle.refusal.proofs.By.{refuses_by}
 use Rattle.colour.specs.{Point, Bytes, most_level}
 use Rattle.table_test.specs.{Record, bad_table}
 use Rattle.shades.specs.{axis, coordinate_of, OnGrid}
@@ -47,13 +49,13 @@ short-rooms-exactly rec a d =
 
 module _ (rec : Record) (ks ws : List ℕ) (a : State) (d : List ℕ) where
   -- making a palette of groups refuses by its rows: it is made, or no byte changes
-  pub groups-refuses : Refuses (group_rows rec ks ws a d) (palette_from_groups rec ks ws a d) (λ o. o.answer)
-      (made_by_groups 0 rec ks ws a d) (kept_palette d)
+  pub groups-refuses : RefusesBy (group_rows rec ks ws a d) (palette_from_groups rec ks ws a d)
+      (λ o. result_err o.answer) (made_by_groups 0 rec ks ws a d) (kept_palette d)
   unfolding palette_from_groups
-  groups-refuses = refuses _ _ _ _ refl (λ n. refl)
+  groups-refuses = refuses_by _ _ _ _ refl (λ n. refl)
 
   -- a refusal leaves every byte
-  pub groups-refused-kept : (n : Refusal) → (palette_from_groups rec ks ws a d).answer ≡ number_of n
+  pub groups-refused-kept : (n : Refusal) → result_err (palette_from_groups rec ks ws a d).answer ≡ Some n
       → (palette_from_groups rec ks ws a d).palette ≡ d
   groups-refused-kept n e = ap (λ (o : PaletteOutcome). o.palette) (groups-refuses.refused_is n e)
 
@@ -61,7 +63,7 @@ module _ (rec : Record) (ks ws : List ℕ) (a : State) (d : List ℕ) where
   -- each shade, nothing is refused
   pub groups-accepted : (k : ℕ) → bad_table rec ks ws ≡ false → Fit (colours_of rec.used ks ws) k a
       → length a.coordinates ≡ 3 * k → Joined (colours_of rec.used ks ws) k a → 3 * k ≤ length d
-      → (palette_from_groups rec ks ws a d).answer ≡ done
+      → result_err (palette_from_groups rec ks ws a d).answer ≡ None
   groups-accepted k table fit whole joined room =
       let third : length a.coordinates / 3 ≡ k = omega arith in
       let count = (bad-coordinates-exactly (length a.coordinates)).1
@@ -77,7 +79,7 @@ module _ (rec : Record) (ks ws : List ℕ) (a : State) (d : List ℕ) where
 
   -- ---- what an accepted call leaves
 
-  module _ (ok : (palette_from_groups rec ks ws a d).answer ≡ done) where
+  module _ (ok : result_err (palette_from_groups rec ks ws a d).answer ≡ None) where
     -- what is accepted is made
     made : (palette_from_groups rec ks ws a d).palette ≡ group_palette 0 rec.used ks ws a d
     made = ap (λ (o : PaletteOutcome). o.palette) (groups-refuses.accepted_is ok)

@@ -12,8 +12,10 @@ use Rattle.number.specs.{W, S, cost, rounded_mean, Nearest}
 use Rattle.number.proofs.Cases.{neither, fail-together}
 use Rattle.number.proofs.Fills.{fill-at, fill-kept, fill-at-most}
 use Rattle.number.proofs.Promises.{rounded-mean-is-nearest, nearest-only, rounded-mean-best}
-use Rattle.refusal.specs.{Refusal, number_of, done, Refuses}
-use Rattle.refusal.proofs.Outcomes.{refuses}
+use Rattle.std.specs.Prelude.{None, Some}
+use Rattle.std.specs.Result.{result_err}
+use Rattle.refusal.specs.{Refusal, RefusesBy}
+use Rattle.refusal.proofs.By.{refuses_by}
 use Rattle.colour.specs.{Point, Bytes, most_level}
 use Rattle.table_test.specs.{Record, bad_table}
 use Rattle.shades.specs.{most_shades, axis, coordinate_of, OnGrid, bad_coordinates}
@@ -61,13 +63,13 @@ palette-none-fixed rec ks ws a d = rw (groups-none-fixed a)
 
 module _ (f : ℕ) (rec : Record) (ks ws : List ℕ) (a : State) (d : List ℕ) where
   -- making a palette of groups refuses by its rows: it is made, or no byte changes
-  pub groups-refuses-fixed : Refuses (group_rows_fixed f rec ks ws a d) (palette_from_groups_fixed f rec ks ws a d) (λ o. o.answer)
-      (made_by_groups f rec ks ws a d) (kept_palette d)
+  pub groups-refuses-fixed : RefusesBy (group_rows_fixed f rec ks ws a d) (palette_from_groups_fixed f rec ks ws a d)
+      (λ o. result_err o.answer) (made_by_groups f rec ks ws a d) (kept_palette d)
   unfolding palette_from_groups_fixed
-  groups-refuses-fixed = refuses _ _ _ _ refl (λ n. refl)
+  groups-refuses-fixed = refuses_by _ _ _ _ refl (λ n. refl)
 
   -- a refusal leaves every byte
-  pub groups-refused-kept-fixed : (n : Refusal) → (palette_from_groups_fixed f rec ks ws a d).answer ≡ number_of n
+  pub groups-refused-kept-fixed : (n : Refusal) → result_err (palette_from_groups_fixed f rec ks ws a d).answer ≡ Some n
       → (palette_from_groups_fixed f rec ks ws a d).palette ≡ d
   groups-refused-kept-fixed n e = ap (λ (o : PaletteOutcome). o.palette) (groups-refuses-fixed.refused_is n e)
 
@@ -75,7 +77,7 @@ module _ (f : ℕ) (rec : Record) (ks ws : List ℕ) (a : State) (d : List ℕ) 
   -- and three bytes for each shade, nothing is refused
   pub groups-accepted-fixed : (k : ℕ) → f < k → bad_table rec ks ws ≡ false → Fit (colours_of rec.used ks ws) k a
       → length a.coordinates ≡ 3 * k → Joined (colours_of rec.used ks ws) k a → 3 * k ≤ length d
-      → (palette_from_groups_fixed f rec ks ws a d).answer ≡ done
+      → result_err (palette_from_groups_fixed f rec ks ws a d).answer ≡ None
   groups-accepted-fixed k free table fit whole joined room =
       let third : length a.coordinates / 3 ≡ k = omega arith in
       let count = (group-count-exactly f a).1 (omega arith, omega (arith, fit.shades.few), omega arith) in
@@ -90,7 +92,7 @@ module _ (f : ℕ) (rec : Record) (ks ws : List ℕ) (a : State) (d : List ℕ) 
 
   -- ---- what an accepted call leaves
 
-  module _ (ok : (palette_from_groups_fixed f rec ks ws a d).answer ≡ done) where
+  module _ (ok : result_err (palette_from_groups_fixed f rec ks ws a d).answer ≡ None) where
     -- what is accepted is made
     made : (palette_from_groups_fixed f rec ks ws a d).palette ≡ group_palette f rec.used ks ws a d
     made = ap (λ (o : PaletteOutcome). o.palette) (groups-refuses-fixed.accepted_is ok)
@@ -186,13 +188,16 @@ module _ (f : ℕ) (rec : Record) (ks ws : List ℕ) (a : State) (d : List ℕ) 
             (rounded-mean-is-nearest (W (channel_group rec ks ws a q e)) (S (channel_group rec ks ws a q e)) some)
 
         -- which is one level only
-        pub byte-only-fixed : (x : ℕ) → Nearest (W (channel_group rec ks ws a q e)) (S (channel_group rec ks ws a q e)) x
+        pub byte-only-fixed : (x : ℕ) → Nearest (W (channel_group rec ks ws a q e)) (S (channel_group rec ks ws a q e))
+            x
             → x ≡ get_or (palette_from_groups_fixed f rec ks ws a d).palette (3 * q + e) 0
         byte-only-fixed x near =
-            nearest-only (W (channel_group rec ks ws a q e)) (S (channel_group rec ks ws a q e)) near byte-is-nearest-fixed
+            nearest-only (W (channel_group rec ks ws a q e)) (S (channel_group rec ks ws a q e)) near
+            byte-is-nearest-fixed
 
         -- no level gives the group a smaller sum of squared differences
         pub byte-is-best-fixed : (z : ℕ)
-            → cost (channel_group rec ks ws a q e) (get_or (palette_from_groups_fixed f rec ks ws a d).palette (3 * q + e) 0)
+            → cost (channel_group rec ks ws a q e) (get_or (palette_from_groups_fixed f rec ks ws a d).palette
+            (3 * q + e) 0)
             ≤ cost (channel_group rec ks ws a q e) z
         byte-is-best-fixed z = rw byte-of-group-fixed (rounded-mean-best (channel_group rec ks ws a q e) some z)

@@ -1,8 +1,8 @@
 -- What is shown of palettes of groups, each theorem in full; its body names the proof.
--- `palette_from_groups rec ks ws a d` is the outcome of a call (specs/Outcomes.antt), where a holds the lent coordinates
--- and members and d the lent bytes: the contract of `palette_from_groups` says that its answer and the bytes at exit
--- are those of this outcome, on every input. W and S of `channel_group rec ks ws a q e` are the pixel count of the group
--- of shade q and the sum of its levels on channel e, so that S / W is the exact mean.
+-- `palette_from_groups rec ks ws a d` is the outcome of a call (specs/Outcomes.antt), where a holds the lent
+-- coordinates and members and d the lent bytes: the contract of `palette_from_groups` says that its answer and the
+-- bytes at exit are those of this outcome, on every input. W and S of `channel_group rec ks ws a q e` are the pixel
+-- count of the group of shade q and the sum of its levels on channel e, so that S / W is the exact mean.
 -- `palette_from_groups_fixed f` is the same for the call that is told that the first f shades are fixed.
 use Prim.Native.Nat.{ℕ, ◌+◌, ◌*◌, ◌/◌, ◌≤◌, ◌<◌}
 use mathlib.Core.Bool.{true, false}
@@ -11,7 +11,9 @@ use mathlib.Core.Logic.{◌↔◌, ◌⊎◌}
 use mathlib.Core.Path.{◌≡◌, sym, ◌∙◌}
 use lib.ListN.{length, get_or}
 use Rattle.number.specs.{W, S, cost, rounded_mean, Nearest}
-use Rattle.refusal.specs.{Refusal, number_of, done, Given, NoneHolds}
+use Rattle.std.specs.Prelude.{Result, None, Some}
+use Rattle.std.specs.Result.{result_err}
+use Rattle.refusal.specs.{Refusal, Given, NoneHolds}
 use Rattle.colour.specs.{most_level}
 use Rattle.table_test.specs.{Record, bad_table}
 use Rattle.shades.specs.{most_shades, bad_coordinates}
@@ -30,7 +32,8 @@ use Rattle.palette_groups.proofs.MeaningFixed as fixed
 -- ---- the contract leaves one answer
 
 -- Whatever meets the contract of `palette_from_groups` on an input has one answer and one content of the lent bytes.
-pub groups-only : (rec : Record) (ks ws : List ℕ) (a : State) (d : List ℕ) {r r' : ℕ} {x x' : List ℕ}
+pub groups-only : (rec : Record) (ks ws : List ℕ) (a : State) (d : List ℕ)
+    {r r' : Result (Unit {0}) Refusal} {x x' : List ℕ}
     → PaletteMeets (palette_from_groups rec ks ws a d) r x → PaletteMeets (palette_from_groups rec ks ws a d) r' x'
     → (r ≡ r') × (x ≡ x')
 groups-only rec ks ws a d u v = (u.answer ∙ sym v.answer, u.palette_is ∙ sym v.palette_is)
@@ -39,12 +42,12 @@ groups-only rec ks ws a d u v = (u.answer ∙ sym v.answer, u.palette_is ∙ sym
 
 -- A refusal is given exactly when its row is the first of 2, 4, 8, 7, 9 whose test holds.
 pub groups-refused-exactly : (rec : Record) (ks ws : List ℕ) (a : State) (d : List ℕ) (n : Refusal)
-    → ((palette_from_groups rec ks ws a d).answer ≡ number_of n) ↔ Given (group_rows rec ks ws a d) n
+    → (result_err (palette_from_groups rec ks ws a d).answer ≡ Some n) ↔ Given (group_rows rec ks ws a d) n
 groups-refused-exactly rec ks ws a d = (meaning.groups-refuses rec ks ws a d).refused_exactly
 
 -- A palette is made exactly when none of the five tests holds.
 pub groups-accepted-exactly : (rec : Record) (ks ws : List ℕ) (a : State) (d : List ℕ)
-    → ((palette_from_groups rec ks ws a d).answer ≡ done) ↔ NoneHolds (group_rows rec ks ws a d)
+    → (result_err (palette_from_groups rec ks ws a d).answer ≡ None) ↔ NoneHolds (group_rows rec ks ws a d)
 groups-accepted-exactly rec ks ws a d = (meaning.groups-refuses rec ks ws a d).accepted_exactly
 
 -- The test of SHORT ROOM holds exactly when the members are fewer than the used entries or the palette bytes fewer than
@@ -56,20 +59,21 @@ short-rooms-exactly = meaning.short-rooms-exactly
 
 -- A refusal leaves every byte as it came.
 pub groups-refused-kept : (rec : Record) (ks ws : List ℕ) (a : State) (d : List ℕ) (n : Refusal)
-    → (palette_from_groups rec ks ws a d).answer ≡ number_of n → (palette_from_groups rec ks ws a d).palette ≡ d
+    → result_err (palette_from_groups rec ks ws a d).answer ≡ Some n → (palette_from_groups rec ks ws a d).palette ≡ d
 groups-refused-kept = meaning.groups-refused-kept
 
 -- On a good table, with k shades of the grid in 3k coordinates, a shade's number for each used entry and three bytes
 -- for each shade, nothing is refused.
 pub groups-accepted : (rec : Record) (ks ws : List ℕ) (a : State) (d : List ℕ) (k : ℕ) → bad_table rec ks ws ≡ false
     → Fit (colours_of rec.used ks ws) k a → length a.coordinates ≡ 3 * k
-    → Joined (colours_of rec.used ks ws) k a → 3 * k ≤ length d → (palette_from_groups rec ks ws a d).answer ≡ done
+    → Joined (colours_of rec.used ks ws) k a → 3 * k ≤ length d
+    → result_err (palette_from_groups rec ks ws a d).answer ≡ None
 groups-accepted = meaning.groups-accepted
 
 -- ---- the palette
 
 module _ (rec : Record) (ks ws : List ℕ) (a : State) (d : List ℕ)
-    (ok : (palette_from_groups rec ks ws a d).answer ≡ done) where
+    (ok : result_err (palette_from_groups rec ks ws a d).answer ≡ None) where
   -- In an accepted call no byte made is above 255.
   pub byte-most : (i : ℕ) → i < length a.coordinates
       → get_or (palette_from_groups rec ks ws a d).palette i 0 ≤ most_level
@@ -83,7 +87,8 @@ module _ (rec : Record) (ks ws : List ℕ) (a : State) (d : List ℕ)
   module _ (q e : ℕ) (few : q < length a.coordinates / 3) (channel : e < 3) where
     -- Of a shade with no group, the byte of each channel is the level of its coordinate, as by a palette from shades.
     pub byte-of-none : W (channel_group rec ks ws a q e) ≡ 0
-        → get_or (palette_from_groups rec ks ws a d).palette (3 * q + e) 0 ≡ level_of (get_or a.coordinates (3 * q + e) 0)
+        → get_or (palette_from_groups rec ks ws a d).palette (3 * q + e) 0 ≡ level_of
+        (get_or a.coordinates (3 * q + e) 0)
     byte-of-none = meaning.byte-of-none rec ks ws a d ok q e few channel
 
     module _ (some : 0 < W (channel_group rec ks ws a q e)) where
@@ -111,20 +116,25 @@ module _ (rec : Record) (ks ws : List ℕ) (a : State) (d : List ℕ)
 
 -- ---- the first f shades fixed
 
--- Whatever meets the contract of `palette_from_groups_fixed` on an input has one answer and one content of the lent bytes.
-pub groups-only-fixed : (f : ℕ) (rec : Record) (ks ws : List ℕ) (a : State) (d : List ℕ) {r r' : ℕ} {x x' : List ℕ}
-    → PaletteMeets (palette_from_groups_fixed f rec ks ws a d) r x → PaletteMeets (palette_from_groups_fixed f rec ks ws a d) r' x'
+-- Whatever meets the contract of `palette_from_groups_fixed` on an input has one answer and one content of the lent
+-- bytes.
+pub groups-only-fixed : (f : ℕ) (rec : Record) (ks ws : List ℕ) (a : State) (d : List ℕ)
+    {r r' : Result (Unit {0}) Refusal} {x x' : List ℕ}
+    → PaletteMeets (palette_from_groups_fixed f rec ks ws a d) r x
+    → PaletteMeets (palette_from_groups_fixed f rec ks ws a d) r' x'
     → (r ≡ r') × (x ≡ x')
 groups-only-fixed f rec ks ws a d u v = (u.answer ∙ sym v.answer, u.palette_is ∙ sym v.palette_is)
 
 -- A refusal is given exactly when its row is the first of 2, 4, 8, 7, 9 whose test holds.
 pub groups-refused-exactly-fixed : (f : ℕ) (rec : Record) (ks ws : List ℕ) (a : State) (d : List ℕ) (n : Refusal)
-    → ((palette_from_groups_fixed f rec ks ws a d).answer ≡ number_of n) ↔ Given (group_rows_fixed f rec ks ws a d) n
+    → (result_err (palette_from_groups_fixed f rec ks ws a d).answer ≡ Some n)
+    ↔ Given (group_rows_fixed f rec ks ws a d) n
 groups-refused-exactly-fixed f rec ks ws a d = (fixed.groups-refuses-fixed f rec ks ws a d).refused_exactly
 
 -- A palette is made exactly when none of the five tests holds.
 pub groups-accepted-exactly-fixed : (f : ℕ) (rec : Record) (ks ws : List ℕ) (a : State) (d : List ℕ)
-    → ((palette_from_groups_fixed f rec ks ws a d).answer ≡ done) ↔ NoneHolds (group_rows_fixed f rec ks ws a d)
+    → (result_err (palette_from_groups_fixed f rec ks ws a d).answer ≡ None)
+    ↔ NoneHolds (group_rows_fixed f rec ks ws a d)
 groups-accepted-exactly-fixed f rec ks ws a d = (fixed.groups-refuses-fixed f rec ks ws a d).accepted_exactly
 
 -- The test of BAD COUNT fails exactly where the coordinates are three for each of at most 64 shades and fewer are fixed
@@ -141,18 +151,20 @@ groups-none-fixed = fixed.groups-none-fixed
 
 -- A refusal leaves every byte as it came.
 pub groups-refused-kept-fixed : (f : ℕ) (rec : Record) (ks ws : List ℕ) (a : State) (d : List ℕ) (n : Refusal)
-    → (palette_from_groups_fixed f rec ks ws a d).answer ≡ number_of n → (palette_from_groups_fixed f rec ks ws a d).palette ≡ d
+    → result_err (palette_from_groups_fixed f rec ks ws a d).answer ≡ Some n
+    → (palette_from_groups_fixed f rec ks ws a d).palette ≡ d
 groups-refused-kept-fixed = fixed.groups-refused-kept-fixed
 
 -- On a good table, with k shades of the grid in 3k coordinates, fewer of them fixed, a shade's number for each used
 -- entry and three bytes for each shade, nothing is refused.
 pub groups-accepted-fixed : (f : ℕ) (rec : Record) (ks ws : List ℕ) (a : State) (d : List ℕ) (k : ℕ) → f < k
     → bad_table rec ks ws ≡ false → Fit (colours_of rec.used ks ws) k a → length a.coordinates ≡ 3 * k
-    → Joined (colours_of rec.used ks ws) k a → 3 * k ≤ length d → (palette_from_groups_fixed f rec ks ws a d).answer ≡ done
+    → Joined (colours_of rec.used ks ws) k a → 3 * k ≤ length d
+    → result_err (palette_from_groups_fixed f rec ks ws a d).answer ≡ None
 groups-accepted-fixed = fixed.groups-accepted-fixed
 
 module _ (f : ℕ) (rec : Record) (ks ws : List ℕ) (a : State) (d : List ℕ)
-    (ok : (palette_from_groups_fixed f rec ks ws a d).answer ≡ done) where
+    (ok : result_err (palette_from_groups_fixed f rec ks ws a d).answer ≡ None) where
   -- In an accepted call no byte made is above 255.
   pub byte-most-fixed : (i : ℕ) → i < length a.coordinates
       → get_or (palette_from_groups_fixed f rec ks ws a d).palette i 0 ≤ most_level
@@ -197,6 +209,7 @@ module _ (f : ℕ) (rec : Record) (ks ws : List ℕ) (a : State) (d : List ℕ)
 
       -- No other level gives the group a smaller sum of squared level differences on this channel.
       pub byte-is-best-fixed : (z : ℕ)
-          → cost (channel_group rec ks ws a q e) (get_or (palette_from_groups_fixed f rec ks ws a d).palette (3 * q + e) 0)
+          → cost (channel_group rec ks ws a q e) (get_or (palette_from_groups_fixed f rec ks ws a d).palette (3 * q + e)
+          0)
           ≤ cost (channel_group rec ks ws a q e) z
       byte-is-best-fixed = fixed.byte-is-best-fixed f rec ks ws a d ok q e free few channel some

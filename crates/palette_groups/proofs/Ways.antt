@@ -6,7 +6,8 @@ use mathlib.Core.Path.{◌≡◌, refl}
 use native.Mathlib.Omega.{arith}
 use lib.ListN.{length}
 use borrow.Author.Tests.{ltb-false}
-use Rattle.refusal.specs.{Refusal, number_of, done, first_of}
+use Rattle.std.specs.Prelude.{None, Some, Ok, Err}
+use Rattle.refusal.specs.{Refusal, first_refusal}
 use Rattle.table_test.specs.{Record, bad_table}
 use Rattle.table_entries.specs.{Tabled, most_entries}
 use Rattle.shades.specs.{most_coordinates, OnGrid, bad_coordinates, bad_centre}
@@ -32,8 +33,8 @@ module _ (f : ℕ) (rec : Record) (ks ws : List ℕ) (a : State) (d : List ℕ) 
     pub palette_room : short_palette a.coordinates d ≡ false
 
   -- a call that is refused leaves the bytes as they came
-  pub groups-meets-refused : (n : Refusal) → first_of (group_rows_fixed f rec ks ws a d) ≡ number_of n
-      → PaletteMeets (palette_from_groups_fixed f rec ks ws a d) (number_of n) d
+  pub groups-meets-refused : (n : Refusal) → first_refusal (group_rows_fixed f rec ks ws a d) ≡ Some n
+      → PaletteMeets (palette_from_groups_fixed f rec ks ws a d) (Err n) d
   groups-meets-refused n e =
       rw ((groups-refuses-fixed f rec ks ws a d).by_refusal n e) (record { answer = refl; palette_is = refl })
 
@@ -48,9 +49,9 @@ module _ (f : ℕ) (rec : Record) (ks ws : List ℕ) (a : State) (d : List ℕ) 
     module _ (below : bad_member rec.used (length a.coordinates / 3) a.members ≡ false) where
       -- a call that passes all tests makes the palette
       pub groups-meets-made : (x : List ℕ) → x ≡ group_palette f rec.used ks ws a d
-          → PaletteMeets (palette_from_groups_fixed f rec ks ws a d) done x
+          → PaletteMeets (palette_from_groups_fixed f rec ks ws a d) (Ok tt) x
       groups-meets-made x is =
-          let none : first_of (group_rows_fixed f rec ks ws a d) ≡ done =
+          let none : first_refusal (group_rows_fixed f rec ks ws a d) ≡ None =
           simp (g.table, g.count, g.free, g.centre, g.members_room, g.palette_room, below) in
           rw ((groups-refuses-fixed f rec ks ws a d).by_none none) (record { answer = refl; palette_is = is })
 

@@ -3,12 +3,12 @@ use Rattle.std.specs.Prelude.{ℕ, ◌/◌, Bool, ◌||◌, List, [], ◌∷◌,
 use Rattle.refusal.specs.{
   Row,
   row,
-  outcome_of,
-  BAD_TABLE,
-  BAD_COUNT,
-  BAD_CENTRE,
-  SHORT_ROOM,
-  BAD_MEMBER,
+  outcome_by,
+  BadTable,
+  BadCount,
+  BadCentre,
+  ShortRoom,
+  BadMember,
 }
 use Rattle.table_test.specs.{Record, bad_table}
 use Rattle.shades.specs.{bad_coordinates, bad_centre}
@@ -24,14 +24,14 @@ bad_group_count f a = bad_coordinates (length a.coordinates) || no_free f (lengt
 -- the order of a palette of groups, the first f shades fixed: 2, 4, 8, 7, 9
 abbrev pub group_rows_fixed : ℕ → Record → List ℕ → List ℕ → State → List ℕ → List Row
 group_rows_fixed f rec ks ws a palette =
-    row (bad_table rec ks ws) BAD_TABLE
-    ∷ row (bad_group_count f a) BAD_COUNT
-    ∷ row (bad_centre a.coordinates) BAD_CENTRE
-    ∷ row (short_rooms rec a palette) SHORT_ROOM
-    ∷ row (bad_member rec.used (length a.coordinates / 3) a.members) BAD_MEMBER
+    row (bad_table rec ks ws) BadTable
+    ∷ row (bad_group_count f a) BadCount
+    ∷ row (bad_centre a.coordinates) BadCentre
+    ∷ row (short_rooms rec a palette) ShortRoom
+    ∷ row (bad_member rec.used (length a.coordinates / 3) a.members) BadMember
     ∷ []
 
 -- the whole outcome of a call, the first f shades fixed
 unfoldable pub palette_from_groups_fixed : ℕ → Record → List ℕ → List ℕ → State → List ℕ → PaletteOutcome
 palette_from_groups_fixed f rec ks ws a palette =
-    outcome_of (group_rows_fixed f rec ks ws a palette) (made_by_groups f rec ks ws a palette) (kept_palette palette)
+    outcome_by (group_rows_fixed f rec ks ws a palette) (made_by_groups f rec ks ws a palette) (kept_palette palette)

@@ -1,16 +1,15 @@
 -- When a palette of groups is refused, and what the call leaves on every input.
-use Rattle.std.specs.Prelude.{ℕ, ◌/◌, Bool, ◌||◌, List, [], ◌∷◌, length}
+use Rattle.std.specs.Prelude.{ℕ, ◌/◌, Bool, ◌||◌, List, [], ◌∷◌, Ok, length}
 use Rattle.number.specs.{Group}
 use Rattle.refusal.specs.{
   Row,
   row,
-  outcome_of,
-  done,
-  BAD_TABLE,
-  BAD_COUNT,
-  BAD_CENTRE,
-  SHORT_ROOM,
-  BAD_MEMBER,
+  outcome_by,
+  BadTable,
+  BadCount,
+  BadCentre,
+  ShortRoom,
+  BadMember,
 }
 use Rattle.table_test.specs.{Record, bad_table}
 use Rattle.shades.specs.{axis, bad_coordinates, bad_centre}
@@ -31,21 +30,21 @@ short_rooms rec a palette = short_members rec a.members || short_palette a.coord
 -- the order of a palette of groups: 2, 4, 8, 7, 9
 abbrev pub group_rows : Record → List ℕ → List ℕ → State → List ℕ → List Row
 group_rows rec ks ws a palette =
-    row (bad_table rec ks ws) BAD_TABLE
-    ∷ row (bad_coordinates (length a.coordinates)) BAD_COUNT
-    ∷ row (bad_centre a.coordinates) BAD_CENTRE
-    ∷ row (short_rooms rec a palette) SHORT_ROOM
-    ∷ row (bad_member rec.used (length a.coordinates / 3) a.members) BAD_MEMBER
+    row (bad_table rec ks ws) BadTable
+    ∷ row (bad_coordinates (length a.coordinates)) BadCount
+    ∷ row (bad_centre a.coordinates) BadCentre
+    ∷ row (short_rooms rec a palette) ShortRoom
+    ∷ row (bad_member rec.used (length a.coordinates / 3) a.members) BadMember
     ∷ []
 
 -- where nothing is refused the palette is made; the first f shades are fixed
 abbrev pub made_by_groups : ℕ → Record → List ℕ → List ℕ → State → List ℕ → PaletteOutcome
 made_by_groups f rec ks ws a palette = record {
-  answer = done;
+  answer = Ok tt;
   palette = group_palette f rec.used ks ws a palette;
 }
 
 -- the whole outcome of a call: no shade is fixed
 unfoldable pub palette_from_groups : Record → List ℕ → List ℕ → State → List ℕ → PaletteOutcome
 palette_from_groups rec ks ws a palette =
-    outcome_of (group_rows rec ks ws a palette) (made_by_groups 0 rec ks ws a palette) (kept_palette palette)
+    outcome_by (group_rows rec ks ws a palette) (made_by_groups 0 rec ks ws a palette) (kept_palette palette)

@@ -6,7 +6,7 @@ ghost use Rattle.palette_groups.specs.Fixed.{palette_from_groups_fixed};
 
 use lloyd_tests::bad_member;
 use palette_means::fill_by_groups;
-use refusal::{BAD_CENTRE, BAD_COUNT, BAD_MEMBER, BAD_TABLE, DONE, SHORT_ROOM};
+use refusal::Refusal;
 use table_test::Record;
 
 // The palette of the shades in `coordinates`, three bytes each: on each channel the level nearest
@@ -22,8 +22,7 @@ use table_test::Record;
 //   7 SHORT ROOM   there are fewer members than used entries, or fewer palette bytes than 3 for
 //                  each shade;
 //   9 BAD MEMBER   a used entry's member is not below the count.
-// Answers 0 or the refusal's number. Palette bytes past the last shade's stay; a refusal leaves all
-// as they came.
+// Palette bytes past the last shade's stay; a refusal leaves all as they came.
 pub fn palette_from_groups_fixed(
     rec: Record,
     keys: &[u32],
@@ -32,37 +31,37 @@ pub fn palette_from_groups_fixed(
     members: &[u32],
     fixed: usize,
     palette: &mut [u8],
-) -> u8
+) -> Result<(), Refusal>
     ensures { PaletteMeets
         (palette_from_groups_fixed fixed rec keys.now weights.now
         (state_of coordinates.now members.now) palette.old)
         result palette.new }
 {
     if table_test::bad_table(rec, keys, weights) {
-        return BAD_TABLE;
+        return Err(Refusal::BadTable);
     }
     if shades::bad_coordinates(coordinates.len()) {
-        return BAD_COUNT;
+        return Err(Refusal::BadCount);
     }
     if coordinates.len() / 3 <= fixed {
-        return BAD_COUNT;
+        return Err(Refusal::BadCount);
     }
     if shades::bad_centre(coordinates) {
-        return BAD_CENTRE;
+        return Err(Refusal::BadCentre);
     }
     let used = rec.used;
     if members.len() < used {
-        return SHORT_ROOM;
+        return Err(Refusal::ShortRoom);
     }
     if palette.len() < coordinates.len() {
-        return SHORT_ROOM;
+        return Err(Refusal::ShortRoom);
     }
     let count = coordinates.len() / 3;
     if bad_member(members, used, count) {
-        return BAD_MEMBER;
+        return Err(Refusal::BadMember);
     }
     fill_by_groups(keys, weights, used, coordinates, members, fixed, palette);
-    DONE
+    Ok(())
 }
 
 // The palette of the shades in `coordinates`, three bytes each: on each channel the level nearest
@@ -77,8 +76,8 @@ pub fn palette_from_groups_fixed(
 //   7 SHORT ROOM   there are fewer members than used entries, or fewer palette bytes than 3 for
 //                  each shade;
 //   9 BAD MEMBER   a used entry's member is not below the count.
-// Answers 0 or the refusal's number. Palette bytes past the last shade's stay; a refusal leaves all
-// as they came.
+// Palette bytes past the last shade's stay; a refusal leaves all as they came. It is a call beside
+// the one that is told how many shades are fixed, as C links each by its name.
 pub fn palette_from_groups(
     rec: Record,
     keys: &[u32],
@@ -86,7 +85,7 @@ pub fn palette_from_groups(
     coordinates: &[u32],
     members: &[u32],
     palette: &mut [u8],
-) -> u8
+) -> Result<(), Refusal>
     ensures { PaletteMeets
         (palette_from_groups rec keys.now weights.now
         (state_of coordinates.now members.now) palette.old)

@@ -6,7 +6,7 @@
 //                               Refuses 2 BAD TABLE, 4 BAD COUNT, 8 BAD CENTRE, 7 SHORT ROOM,
 //                               9 BAD MEMBER, in this order.
 //   palette_from_groups_fixed   the same where the first shades are fixed
-// A refusal answers its number and writes nothing. The tests stand in table_test, shades and
+// A refused call answers its refusal and writes nothing. The tests stand in table_test, shades and
 // lloyd_tests; the work is done by the crate palette_means.
 //
 // Read next: specs/Lib.antt (what the words mean), proofs/Promises.antt (what is shown).

@@ -42,11 +42,8 @@ fn fill_levels(sums: &[u64; 128], coordinates: &[u32], fixed: usize, palette: &m
         (level_by_sums fixed sums.now coordinates.now)
         palette.old }
 {
-    let n = coordinates.len();
-    let mut i = 0;
-    while i < n {
+    for i in 0..coordinates.len() {
         palette[i] = group_level(sums, coordinates, fixed, i);
-        i += 1;
     }
 }
 

@@ -20,13 +20,11 @@ pub fn sum_groups(
     ensures { Summed (member_at members.now) keys.now
         weights.now used sums.new }
 {
-    let mut i = 0;
-    while i < used {
+    for i in 0..used {
         let weight = weights[i];
         let key = keys[i];
         let first = red_green(weight, key);
         let second = blue_pixels(weight, key);
         raise(sums, members[i] as usize, first, second);
-        i += 1;
     }
 }

@@ -1,13 +1,14 @@
 -- What is shown of the palette of an accepted run, of either kind, each theorem in full; its body names the proof.
 -- `AcceptedRun .. r members totals` says that r, members and totals are what an accepted run answers and leaves, and
--- `run_palette rec ks ws k r members d` is the outcome of `palette_from_groups` on these. `run_palette_fixed f` is that of
--- `palette_from_groups_fixed`, the first f shades fixed.
+-- `run_palette rec ks ws k r members d` is the outcome of `palette_from_groups` on these. `run_palette_fixed f` is that
+-- of `palette_from_groups_fixed`, the first f shades fixed.
 use Prim.Native.Nat.{ℕ, ◌+◌, ◌*◌, ◌≤◌, ◌<◌}
 use mathlib.Core.List.{List}
 use mathlib.Core.Path.{◌≡◌}
 use lib.ListN.{get_or, length}
 use Rattle.number.specs.{W, S, cost, Nearest}
-use Rattle.refusal.specs.{done}
+use Rattle.std.specs.Prelude.{None}
+use Rattle.std.specs.Result.{result_err}
 use Rattle.colour.specs.{Bytes}
 use Rattle.table_test.specs.{Record}
 use Rattle.lloyd.specs.{Ran, AcceptedRun, AcceptedJancey, left}
@@ -26,7 +27,7 @@ use Rattle.palette_runs.proofs.RunsFixed as fixed-runs
 module _ {rec : Record} {ks ws : List ℕ} {k limit : ℕ} {ms ts : List ℕ} {r : Ran} {members totals : List ℕ}
     (h : AcceptedRun rec ks ws k limit ms ts r members totals) (d : List ℕ) (room : 3 * k ≤ length d) where
   -- Of an accepted run's answer and members, with three bytes for each shade, the call is never refused.
-  pub run-palette-accepted : (run_palette rec ks ws k r members d).answer ≡ done
+  pub run-palette-accepted : result_err (run_palette rec ks ws k r members d).answer ≡ None
   run-palette-accepted = runs.run-accepted rec ks ws (tests h).table (making h) d room
 
   -- After a run the palette is, for each channel of a shade with a group, the level nearest to the exact mean of the
@@ -53,7 +54,7 @@ module _ {rec : Record} {ks ws : List ℕ} {k limit : ℕ} {ms ts : List ℕ} {r
 module _ {rec : Record} {ks ws : List ℕ} {k limit : ℕ} {ms ts : List ℕ} {r : Ran} {members totals : List ℕ}
     (h : AcceptedJancey rec ks ws k limit ms ts r members totals) (d : List ℕ) (room : 3 * k ≤ length d) where
   -- Of an accepted Jancey run's answer and members, with three bytes for each shade, the call is never refused.
-  pub jancey-palette-accepted : (run_palette rec ks ws k r members d).answer ≡ done
+  pub jancey-palette-accepted : result_err (run_palette rec ks ws k r members d).answer ≡ None
   jancey-palette-accepted = runs.run-accepted rec ks ws (jancey-tests h).table (jancey-making h) d room
 
   -- For each channel of a shade with a group it has the level nearest to the exact mean of the shade's last group, a
@@ -74,7 +75,7 @@ module _ {rec : Record} {ks ws fixed : List ℕ} {k limit : ℕ} {ms ts : List �
     (h : AcceptedFixed rec ks ws fixed k limit ms ts r members totals) (bytes : Bytes fixed) (d : List ℕ)
     (room : 3 * k ≤ length d) where
   -- Of such a run's answer and members, with three bytes for each shade, the call is never refused.
-  pub fixed-palette-accepted : (run_palette_fixed (fixed_in fixed) rec ks ws k r members d).answer ≡ done
+  pub fixed-palette-accepted : result_err (run_palette_fixed (fixed_in fixed) rec ks ws k r members d).answer ≡ None
   fixed-palette-accepted =
       fixed-runs.run-accepted-fixed (fixed_in fixed) rec ks ws (fixed-tests h).table (fixed-making h bytes)
       (fewer-fixed (fixed-tests h)) d room
@@ -83,7 +84,8 @@ module _ {rec : Record} {ks ws fixed : List ℕ} {k limit : ℕ} {ms ts : List �
   pub fixed-byte-is-own : (i : ℕ) → i < length fixed
       → get_or (run_palette_fixed (fixed_in fixed) rec ks ws k r members d).palette i 0 ≡ get_or fixed i 0
   fixed-byte-is-own =
-      fixed-runs.own-bytes rec ks ws fixed (fixed-tests h).table (fixed-making h bytes) (fewer-fixed (fixed-tests h)) d room
+      fixed-runs.own-bytes rec ks ws fixed (fixed-tests h).table (fixed-making h bytes) (fewer-fixed (fixed-tests h)) d
+      room
       ((bad-fixed-exactly fixed).0 (fixed-tests h).whole).2 (fixed-stand h bytes)
 
   -- For each channel of a free shade with a group the palette has the level nearest to the exact mean of the shade's

@@ -7,7 +7,8 @@ use native.Mathlib.Omega.{arith}
 use lib.ListN.{get_or, length}
 use lib.Seq.{get_or-take}
 use Rattle.number.specs.{W, S, cost, Nearest}
-use Rattle.refusal.specs.{done}
+use Rattle.std.specs.Prelude.{None}
+use Rattle.std.specs.Result.{result_err}
 use Rattle.table_test.specs.{Record, bad_table}
 use Rattle.method.specs.{Rule, Colours, State, colours_of, front_of}
 use Rattle.method.proofs.Fronts.{front_length, front-fit}
@@ -31,7 +32,7 @@ module _ (rec : Record) (ks ws : List ℕ) {rule : Rule} {k limit : ℕ} {a : St
 
   module _ (d : List ℕ) (room : 3 * k ≤ length d) where
     -- it is accepted
-    pub run-accepted : (run_palette rec ks ws k r members d).answer ≡ done
+    pub run-accepted : result_err (run_palette rec ks ws k r members d).answer ≡ None
     run-accepted =
         groups-accepted rec ks ws (front_of k (left r members)) d k table
         (front-fit C k (left r members) (left-fit m)) three-each (member_below m) room
@@ -43,7 +44,8 @@ module _ (rec : Record) (ks ws : List ℕ) {rule : Rule} {k limit : ℕ} {a : St
 
       -- a shade with a group has the level nearest to the exact mean of its last group
       pub run-byte-nearest : 0 < W (channel_group rec ks ws (left r members) q e)
-          → Nearest (W (channel_group rec ks ws (left r members) q e)) (S (channel_group rec ks ws (left r members) q e))
+          → Nearest (W (channel_group rec ks ws (left r members) q e))
+          (S (channel_group rec ks ws (left r members) q e))
           (get_or (run_palette rec ks ws k r members d).palette (3 * q + e) 0)
       run-byte-nearest = byte-is-nearest rec ks ws (front_of k (left r members)) d run-accepted q e third channel
 

@@ -8,7 +8,8 @@ use native.Mathlib.Omega.{arith}
 use lib.ListN.{get_or, length}
 use lib.Seq.{get_or-take}
 use Rattle.number.specs.{W, S, cost, Nearest}
-use Rattle.refusal.specs.{done}
+use Rattle.std.specs.Prelude.{None}
+use Rattle.std.specs.Result.{result_err}
 use Rattle.colour.specs.{sixteenth}
 use Rattle.table_test.specs.{Record, bad_table}
 use Rattle.method.specs.{Rule, Colours, State, colours_of, front_of}
@@ -40,7 +41,7 @@ module _ (f : ℕ) (rec : Record) (ks ws : List ℕ) {rule : Rule} {k limit : �
 
   module _ (d : List ℕ) (room : 3 * k ≤ length d) where
     -- it is accepted
-    pub run-accepted-fixed : (run_palette_fixed f rec ks ws k r members d).answer ≡ done
+    pub run-accepted-fixed : result_err (run_palette_fixed f rec ks ws k r members d).answer ≡ None
     run-accepted-fixed =
         groups-accepted-fixed f rec ks ws (front_of k (left r members)) d k free table
         (front-fit C k (left r members) (left-fit m)) three-each (member_below m) room
@@ -65,7 +66,8 @@ module _ (f : ℕ) (rec : Record) (ks ws : List ℕ) {rule : Rule} {k limit : �
 
       -- a free shade with a group has the level nearest to the exact mean of its last group
       pub run-byte-nearest-fixed : 0 < W (channel_group rec ks ws (left r members) q e)
-          → Nearest (W (channel_group rec ks ws (left r members) q e)) (S (channel_group rec ks ws (left r members) q e))
+          → Nearest (W (channel_group rec ks ws (left r members) q e))
+          (S (channel_group rec ks ws (left r members) q e))
           (get_or (run_palette_fixed f rec ks ws k r members d).palette (3 * q + e) 0)
       run-byte-nearest-fixed =
           byte-is-nearest-fixed f rec ks ws (front_of k (left r members)) d run-accepted-fixed q e behind third channel
@@ -75,14 +77,16 @@ module _ (f : ℕ) (rec : Record) (ks ws : List ℕ) {rule : Rule} {k limit : �
           → cost (channel_group rec ks ws (left r members) q e)
           (get_or (run_palette_fixed f rec ks ws k r members d).palette (3 * q + e) 0)
           ≤ cost (channel_group rec ks ws (left r members) q e) z
-      run-byte-best-fixed = byte-is-best-fixed f rec ks ws (front_of k (left r members)) d run-accepted-fixed q e behind third channel
+      run-byte-best-fixed = byte-is-best-fixed f rec ks ws (front_of k (left r members)) d run-accepted-fixed q e behind
+          third channel
 
       -- a free shade with none has the level of its coordinate
       pub run-byte-of-none-fixed : W (channel_group rec ks ws (left r members) q e) ≡ 0
           → get_or (run_palette_fixed f rec ks ws k r members d).palette (3 * q + e) 0
           ≡ level_of (get_or r.shades (3 * q + e) 0)
       run-byte-of-none-fixed none =
-          byte-of-none-fixed f rec ks ws (front_of k (left r members)) d run-accepted-fixed q e behind third channel none
+          byte-of-none-fixed f rec ks ws (front_of k (left r members)) d run-accepted-fixed q e behind third channel
+          none
           ∙ ap level_of (lent_at q e few channel)
 
 -- ---- fixed shades that stand as they were handed in
@@ -99,5 +103,6 @@ own-bytes rec ks ws fixed {k = k} {r = r} {members = members} table m free d roo
     let z : 3 * (i / 3) + i % 3 ≡ i = omega arith in
     let palette = (run_palette_fixed (fixed_in fixed) rec ks ws k r members d).palette in
     let byte : get_or palette i 0 ≡ level_of (get_or r.shades i 0) =
-    rw z at (run-byte-of-fixed (fixed_in fixed) rec ks ws table m free d room (i / 3) (i % 3) (omega arith) (omega arith)) in
+    rw z at (run-byte-of-fixed (fixed_in fixed) rec ks ws table m free d room (i / 3) (i % 3) (omega arith)
+    (omega arith)) in
     omega (arith, byte, stand i l)

@@ -11,7 +11,8 @@ use Rattle.palette_groups.specs.{palette_from_groups, palette_from_groups_fixed}
 abbrev pub run_palette : Record → List ℕ → List ℕ → ℕ → Ran → List ℕ → List ℕ → PaletteOutcome
 run_palette rec ks ws k r members d = palette_from_groups rec ks ws (front_of k (left r members)) d
 
--- the same of a run with fixed shades: the outcome of `palette_from_groups_fixed`, of whose shades the first f are fixed
+-- the same of a run with fixed shades: the outcome of `palette_from_groups_fixed`, of whose shades the first f are
+-- fixed
 abbrev pub run_palette_fixed : ℕ → Record → List ℕ → List ℕ → ℕ → Ran → List ℕ → List ℕ → PaletteOutcome
 run_palette_fixed f rec ks ws k r members d =
     palette_from_groups_fixed f rec ks ws (front_of k (left r members)) d

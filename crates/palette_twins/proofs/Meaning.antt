@@ -3,11 +3,12 @@ use Prim.Native.Nat.{ℕ, ◌/◌, ◌<◌}
 use mathlib.Core.Bool.{true, false}
 use mathlib.Core.List.{List}
 use mathlib.Core.Logic.{◌↔◌, inl, inr}
-use mathlib.Core.Path.{◌≡◌, sym, ap, ◌∙◌}
+use mathlib.Core.Path.{◌≡◌, refl, sym, ap, ◌∙◌}
+use Rattle.std.specs.Option.{IsSomeAnd, is_some}
+use Rattle.std.specs.Prelude.{None}
 use native.Mathlib.Omega.{arith}
-use lib.Dec.{ltb}
 use lib.ListN.{length}
-use borrow.Author.Tests.{ltb-true, ltb-false, lt-ltb}
+use borrow.Author.Tests.{ltb-true, ltb-false}
 use Rattle.number.proofs.Cases.{bool, never, cmp, lt, eq, gt}
 use Rattle.number.proofs.Promises.{first-that-is}
 use Rattle.shades.specs.{shade_at}
@@ -18,7 +19,7 @@ use Rattle.palette_twins.specs.Pairs.{
   has_equal,
   higher_twin,
   twin_shade,
-  no_twins,
+  first_twins,
   twins_of,
   TwoEqual,
   AreTwins,
@@ -45,19 +46,22 @@ module _ (p : List ℕ) where
   -- ---- the test
 
   -- where it holds there are twins
-  pub twins-are : twin_shade p ≡ true → AreTwins p (twins_of p)
-  unfolding twins_of
-  twins-are h =
+  first-are : twin_shade p ≡ true → AreTwins p (first_twins p)
+  first-are h =
       let l = ltb-true (higher_twin p) (length p / 3) h in
       let f = first-that-is (length p / 3) (has_equal p) in
       let e = equal_is (higher_twin p) (f.found l) in
-      rw h
-      (record {
+      record {
         before = e.0;
         entries = l;
         equal = e.1;
         smallest = λ i j a b. differs j (f.before j b) i a;
-      })
+      }
+
+  -- which are told
+  pub twins-are : twin_shade p ≡ true → IsSomeAnd (twins_of p) (AreTwins p)
+  unfolding twins_of
+  twins-are h = rw h (first-are h)
 
   -- where it fails all entries differ
   pub all-differ : twin_shade p ≡ false → AllDiffer p
@@ -66,8 +70,8 @@ module _ (p : List ℕ) where
       let f = first-that-is (length p / 3) (has_equal p) in
       differs j (f.before j (omega (arith, b, past))) i a
 
-  -- and 0 and 0 are told
-  pub none_told : twin_shade p ≡ false → twins_of p ≡ no_twins
+  -- and none are told
+  pub none_told : twin_shade p ≡ false → twins_of p ≡ None
   unfolding twins_of
   none_told h = rw h
 
@@ -75,10 +79,10 @@ module _ (p : List ℕ) where
   pub twin-shade-exactly : (twin_shade p ≡ true) ↔ TwoEqual p
   twin-shade-exactly = (
     λ h.
-        let t = twins-are h in
+        let t = first-are h in
         record {
-          one = (twins_of p).lower;
-          other = (twins_of p).higher;
+          one = (first_twins p).lower;
+          other = (first_twins p).higher;
           before = t.before;
           entries = t.entries;
           equal = t.equal;
@@ -94,17 +98,25 @@ module _ (p : List ℕ) where
   all-differ-exactly = (
     all-differ,
     λ d. elim (bool (twin_shade p)) [
-      | inl h ↦ let t = twins-are h in absurd (d _ _ t.before t.entries t.equal)
+      | inl h ↦ let t = first-are h in absurd (d _ _ t.before t.entries t.equal)
       | inr h ↦ h
     ],
   )
 
-  -- the higher number tells it: that of twins is above 0
-  pub told-exactly : twin_shade p ≡ ltb 0 (twins_of p).higher
+  -- what is told tells it
+  pub told-exactly : twin_shade p ≡ is_some (twins_of p)
+  unfolding twins_of
   told-exactly = elim (bool (twin_shade p)) [
-    | inl h ↦ h ∙ sym (lt-ltb 0 (twins_of p).higher (omega (arith, (twins-are h).before)))
-    | inr h ↦ h ∙ sym (ap (λ (t : Twins). ltb 0 t.higher) (none_told h))
+    | inl h ↦ rw h refl
+    | inr h ↦ rw h refl
   ]
+
+  -- so none are told exactly where all entries differ
+  pub none-told-exactly : (twins_of p ≡ None) ↔ AllDiffer p
+  none-told-exactly = (
+    λ e. all-differ (told-exactly ∙ ap is_some e),
+    λ d. none_told (all-differ-exactly.1 d),
+  )
 
   -- ---- one pair only
 

@@ -1,5 +1,5 @@
 -- Twins: two equal entries of a palette. Of several pairs the one with the smallest higher number is told.
-use Rattle.std.specs.Prelude.{ℕ, ◌/◌, ◌<◌, Bool, cond, List, ◌≡◌, ltb, length}
+use Rattle.std.specs.Prelude.{ℕ, ◌/◌, ◌<◌, Bool, cond, List, Option, None, Some, ◌≡◌, ltb, length}
 use Rattle.number.specs.{first_that}
 use Rattle.shades.specs.{shade_at, same_place}
 use Rattle.palette_twins.specs.declared.Twins.{Twins}
@@ -24,13 +24,22 @@ higher_twin p = first_that (length p / 3) (has_equal p)
 abbrev pub twin_shade : List ℕ → Bool
 twin_shade p = ltb (higher_twin p) (length p / 3)
 
--- what is told where all entries differ
+-- the higher number, and its equal before it
+abbrev pub first_twins : List ℕ → Twins
+first_twins p = record { lower = equal_before p (higher_twin p); higher = higher_twin p }
+
+-- the twins of a palette: these; none where all entries differ
+unfoldable pub twins_of : List ℕ → Option Twins
+twins_of p = cond (twin_shade p) (Some (first_twins p)) None
+
+-- what is told in numbers where there are no twins
 abbrev pub no_twins : Twins
 no_twins = record { lower = 0; higher = 0 }
 
--- the twins of a palette: the higher number, and its equal before it
-unfoldable pub twins_of : List ℕ → Twins
-twins_of p = cond (twin_shade p) (record { lower = equal_before p (higher_twin p); higher = higher_twin p }) no_twins
+-- the twins in numbers: 0 and 0 where there are none
+abbrev pub told_pair : Option Twins → Twins
+told_pair None = no_twins
+told_pair (Some t) = t
 
 -- two entries are equal, whichever they are
 pub record TwoEqual (p : List ℕ) : Type 0 where

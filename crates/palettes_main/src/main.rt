@@ -4,24 +4,15 @@
 #![tactic(auto)]
 
 use palette_groups::palette_from_groups;
+use printing::{field, row};
+use refusal::{Refusal, number_in};
 use std::io;
 use table::Record;
 
-// One number and a blank.
-fn field(rt: &impl Print, n: u8) -> io::Result<()> {
-    print!(rt; "{n} ")
-}
-
 // The line of a call.
-fn line(rt: &impl Print, answer: u8, palette: &[u8; 7]) -> io::Result<()> {
-    field(rt, answer)?;
-    field(rt, palette[0])?;
-    field(rt, palette[1])?;
-    field(rt, palette[2])?;
-    field(rt, palette[3])?;
-    field(rt, palette[4])?;
-    field(rt, palette[5])?;
-    field(rt, palette[6])?;
+fn line(rt: &impl Print, answer: Result<(), Refusal>, palette: &[u8; 7]) -> io::Result<()> {
+    field(rt, number_in(answer.err()))?;
+    row(rt, palette)?;
     println!(rt)
 }
 

@@ -4,39 +4,25 @@
 // of palettes with twins, and those of pictures with comments.
 #![tactic(auto)]
 
+use arrays::map_numbers;
+use printing::{field, row};
+use refusal::number_in;
 use std::io;
 use table::Record;
 
-// One number and a blank.
-fn field(rt: &impl Print, n: u64) -> io::Result<()> {
-    print!(rt; "{n} ")
-}
-
-// A key or a weight.
-fn place(rt: &impl Print, n: u32) -> io::Result<()> {
-    field(rt, n as u64)
-}
-
-// An index byte.
-fn byte(rt: &impl Print, n: u8) -> io::Result<()> {
-    field(rt, n as u64)
-}
-
-// The end of a line.
-fn end_line(rt: &impl Print) -> io::Result<()> {
-    println!(rt)
-}
-
 // The line of a picture.
 fn show_picture(rt: &impl Print, input: &[u8]) -> io::Result<()> {
-    let p = p6::read_picture(input);
-    field(rt, p.refusal as u64)?;
-    field(rt, p.offset as u64)?;
-    field(rt, p.width as u64)?;
-    field(rt, p.height as u64)?;
-    field(rt, p.start as u64)?;
-    field(rt, p6::raster_of(input).len() as u64)?;
-    end_line(rt)
+    let (number, offset, width, height, start) = match p6::read_picture(input) {
+        Ok(picture) => (0, 0, picture.width, picture.height, picture.start),
+        Err(fault) => (u8::from(fault.refusal), fault.offset, 0, 0, 0),
+    };
+    field(rt, number)?;
+    field(rt, offset)?;
+    field(rt, width)?;
+    field(rt, height)?;
+    field(rt, start)?;
+    field(rt, p6::raster_of(input).len())?;
+    println!(rt)
 }
 
 // The line of a table: refusal, pixels taken, used entries, and its keys and weights.
@@ -52,14 +38,12 @@ fn show_table(rt: &impl Print, input: &[u8]) -> io::Result<()> {
     };
     let a = table::add_strip(empty, &mut keys, &mut weights, p6::raster_of(input));
     let rec = a.rec;
-    field(rt, a.refusal as u64)?;
-    field(rt, a.taken as u64)?;
-    field(rt, rec.used as u64)?;
-    place(rt, keys[0])?;
-    place(rt, keys[1])?;
-    place(rt, weights[0])?;
-    place(rt, weights[1])?;
-    end_line(rt)
+    field(rt, refusal::number_in(a.refusal))?;
+    field(rt, a.taken)?;
+    field(rt, rec.used)?;
+    row(rt, &keys)?;
+    row(rt, &weights)?;
+    println!(rt)
 }
 
 // The line of a mapping to the palette (3,0,0), (9,0,0): refusal, error, and the index bytes, of
@@ -67,29 +51,22 @@ fn show_table(rt: &impl Print, input: &[u8]) -> io::Result<()> {
 fn show_mapping(rt: &impl Print, input: &[u8]) -> io::Result<()> {
     let palette = [3u8, 0, 0, 9, 0, 0];
     let mut index = [7u8; 6];
-    let m = mapping::map_strip(p6::raster_of(input), &palette, &mut index, 1);
-    field(rt, m.refusal as u64)?;
-    field(rt, m.error)?;
-    byte(rt, index[0])?;
-    byte(rt, index[1])?;
-    byte(rt, index[2])?;
-    byte(rt, index[3])?;
-    byte(rt, index[4])?;
-    byte(rt, index[5])?;
-    end_line(rt)
+    let answer = mapping::map_strip(p6::raster_of(input), &palette, &mut index, 1);
+    field(rt, number_in(answer.err().map(|unmapped| unmapped.refusal)))?;
+    field(rt, answer.map_or(0, |mapped| mapped.error))?;
+    row(rt, &index)?;
+    println!(rt)
 }
 
 // The line of a mapping that may meet twins: refusal, their numbers, and the index bytes.
 fn show_twins(rt: &impl Print, strip: &[u8], palette: &[u8]) -> io::Result<()> {
     let mut index = [7u8; 2];
-    let m = mapping::map_strip(strip, palette, &mut index, 0);
-    let twins = m.twins;
-    field(rt, m.refusal as u64)?;
-    field(rt, twins.lower as u64)?;
-    field(rt, twins.higher as u64)?;
-    byte(rt, index[0])?;
-    byte(rt, index[1])?;
-    end_line(rt)
+    let answer = mapping::map_strip(strip, palette, &mut index, 0);
+    let numbers = map_numbers(answer);
+    field(rt, number_in(answer.err().map(|unmapped| unmapped.refusal)))?;
+    row(rt, &numbers[5..])?;
+    row(rt, &index)?;
+    println!(rt)
 }
 
 // A pixel mapped to entries that all differ, at a tie to the lower number; neighbours, the first

@@ -6,3 +6,5 @@ pub mod Numbers
 pub mod Order
 -- The outcome of a call that refuses by an order.
 pub mod Outcomes
+-- The outcome of a call that refuses by an order, by the refusal itself.
+pub mod By

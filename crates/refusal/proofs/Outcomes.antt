@@ -20,7 +20,8 @@ module _ {A : Type 0} (rows : List Row) (made : A) (refused : ℕ → A) where
   outcome-made e = rw e
 
   -- where something is, it is refused with that number
-  pub outcome-refused : (n : Refusal) → first_of rows ≡ number_of n → outcome_of rows made refused ≡ refused (number_of n)
+  pub outcome-refused : (n : Refusal) → first_of rows ≡ number_of n
+      → outcome_of rows made refused ≡ refused (number_of n)
   outcome-refused n e = rw (e, ne_eqb (number_of n) done (number-not-done n))
 
   -- whatever holds of what is made and of every refusal holds of the outcome

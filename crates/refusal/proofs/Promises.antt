@@ -3,9 +3,11 @@ use Prim.Native.Nat.{ℕ, ◌≤◌}
 use mathlib.Core.Path.{◌≡◌}
 use mathlib.Core.List.{List}
 use mathlib.Core.Logic.{◌↔◌, ◌⊎◌}
-use Rattle.refusal.specs.Numbers.{Refusal, number_of, done}
-use Rattle.refusal.specs.Order.{Row, first_of, outcome_of, Given, NoneHolds}
-use Rattle.refusal.specs.Calls.{Refuses}
+use Rattle.std.specs.Prelude.{Option, None, Some}
+use Rattle.refusal.specs.Numbers.{Refusal, number_of, done, number_in}
+use Rattle.refusal.specs.Order.{Row, first_refusal, first_of, outcome_of, outcome_by, Given, NoneHolds}
+use Rattle.refusal.specs.Calls.{Refuses, RefusesBy}
+use Rattle.refusal.proofs.By as by
 use Rattle.refusal.proofs.Numbers as numbers
 use Rattle.refusal.proofs.Order as order
 use Rattle.refusal.proofs.Outcomes as outcomes
@@ -52,3 +54,31 @@ pub refuses-all : {A : Type 0} {rows : List Row} {outcome : A} {number : A → �
     → Refuses rows outcome number made left → (P : A → Type 0) → P made → ((n : Refusal) → P (left (number_of n)))
     → P outcome
 refuses-all = outcomes.refuses-all
+
+-- A refusal is the first exactly when its row is the first whose test holds.
+pub first-refusal-exactly : (rows : List Row) (n : Refusal) → (first_refusal rows ≡ Some n) ↔ Given rows n
+first-refusal-exactly = by.refusal-exactly
+
+-- There is no first refusal exactly when no row's test holds.
+pub no-refusal-exactly : (rows : List Row) → (first_refusal rows ≡ None) ↔ NoneHolds rows
+no-refusal-exactly = by.none-exactly
+
+-- The number that stands for the first refusal or none is that of the first row whose test holds.
+pub first-number : (rows : List Row) → number_in (first_refusal rows) ≡ first_of rows
+first-number = by.number-of-first
+
+-- That number tells which refusal it is, or that there is none.
+pub number-in-only : (a b : Option Refusal) → number_in a ≡ number_in b → a ≡ b
+number-in-only = by.number-in-only
+
+-- A call whose outcome is made by an order refuses by it, where the outcome has the refusal itself.
+pub refuses-by : {A : Type 0} (rows : List Row) (made : A) (left : Refusal → A) (refusal : A → Option Refusal)
+    → refusal made ≡ None → ((n : Refusal) → refusal (left n) ≡ Some n)
+    → RefusesBy rows (outcome_by rows made left) refusal made left
+refuses-by = by.refuses_by
+
+-- Whatever holds of what is made and of everything left holds of the outcome of such a call.
+pub refuses-by-all : {A : Type 0} {rows : List Row} {outcome : A} {refusal : A → Option Refusal} {made : A}
+    {left : Refusal → A} → RefusesBy rows outcome refusal made left → (P : A → Type 0) → P made
+    → ((n : Refusal) → P (left n)) → P outcome
+refuses-by-all = by.refuses-by-all

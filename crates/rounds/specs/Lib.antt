@@ -1,4 +1,4 @@
 -- Glossary.
---   Runnable       what a run asks
+--   Runnable  what a run asks
 pub mod Asking
 pub use Asking.{Runnable}

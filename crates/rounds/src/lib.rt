@@ -2,9 +2,8 @@
 // shade or to a limit, and the final total.
 //
 // Calls; none refuses, and what one requires stands above it
-//   make_run           a run by either rule from the table's mean   run.rt
-//   run_from           a run by either rule from given shades
-//   run_from_holding   the same with the first shades held
+//   make_run   a run by either rule from the table's mean                              run.rt
+//   run_from   a run by either rule from given shades, with the first shades held
 // The members against the shades stand in total.rt.
 //
 // Read next: specs/Lib.antt (what the words mean), proofs/Lib.antt (what is shown).
@@ -14,7 +13,7 @@
 mod run;
 mod total;
 
-pub use run::{make_run, run_from, run_from_holding};
+pub use run::{make_run, run_from};
 
 // What a run answers, beside the shades: how many rounds were made, whether the last moved no
 // shade, all distances, and the final total.

@@ -12,20 +12,22 @@ ghost use Rattle.method.specs.{
   begin,
   final_of,
 };
+ghost use Rattle.moves.specs.{leaps};
 ghost use Rattle.rounds_many.specs.{SeriesMeets};
 ghost use Rattle.rounds.specs.Asking.{Runnable};
 
 use super::Whole;
 use super::total::final_total;
 use colour::Point;
+use moves::Stride;
 use rounds_many::Series;
 use table_test::Record;
 
-// Makes a run, by Jancey's rule where the shades leap, with the first `held` shades held, from the
-// given shades in `base` and coordinates that are required to be 192 zeros. Requires a table with a
-// colour, a given shade, all of them on the grid, 1 to 64 shades, no more of them held, a limit of 1
-// to 200, and room for members and totals.
-pub fn run_from_holding(
+// Makes a run by this stride, with the first `held` shades held, from the given shades in `base`
+// and coordinates that are required to be 192 zeros. Requires a table with a colour, a given shade,
+// all of them on the grid, 1 to 64 shades, no more of them held, a limit of 1 to 200, and room for
+// members and totals.
+pub fn run_from(
     keys: &[u32],
     weights: &[u32],
     used: usize,
@@ -33,7 +35,7 @@ pub fn run_from_holding(
     shades: &mut [u32],
     held: usize,
     count: usize,
-    leaps: bool,
+    stride: Stride,
     limit: usize,
     members: &mut [u32],
     totals: &mut [u64],
@@ -41,7 +43,7 @@ pub fn run_from_holding(
     requires { Runnable used keys.now weights.now count limit members.old totals.old
         × OnGrid base.now × (3 ≤ length base.now) × (held ≤ count)
         × (shades.old ≡ replicate most_coordinates 0) }
-    ensures series { SeriesMeets (holding held (kind_of leaps))
+    ensures series { SeriesMeets (holding held (kind_of (leaps stride)))
         (colours_of used keys.now weights.now) count limit
         (begin_from (listed base.now)
         (colours_of used keys.now weights.now) count members.old)
@@ -52,8 +54,8 @@ pub fn run_from_holding(
         (state_of shades.new members.new) }
 {
     starts::fill_starts(keys, used, base, shades, count, members);
-    let a = rounds_many::make_rounds_holding(
-        keys, weights, used, shades, held, count, leaps, limit, members, totals,
+    let a = rounds_many::make_rounds(
+        keys, weights, used, shades, held, count, stride, limit, members, totals,
     );
     let total = final_total(keys, weights, used, shades, count, members);
     Whole {
@@ -64,39 +66,6 @@ pub fn run_from_holding(
     }
 }
 
-// Makes a run, by Jancey's rule where the shades leap, from the given shades in `base` and
-// coordinates that are required to be 192 zeros. Requires a table with a colour, a given shade, all
-// of them on the grid, 1 to 64 shades, a limit of 1 to 200, and room for members and totals.
-pub fn run_from(
-    keys: &[u32],
-    weights: &[u32],
-    used: usize,
-    base: &[u32],
-    shades: &mut [u32],
-    count: usize,
-    leaps: bool,
-    limit: usize,
-    members: &mut [u32],
-    totals: &mut [u64],
-) -> Whole
-    requires { Runnable used keys.now weights.now count limit members.old totals.old
-        × OnGrid base.now × (3 ≤ length base.now)
-        × (shades.old ≡ replicate most_coordinates 0) }
-    ensures series { SeriesMeets (kind_of leaps)
-        (colours_of used keys.now weights.now) count limit
-        (begin_from (listed base.now)
-        (colours_of used keys.now weights.now) count members.old)
-        (state_of shades.new members.new)
-        totals.old totals.new result.rounds result.settled result.distances }
-    ensures total { result.total
-        ≡ final_of (colours_of used keys.now weights.now)
-        (state_of shades.new members.new) }
-{
-    run_from_holding(
-        keys, weights, used, base, shades, 0, count, leaps, limit, members, totals,
-    )
-}
-
 // Makes a run from the table's mean, which is read from the record's sums. Requires the same of all
 // but the given shades, and that the record is the table's.
 pub fn make_run(
@@ -105,7 +74,7 @@ pub fn make_run(
     weights: &[u32],
     shades: &mut [u32],
     count: usize,
-    leaps: bool,
+    stride: Stride,
     limit: usize,
     members: &mut [u32],
     totals: &mut [u64],
@@ -113,7 +82,7 @@ pub fn make_run(
     requires { Runnable rec.used keys.now weights.now count limit members.old
         totals.old × GoodTable rec keys.now weights.now
         × (shades.old ≡ replicate most_coordinates 0) }
-    ensures series { SeriesMeets (kind_of leaps)
+    ensures series { SeriesMeets (kind_of (leaps stride))
         (colours_of rec.used keys.now weights.now) count limit
         (begin (colours_of rec.used keys.now weights.now) count
         members.old)
@@ -126,6 +95,6 @@ pub fn make_run(
     let m = starts::mean_of(rec.pixels, rec.red, rec.green, rec.blue);
     let base = [m.r, m.g, m.b];
     run_from(
-        keys, weights, rec.used, &base, shades, count, leaps, limit, members, totals,
+        keys, weights, rec.used, &base, shades, 0, count, stride, limit, members, totals,
     )
 }

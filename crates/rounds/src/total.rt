@@ -43,10 +43,8 @@ pub fn final_total(
         (state_of shades.now members.now) }
 {
     let mut total: u64 = 0;
-    let mut i = 0;
-    while i < used {
+    for i in 0..used {
         total += entry_cost(keys, weights, used, shades, count, members, i);
-        i += 1;
     }
     total
 }

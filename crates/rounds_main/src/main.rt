@@ -4,70 +4,36 @@
 // moved, distances, two shades, three members.
 #![tactic(auto)]
 
+ghost use Rattle.std.specs.Prelude.{◌≤◌, length};
+
+use arrays::{round_numbers, run_numbers, run_shades};
 use lloyd::{Ran, Rounded};
+use printing::{field, row};
+use refusal::{Refusal, number_in};
 use std::io;
 use table::Record;
 
-// One number and a blank.
-fn field(rt: &impl Print, n: u64) -> io::Result<()> {
-    print!(rt; "{n} ")
-}
-
-// A coordinate or a member.
-fn place(rt: &impl Print, n: u32) -> io::Result<()> {
-    field(rt, n as u64)
-}
-
-// The end of a line.
-fn end_line(rt: &impl Print) -> io::Result<()> {
-    println!(rt)
-}
-
-// A test: 1 or 0.
-fn bit(rt: &impl Print, b: bool) -> io::Result<()> {
-    if b { field(rt, 1) } else { field(rt, 0) }
-}
-
-// Two shades.
-fn show_shades(rt: &impl Print, shades: &[u32; 6]) -> io::Result<()> {
-    place(rt, shades[0])?;
-    place(rt, shades[1])?;
-    place(rt, shades[2])?;
-    place(rt, shades[3])?;
-    place(rt, shades[4])?;
-    place(rt, shades[5])
-}
-
-// Three members.
-fn show_members(rt: &impl Print, members: &[u32; 3]) -> io::Result<()> {
-    place(rt, members[0])?;
-    place(rt, members[1])?;
-    place(rt, members[2])
-}
-
-// Three totals, and the end of their line.
-fn show_totals(rt: &impl Print, first: u64, second: u64, third: u64) -> io::Result<()> {
-    field(rt, first)?;
-    field(rt, second)?;
-    field(rt, third)?;
-    end_line(rt)
+// The record of red colours: so many, of so many pixels, and so many levels of red.
+fn reds(used: usize, pixels: u64, red: u64) -> Record {
+    Record {
+        used,
+        pixels,
+        red,
+        green: 0,
+        blue: 0,
+    }
 }
 
 // The answer of a run: of its shades the first two.
-fn show_ran(rt: &impl Print, a: Ran) -> io::Result<()> {
-    let shades = a.shades;
-    let two = [
-        shades[0], shades[1], shades[2], shades[3], shades[4], shades[5],
-    ];
-    field(rt, a.refusal as u64)?;
-    field(rt, a.rounds as u64)?;
-    bit(rt, a.settled)?;
-    field(rt, a.distances)?;
-    field(rt, a.total)?;
-    show_shades(rt, &two)
+fn show_ran(rt: &impl Print, answer: Result<Ran, Refusal>) -> io::Result<()> {
+    let shades = run_shades(answer);
+    field(rt, number_in(answer.err()))?;
+    row(rt, &run_numbers(answer))?;
+    row(rt, &shades[..6])
 }
 
-// The line of a run on two colours, up to its totals, which are lent.
+// The line of a run on two colours, with these totals lent, of which three are shown. Requires
+// three.
 fn show_lent(
     rt: &impl Print,
     rec: Record,
@@ -76,14 +42,18 @@ fn show_lent(
     count: usize,
     limit: usize,
     totals: &mut [u64],
-) -> io::Result<()> {
+) -> io::Result<()>
+    requires { 3 ≤ length totals.old }
+{
     let mut members = [8u32; 3];
     let a = lloyd::run(rec, keys, weights, count, limit, &mut members, totals);
     show_ran(rt, a)?;
-    show_members(rt, &members)
+    row(rt, &members)?;
+    row(rt, &totals[..3])?;
+    println!(rt)
 }
 
-// The same, with 200 totals lent and three of them shown.
+// The same, with 200 totals lent.
 fn show_run(
     rt: &impl Print,
     rec: Record,
@@ -93,37 +63,28 @@ fn show_run(
     limit: usize,
 ) -> io::Result<()> {
     let mut totals = [5u64; 200];
-    show_lent(rt, rec, keys, weights, count, limit, &mut totals)?;
-    show_totals(rt, totals[0], totals[1], totals[2])
+    show_lent(rt, rec, keys, weights, count, limit, &mut totals)
 }
 
 // The line of a single round: its answer, the shades that it leaves, and the members.
 fn show_round(
     rt: &impl Print,
-    a: Rounded,
+    answer: Result<Rounded, Refusal>,
     shades: &[u32; 6],
     members: &[u32; 3],
 ) -> io::Result<()> {
-    field(rt, a.refusal as u64)?;
-    field(rt, a.total)?;
-    place(rt, a.moved)?;
-    field(rt, a.distances)?;
-    show_shades(rt, shades)?;
-    show_members(rt, members)?;
-    end_line(rt)
+    field(rt, number_in(answer.err()))?;
+    row(rt, &round_numbers(answer))?;
+    row(rt, shades)?;
+    row(rt, members)?;
+    println!(rt)
 }
 
 // Shade counts on an empty table: 1, 64, 65, 0.
 fn counts(rt: &impl Print) -> io::Result<()> {
     let keys = [0u32; 2];
     let weights = [0u32; 2];
-    let empty = Record {
-        used: 0,
-        pixels: 0,
-        red: 0,
-        green: 0,
-        blue: 0,
-    };
+    let empty = reds(0, 0, 0);
     show_run(rt, empty, &keys, &weights, 1, 0)?;
     show_run(rt, empty, &keys, &weights, 64, 0)?;
     show_run(rt, empty, &keys, &weights, 65, 0)?;
@@ -134,13 +95,7 @@ fn counts(rt: &impl Print) -> io::Result<()> {
 fn limits(rt: &impl Print) -> io::Result<()> {
     let keys = [0u32, 655360];
     let weights = [3u32, 1];
-    let rec = Record {
-        used: 2,
-        pixels: 4,
-        red: 10,
-        green: 0,
-        blue: 0,
-    };
+    let rec = reds(2, 4, 10);
     show_run(rt, rec, &keys, &weights, 1, 0)?;
     show_run(rt, rec, &keys, &weights, 2, 1)?;
     show_run(rt, rec, &keys, &weights, 2, 200)?;
@@ -152,46 +107,24 @@ fn limits(rt: &impl Print) -> io::Result<()> {
 fn rooms(rt: &impl Print) -> io::Result<()> {
     let keys = [0u32, 655360];
     let weights = [3u32, 1];
-    let rec = Record {
-        used: 2,
-        pixels: 4,
-        red: 10,
-        green: 0,
-        blue: 0,
-    };
+    let rec = reds(2, 4, 10);
     let mut few = [5u64; 20];
     show_lent(rt, rec, &keys, &weights, 2, 0, &mut few)?;
-    show_totals(rt, few[0], few[1], few[2])?;
     show_lent(rt, rec, &keys, &weights, 2, 20, &mut few)?;
-    show_totals(rt, few[0], few[1], few[2])?;
     let mut short = [5u64; 99];
     show_lent(rt, rec, &keys, &weights, 2, 0, &mut short)?;
-    show_totals(rt, short[0], short[1], short[2])?;
     let mut enough = [5u64; 100];
-    show_lent(rt, rec, &keys, &weights, 2, 0, &mut enough)?;
-    show_totals(rt, enough[0], enough[1], enough[2])
+    show_lent(rt, rec, &keys, &weights, 2, 0, &mut enough)
 }
 
 // Means that go up: a half (sheet H), and two thirds, where a mean rounded down costs more.
 fn means(rt: &impl Print) -> io::Result<()> {
     let keys = [655360u32, 720896];
     let weights = [17u32, 15];
-    let rec = Record {
-        used: 2,
-        pixels: 32,
-        red: 335,
-        green: 0,
-        blue: 0,
-    };
+    let rec = reds(2, 32, 335);
     show_run(rt, rec, &keys, &weights, 1, 0)?;
     let few = [1u32, 2];
-    let three = Record {
-        used: 2,
-        pixels: 3,
-        red: 32,
-        green: 0,
-        blue: 0,
-    };
+    let three = reds(2, 3, 32);
     show_run(rt, three, &keys, &few, 1, 0)
 }
 
@@ -199,13 +132,7 @@ fn means(rt: &impl Print) -> io::Result<()> {
 fn tie(rt: &impl Print) -> io::Result<()> {
     let keys = [327680u32];
     let weights = [1u32];
-    let rec = Record {
-        used: 1,
-        pixels: 1,
-        red: 5,
-        green: 0,
-        blue: 0,
-    };
+    let rec = reds(1, 1, 5);
     let mut shades = [0u32, 0, 0, 160, 0, 0];
     let mut members = [1u32, 8, 8];
     let a = lloyd::short_round(rec, &keys, &weights, &mut shades, &mut members);
@@ -217,13 +144,7 @@ fn tie(rt: &impl Print) -> io::Result<()> {
 fn twins(rt: &impl Print) -> io::Result<()> {
     let keys = [0u32, 655360];
     let weights = [3u32, 1];
-    let rec = Record {
-        used: 2,
-        pixels: 4,
-        red: 10,
-        green: 0,
-        blue: 0,
-    };
+    let rec = reds(2, 4, 10);
     let mut shades = [0u32; 6];
     let mut members = [8u32; 3];
     let a = lloyd::plain_round(rec, &keys, &weights, &mut shades, &mut members);
@@ -236,13 +157,7 @@ fn twins(rt: &impl Print) -> io::Result<()> {
 fn alone(rt: &impl Print) -> io::Result<()> {
     let keys = [0u32, 655360];
     let weights = [3u32, 1];
-    let rec = Record {
-        used: 2,
-        pixels: 4,
-        red: 10,
-        green: 0,
-        blue: 0,
-    };
+    let rec = reds(2, 4, 10);
     let mut shades = [80u32, 0, 0, 4080, 4080, 4080];
     let mut members = [8u32; 3];
     let a = lloyd::plain_round(rec, &keys, &weights, &mut shades, &mut members);
@@ -253,13 +168,7 @@ fn alone(rt: &impl Print) -> io::Result<()> {
 fn refused(rt: &impl Print) -> io::Result<()> {
     let keys = [0u32, 655360];
     let weights = [3u32, 1];
-    let rec = Record {
-        used: 2,
-        pixels: 4,
-        red: 10,
-        green: 0,
-        blue: 0,
-    };
+    let rec = reds(2, 4, 10);
     let mut off = [0u32, 0, 0, 160, 0, 4081];
     let mut members = [0u32, 2, 8];
     let a = lloyd::plain_round(rec, &keys, &weights, &mut off, &mut members);

@@ -1,9 +1,8 @@
 // Rounds one after the other on a table and shades that are known to be good.
 //
 // Calls; none refuses, and what one requires stands above it
-//   make_rounds           shortened rounds by either rule, to the first that moves no shade, or to
-//                         a limit   many.rt
-//   make_rounds_holding   the same with the first shades held
+//   make_rounds   shortened rounds by either rule, with the first shades held, to the first that
+//                 moves no shade, or to a limit   many.rt
 //
 // Read next: specs/Lib.antt (what the words mean), proofs/Lib.antt (what is shown).
 
@@ -11,7 +10,7 @@
 
 mod many;
 
-pub use many::{make_rounds, make_rounds_holding};
+pub use many::make_rounds;
 
 // What rounds answer: how many were made, whether the last moved no shade, and all distances.
 #[derive(Clone, Copy)]

@@ -40,17 +40,14 @@ step-of-none-held rule {C} {k} {distances} {a} {z} {total} {moved} {counted} m =
 
 module _ {used : ℕ} {ks ws s : List ℕ} {k : ℕ} {before after t : List ℕ} {total : ℕ}
     (p : Steppable used ks ws k (state_of s before)) (g : Grouped used ks ws s k before after total t) where
-  -- what the move asks
-  pub move-asked : Measured t × (k ≤ most_shades) × (3 * k ≤ length s)
-  move-asked = (
+  -- what the move asks, where no more shades are held than there are
+  pub move-asked : (held : ℕ) → held ≤ k → Measured t × (held ≤ k) × (k ≤ most_shades) × (3 * k ≤ length s)
+  move-asked held few = (
     measured used ks ws p.table (joins (colours_of used ks ws) k s) t g.sums,
+    few,
     p.fit.shades.few,
     p.fit.shades.room,
   )
-
-  -- and where no more shades are held than there are
-  pub move-asked-holding : (held : ℕ) → held ≤ k → Measured t × (held ≤ k) × (k ≤ most_shades) × (3 * k ≤ length s)
-  move-asked-holding held few = (move-asked.0, few, move-asked.1, move-asked.2)
 
   -- what the round leaves and answers, by any rule that goes by coordinates
   step-meets-by : {rule : Rule} {move : Move} → Goes rule move
@@ -69,22 +66,14 @@ module _ {used : ℕ} {ks ws s : List ℕ} {k : ℕ} {before after t : List ℕ}
         distances_is = ec;
       }
 
-  -- by one rule or the other
-  pub step-meets : (leaps : Bool) (s' : List ℕ) (moved counted : ℕ) (distances : State → ℕ)
-      → s' ≡ fill (3 * k) (goes (move_of leaps) t s) s
-      → moved ≡ how_many k (λ q. not (stays (move_of leaps) t s q)) → counted ≡ distances (state_of s before)
-      → StepMeets (kind_of leaps) (colours_of used ks ws) k distances (state_of s before) (state_of s' after) total moved
-      counted
-  step-meets leaps = step-meets-by (kind-goes leaps)
-
-  -- and with the first shades held
-  pub step-meets-holding : (held : ℕ) (leaps : Bool) (s' : List ℕ) (moved counted : ℕ) (distances : State → ℕ)
+  -- by one rule or the other, with the first shades held
+  pub step-meets : (held : ℕ) (leaps : Bool) (s' : List ℕ) (moved counted : ℕ) (distances : State → ℕ)
       → s' ≡ fill (3 * k) (goes (holding_move held (move_of leaps)) t s) s
       → moved ≡ how_many k (λ q. not (stays (holding_move held (move_of leaps)) t s q))
       → counted ≡ distances (state_of s before)
       → StepMeets (holding held (kind_of leaps)) (colours_of used ks ws) k distances (state_of s before)
       (state_of s' after) total moved counted
-  step-meets-holding held leaps = step-meets-by (holding-goes held (kind-goes leaps))
+  step-meets held leaps = step-meets-by (holding-goes held (kind-goes leaps))
 
   -- the sums that it leaves are those of the groups that its members tell
   pub step-sums : Summed (member_at after) ks ws used t

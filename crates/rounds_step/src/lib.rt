@@ -2,10 +2,10 @@
 // then the move.
 //
 // Calls; none refuses, and what one requires stands above it
-//   plain_step          one round by the plain search                    round.rt
-//   short_step          one round by the shortened search
-//   next_step           the same by either rule, with the sums of the groups handed on
-//   next_step_holding   the same with the first shades held
+//   plain_step   one round by the plain search        round.rt
+//   short_step   one round by the shortened search
+//   next_step    the same by either rule, with the first shades held, and with the sums of the
+//                groups handed on
 //
 // Read next: specs/Lib.antt (what the words mean), proofs/Lib.antt (what is shown).
 
@@ -13,7 +13,7 @@
 
 mod round;
 
-pub use round::{next_step, next_step_holding, plain_step, short_step};
+pub use round::{next_step, plain_step, short_step};
 
 // What a round answers: its total, the shades that moved, the distances worked out.
 #[derive(Clone, Copy)]

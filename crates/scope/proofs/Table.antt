@@ -13,7 +13,8 @@ use Rattle.scope.specs.Fixed.{scope_table_fixed}
 
 -- every line at once
 pub table-holds : all_hold scope_table ≡ true
-unfolding sq how_many first_that numbers_below distance twins_of is_digit decimal number_at is_white ends_comment comment_end
+unfolding sq how_many first_that numbers_below distance twins_of is_digit decimal number_at is_white ends_comment
+    comment_end
     white_end gap_from field_at header_of
 table-holds = refl
 

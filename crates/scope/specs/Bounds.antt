@@ -9,9 +9,9 @@ use Rattle.lloyd_tests.specs.{bad_count, few_colours, bad_limit, short_members, 
 use Rattle.method.specs.{state_of}
 use Rattle.palette.specs.{bad_palette, short_palette}
 use Rattle.palette_groups.specs.{short_rooms}
-use Rattle.palette_twins.specs.{twin_shade, twins_of}
+use Rattle.palette_twins.specs.{twin_shade, twins_of, told_pair}
 use Rattle.mapping.specs.{short_index}
-use Rattle.p6_header.specs.{Header, header_of, header_number, header_values}
+use Rattle.p6_header.specs.{HeaderReading, header_of, header_number, header_values}
 use Rattle.p6.specs.{bad_side, bad_size, bad_depth, bad_raster}
 use Rattle.listing_test.specs.{small_rows}
 use Rattle.listing.specs.{bad_line, long_input, count_in}
@@ -50,7 +50,7 @@ abbrev pub headed : List ℕ → List ℕ
 headed width = 80 ∷ 54 ∷ 32 ∷ (width ++ (32 ∷ 49 ∷ 32 ∷ 50 ∷ 53 ∷ 53 ∷ 32 ∷ []))
 
 -- what a header says: its number, and its values
-abbrev pub told : Header → List ℕ
+abbrev pub told : HeaderReading → List ℕ
 told header = header_number header ∷ header_values header
 
 -- a palette of greys with these levels
@@ -60,7 +60,8 @@ greys (n ∷ ns) = n ∷ n ∷ n ∷ greys ns
 
 -- the numbers of its twins
 abbrev pub pair_in : List ℕ → List ℕ
-pair_in levels = (twins_of (greys levels)).lower ∷ (twins_of (greys levels)).higher ∷ []
+pair_in levels =
+    (told_pair (twins_of (greys levels))).lower ∷ (told_pair (twins_of (greys levels))).higher ∷ []
 
 -- row by row of document 01's table, and the listing's tests; no strip of 16,777,216 pixels is computed here, so that
 -- 11 MANY PIXELS stands by its limit alone, among the constants

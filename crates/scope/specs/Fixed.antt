@@ -23,8 +23,8 @@ bounds_fixed =
     ∷ lists (those (λ n. bad_group_count 1 (state_of (zeros n) [])) (3 ∷ 5 ∷ 6 ∷ 192 ∷ 195 ∷ [])) (3 ∷ 5 ∷ 195 ∷ [])
     -- and of a run with 2 fixed shades
     ∷ lists (those (bad_free (zeros 6)) (0 ∷ 1 ∷ 2 ∷ 3 ∷ 64 ∷ 65 ∷ [])) (0 ∷ 1 ∷ 2 ∷ 65 ∷ [])
-    -- 5 FEW COLOURS, by the shades wanted of the colours 0 and 1: one fixed shade, which is colour 0; the same twice; two
-    -- that are neither; both
+    -- 5 FEW COLOURS, by the shades wanted of the colours 0 and 1: one fixed shade, which is colour 0; the same twice;
+    -- two that are neither; both
     ∷ lists (those (few_left (used_only 2) (0 ∷ 1 ∷ []) (0 ∷ 0 ∷ 0 ∷ [])) (2 ∷ 3 ∷ [])) (3 ∷ [])
     ∷ lists (those (few_left (used_only 2) (0 ∷ 1 ∷ []) (zeros 6)) (3 ∷ 4 ∷ [])) (4 ∷ [])
     ∷ lists (those (few_left (used_only 2) (0 ∷ 1 ∷ []) (1 ∷ 0 ∷ 0 ∷ 0 ∷ 0 ∷ 2 ∷ [])) (3 ∷ 4 ∷ 5 ∷ [])) (5 ∷ [])

@@ -3,22 +3,22 @@ use Rattle.std.specs.Prelude.{List, [], ◌∷◌}
 use Rattle.refusal.specs.{
   number_of,
   done,
-  BAD_STRIP,
-  BAD_TABLE,
-  FULL,
-  BAD_COUNT,
-  FEW_COLOURS,
-  BAD_LIMIT,
-  SHORT_ROOM,
-  BAD_CENTRE,
-  BAD_MEMBER,
-  BAD_PALETTE,
-  MANY_PIXELS,
-  BAD_HEADER,
-  BAD_SIZE,
-  BAD_DEPTH,
-  BAD_RASTER,
-  TWIN_SHADE,
+  BadStrip,
+  BadTable,
+  Full,
+  BadCount,
+  FewColours,
+  BadLimit,
+  ShortRoom,
+  BadCentre,
+  BadMember,
+  BadPalette,
+  ManyPixels,
+  BadHeader,
+  BadSize,
+  BadDepth,
+  BadRaster,
+  TwinShade,
 }
 use Rattle.sheets.specs.{Example}
 use Rattle.scope.specs.Lines.{says}
@@ -27,20 +27,20 @@ use Rattle.scope.specs.Lines.{says}
 abbrev pub refusals : List Example
 refusals =
     says done 0
-    ∷ says (number_of BAD_STRIP) 1
-    ∷ says (number_of BAD_TABLE) 2
-    ∷ says (number_of FULL) 3
-    ∷ says (number_of BAD_COUNT) 4
-    ∷ says (number_of FEW_COLOURS) 5
-    ∷ says (number_of BAD_LIMIT) 6
-    ∷ says (number_of SHORT_ROOM) 7
-    ∷ says (number_of BAD_CENTRE) 8
-    ∷ says (number_of BAD_MEMBER) 9
-    ∷ says (number_of BAD_PALETTE) 10
-    ∷ says (number_of MANY_PIXELS) 11
-    ∷ says (number_of BAD_HEADER) 12
-    ∷ says (number_of BAD_SIZE) 13
-    ∷ says (number_of BAD_DEPTH) 14
-    ∷ says (number_of BAD_RASTER) 15
-    ∷ says (number_of TWIN_SHADE) 18
+    ∷ says (number_of BadStrip) 1
+    ∷ says (number_of BadTable) 2
+    ∷ says (number_of Full) 3
+    ∷ says (number_of BadCount) 4
+    ∷ says (number_of FewColours) 5
+    ∷ says (number_of BadLimit) 6
+    ∷ says (number_of ShortRoom) 7
+    ∷ says (number_of BadCentre) 8
+    ∷ says (number_of BadMember) 9
+    ∷ says (number_of BadPalette) 10
+    ∷ says (number_of ManyPixels) 11
+    ∷ says (number_of BadHeader) 12
+    ∷ says (number_of BadSize) 13
+    ∷ says (number_of BadDepth) 14
+    ∷ says (number_of BadRaster) 15
+    ∷ says (number_of TwinShade) 18
     ∷ []

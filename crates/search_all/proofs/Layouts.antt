@@ -2,6 +2,7 @@
 use Prim.Native.Nat.{ℕ, ◌+◌, ◌-◌, ◌≤◌, ◌<◌}
 use mathlib.Core.List.{List}
 use mathlib.Core.Path.{◌≡◌, refl, ap, ◌∙◌}
+use native.Mathlib.Nat.{le_refl}
 use native.Mathlib.Omega.{arith}
 use lib.ListN.{length, get_or, set}
 use borrow.Rule.Slice.PartMut.{mid_of, mid_len}
@@ -90,6 +91,12 @@ fronts-done {c} {n} {d} {e} {f} w room = record {
         front_at (λ p. p.b) c n i f w.blue h room.blue,
       );
 }
+
+-- so points whose coordinates are in front of three lists are laid out
+pub laid-out : {c : ℕ → Point} {n : ℕ} {d e f reds greens blues : List ℕ} → reds ≡ front (λ p. p.r) c n d
+    → greens ≡ front (λ p. p.g) c n e → blues ≡ front (λ p. p.b) c n f → RoomFor n d e f → LaidOut c n reds greens blues
+laid-out red green blue room =
+    fronts-done record { within = le_refl _; red = red; green = green; blue = blue } room
 
 -- points of the grid that are laid out have room, and are on the grid there; so are fewer of them
 pub laid-out-ready : {c : ℕ → Point} {n : ℕ} {reds greens blues : List ℕ} → LaidOut c n reds greens blues

@@ -1,8 +1,16 @@
 -- What the plain search asks, and what one look of it leaves.
 use Rattle.std.specs.Prelude.{ℕ, ◌+◌, ◌*◌, ◌≤◌, ◌<◌, List, get_or, length}
 use Rattle.number.specs.{lesser_of}
-use Rattle.colour.specs.{Point, Within, distance, most_coordinate}
+use Rattle.colour.specs.{Point, Within, distance, most_coordinate, red_of, green_of, blue_of}
 use Rattle.shades.specs.{most_shades}
+
+-- the levels of the colour with the key at place i, each times n
+abbrev pub scaled_at : ℕ → List ℕ → ℕ → Point
+scaled_at n ks i = record {
+  r = n * red_of (get_or ks i 0);
+  g = n * green_of (get_or ks i 0);
+  b = n * blue_of (get_or ks i 0);
+}
 
 -- point i of those whose coordinates are laid out in three lists
 abbrev pub point_at : List ℕ → List ℕ → List ℕ → ℕ → Point

@@ -5,33 +5,40 @@ ghost use Rattle.std.specs.Prelude.{◌≡◌, ◌<◌, ◌≤◌, length};
 ghost use Rattle.number.specs.{fill};
 ghost use Rattle.colour.specs.{Within, most_coordinate};
 ghost use Rattle.shades.specs.{most_shades, colour_at, Shades, packed_nearest};
-ghost use Rattle.search_all.specs.Asking.{point_at, looked_at, PointsOnGrid, RoomFor};
+ghost use Rattle.search_all.specs.Asking.{
+  scaled_at,
+  point_at,
+  looked_at,
+  PointsOnGrid,
+  RoomFor,
+};
 
 use colour::Point;
-use shades::lesser;
 
-// Lays out the colours of `keys`: their coordinates go to the fronts of three lists, the rest of
-// which stays. Requires room for them there.
-fn lay_out(keys: &[u32], reds: &mut [u16], greens: &mut [u16], blues: &mut [u16])
-    requires { RoomFor (length keys.now) reds.old greens.old blues.old }
+// Lays out the colours of `keys`, each level times `SCALE`, which is 16 for points of the grid and
+// 1 for whole levels: their coordinates go to the fronts of three lists, the rest of which stays.
+// Requires a scale of at most 16, and room for them there.
+pub fn lay_out<const SCALE: u32>(
+    keys: &[u32],
+    reds: &mut [u16],
+    greens: &mut [u16],
+    blues: &mut [u16],
+)
+    requires { (SCALE ≤ 16) × RoomFor (length keys.now) reds.old greens.old blues.old }
     ensures reds { reds.new
-        ≡ fill (length keys.now) (λ i. (colour_at keys.now i).r)
+        ≡ fill (length keys.now) (λ i. (scaled_at SCALE keys.now i).r)
         reds.old }
     ensures greens { greens.new
-        ≡ fill (length keys.now) (λ i. (colour_at keys.now i).g)
+        ≡ fill (length keys.now) (λ i. (scaled_at SCALE keys.now i).g)
         greens.old }
     ensures blues { blues.new
-        ≡ fill (length keys.now) (λ i. (colour_at keys.now i).b)
+        ≡ fill (length keys.now) (λ i. (scaled_at SCALE keys.now i).b)
         blues.old }
 {
-    let n = keys.len();
-    let mut i = 0;
-    while i < n {
-        let c = colour::colour_of(keys[i]);
-        reds[i] = colour::short_of(c.r);
-        greens[i] = colour::short_of(c.g);
-        blues[i] = colour::short_of(c.b);
-        i += 1;
+    for (i, key) in keys.iter().enumerate() {
+        reds[i] = colour::short_of(SCALE * colour::red_of(*key));
+        greens[i] = colour::short_of(SCALE * colour::green_of(*key));
+        blues[i] = colour::short_of(SCALE * colour::blue_of(*key));
     }
 }
 
@@ -46,13 +53,10 @@ fn look(reds: &[u16], greens: &[u16], blues: &[u16], p: Point, q: usize, best: &
         (looked_at (point_at reds.now greens.now blues.now) p q
         best.old) best.old }
 {
-    let n = best.len();
     let number = q as u32;
-    let mut i = 0;
-    while i < n {
+    for i in 0..best.len() {
         let d = colour::distance_from(reds[i], greens[i], blues[i], p);
-        best[i] = lesser(best[i], 64 * d + number);
-        i += 1;
+        best[i] = best[i].min(64 * d + number);
     }
 }
 
@@ -75,12 +79,9 @@ pub fn search_points(
         (point_at reds.now greens.now blues.now i))
         best.old }
 {
-    let n = best.len();
-    shades::set_all(best, n, 4294967295);
-    let mut q = 0;
-    while q < count {
+    best.fill(u32::MAX);
+    for q in 0..count {
         look(reds, greens, blues, shades::shade_at(shades, q), q, best);
-        q += 1;
     }
 }
 
@@ -103,7 +104,7 @@ fn search_block(
         (λ i. packed_nearest shades.now count (colour_at keys.now i))
         best.old }
 {
-    lay_out(keys, reds, greens, blues);
+    lay_out::<16>(keys, reds, greens, blues);
     search_points(reds, greens, blues, shades, count, best);
 }
 
@@ -120,27 +121,16 @@ pub fn search_all(keys: &[u32], used: usize, shades: &[u32], count: usize, membe
     let mut reds = [0u16; 256];
     let mut greens = [0u16; 256];
     let mut blues = [0u16; 256];
-    let mut i = 0;
-    while 256 <= used - i {
-        let e = i + 256;
+    for start in (0..used).step_by(256) {
+        let end = used.min(start + 256);
         search_block(
-            &keys[i..e],
+            &keys[start..end],
             shades,
             count,
             &mut reds,
             &mut greens,
             &mut blues,
-            &mut members[i..e],
+            &mut members[start..end],
         );
-        i = e;
     }
-    search_block(
-        &keys[i..used],
-        shades,
-        count,
-        &mut reds,
-        &mut greens,
-        &mut blues,
-        &mut members[i..used],
-    );
 }

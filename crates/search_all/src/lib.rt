@@ -1,7 +1,8 @@
 // The plain search for the nearest shade: every point looks at every shade.
 //
 // Calls; none refuses, and what one requires stands above it
-//   search_points   the nearest shade of each point laid out   all.rt
+//   lay_out         the colours of keys in three lists         all.rt
+//   search_points   the nearest shade of each point laid out
 //   search_all      the same for the colours of a table
 //
 // Read next: specs/Lib.antt (what the words mean), proofs/Lib.antt (what is shown).
@@ -10,4 +11,4 @@
 
 mod all;
 
-pub use all::{search_all, search_points};
+pub use all::{lay_out, search_all, search_points};

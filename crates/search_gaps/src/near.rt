@@ -10,7 +10,6 @@ ghost use Rattle.search_gaps.specs.Nearing.{Gaps, GapsReady};
 
 use colour::Point;
 use search_rows::Met;
-use shades::lesser;
 
 // The gaps from `p` to the shades, into the first `count` places of `row`, which is required to
 // have them; the others stay.
@@ -20,10 +19,8 @@ fn gap_row(shades: &[u32], count: usize, p: Point, row: &mut [u32])
     ensures { row.new
         ≡ fill count (to_shade shades.now p) row.old }
 {
-    let mut q = 0;
-    while q < count {
+    for q in 0..count {
         row[q] = shades::distance_to(shades, q, p);
-        q += 1;
     }
 }
 
@@ -33,12 +30,15 @@ pub fn fill_gaps(shades: &[u32], count: usize, gaps: &mut [u32])
     requires { Shades count shades.now × (most_shades * count ≤ length gaps.old) }
     ensures { Gaps shades.now count gaps.new }
 {
-    let mut p = 0;
-    while p < count {
+    // Of a walk by `chunks_exact_mut(64)` no proof knows what it wrote, so rows are cut by place.
+    for p in 0..count {
         let a = 64 * p;
-        let e = a + 64;
-        gap_row(shades, count, shades::shade_at(shades, p), &mut gaps[a..e]);
-        p += 1;
+        gap_row(
+            shades,
+            count,
+            shades::shade_at(shades, p),
+            &mut gaps[a..a + 64],
+        );
     }
 }
 
@@ -47,10 +47,7 @@ fn tries(gaps: &[u32], p: usize, q: usize, limit: u32) -> bool
     requires { most_shades * p + q < length gaps.now }
     ensures { result ≡ (not (eqb q p) && leb (row_of gaps.now p q) limit) }
 {
-    if q == p {
-        return false;
-    }
-    gaps[64 * p + q] <= limit
+    q != p && gaps[64 * p + q] <= limit
 }
 
 // The nearest shade of `point`, from its former shade `p`, and the distances worked out: that to p,
@@ -67,13 +64,11 @@ pub fn walk_gaps(shades: &[u32], count: usize, gaps: &[u32], point: Point, p: us
     let limit = 4 * d;
     let mut best = 64 * d + p as u32;
     let mut others: u64 = 0;
-    let mut q = 0;
-    while q < count {
+    for q in 0..count {
         if tries(gaps, p, q, limit) {
-            best = lesser(best, shades::packed(shades, q, point));
+            best = shades::nearer(shades, best, q, point);
             others += 1;
         }
-        q += 1;
     }
     Met {
         number: best % 64,

@@ -124,7 +124,8 @@ module _ {s g : List ℕ} {k : ℕ} {c : Point} {p : ℕ} (y : RowsReady s g k c
         let e = row-found gap_to k (row_of g p) row q h in
         let i = e.0 in
         let z : row_of g p i % most_shades ≡ q = omega (arith, e.2, y.shades.few) in
-        let v : row_of g p i / most_shades ≡ distance (shade_at s p) (shade_at s q) = omega (arith, e.2, y.shades.few) in
+        let v : row_of g p i / most_shades ≡ distance (shade_at s p) (shade_at s q) = omega (arith, e.2, y.shades.few)
+        in
         elim (dec_lt i j) [
           | yes l ↦ rw z at (w.low i l)
           | no l ↦

@@ -1,4 +1,4 @@
 -- Glossary.
---   RowsReady   what the walk along a row asks
+--   RowsReady  what the walk along a row asks
 pub mod Walking
 pub use Walking.{RowsReady}

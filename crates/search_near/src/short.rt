@@ -5,7 +5,6 @@ ghost use Rattle.search_near.specs.Walking.{RowsReady};
 
 use colour::Point;
 use search_rows::Met;
-use shades::lesser;
 
 // The nearest shade of `point`, from its former shade `p`, and the distances worked out. Place 0 of
 // the row has gap 0, so its shade stands where p stands, and the walk begins at place 1. Where the
@@ -29,8 +28,7 @@ pub fn walk(shades: &[u32], count: usize, rows: &[u32], point: Point, p: usize) 
         };
     }
     let mut best = 64 * d + rows[base] % 64;
-    let mut j = 1;
-    while j < count {
+    for j in 1..count {
         let v = rows[base + j];
         if limit < v / 64 {
             return Met {
@@ -39,12 +37,11 @@ pub fn walk(shades: &[u32], count: usize, rows: &[u32], point: Point, p: usize) 
                 distances: j as u64,
             };
         }
-        best = lesser(best, shades::packed(shades, (v % 64) as usize, point));
-        j += 1;
+        best = shades::nearer(shades, best, (v % 64) as usize, point);
     }
     Met {
         number: best % 64,
         distance: best / 64,
-        distances: j as u64,
+        distances: count as u64,
     }
 }

@@ -50,7 +50,8 @@ coordinates-at-most n h = let whole = (bad-coordinates-exactly n).0 h in omega (
 pub bad-centre-exactly : (s : List ℕ) → (bad_centre s ≡ false) ↔ OnGrid s
 bad-centre-exactly s = (
   λ h i.
-      let none : how_many (length s) (off_grid s) ≡ 0 = omega (arith, ltb-false 0 (how_many (length s) (off_grid s)) h) in
+      let none : how_many (length s) (off_grid s) ≡ 0 = omega (arith, ltb-false 0 (how_many (length s) (off_grid s)) h)
+      in
       elim (dec_lt i (length s)) [
         | yes l ↦ ltb-false most_coordinate (get_or s i 0) (how_many-none (length s) (off_grid s) none i l)
         | no l ↦ omega (arith, get_or-eq_default s 0 {n = i} (omega arith))

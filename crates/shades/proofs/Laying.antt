@@ -23,7 +23,8 @@ pub shade-within : (s : List ℕ) (q : ℕ) → OnGrid s → Within most_coordin
 shade-within s q low = record { r_low = low (3 * q); g_low = low (3 * q + 1); b_low = low (3 * q + 2) }
 
 -- and no farther than the greatest distance from any point of the grid
-pub to-shade-most : (s : List ℕ) (c : Point) (q : ℕ) → OnGrid s → Within most_coordinate c → to_shade s c q ≤ most_distance
+pub to-shade-most : (s : List ℕ) (c : Point) (q : ℕ) → OnGrid s → Within most_coordinate c
+    → to_shade s c q ≤ most_distance
 to-shade-most s c q low w = distance_most c (shade_at s q) w (shade-within s q low)
 
 -- the levels of a colour are at most what 255 is

@@ -6,3 +6,9 @@ pub mod Laying
 pub mod Nearest
 -- What the tests of lent coordinates say.
 pub mod Checks
+-- A loop that counts by adding a test as a number.
+pub mod Countings
+-- A value repeated is a list filled with it.
+pub mod Repeats
+-- The library's lesser and greater are those of crate `number`.
+pub mod Picks

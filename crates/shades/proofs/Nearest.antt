@@ -24,7 +24,8 @@ pub nearest-below : (s : List ℕ) (k : ℕ) (c : Point) → 0 < k → nearest_s
 nearest-below s k c h = first_below ltb k (to_shade s c) h
 
 -- no shade is nearer
-pub nearest-least : (s : List ℕ) (k : ℕ) (c : Point) (q : ℕ) → q < k → to_shade s c (nearest_shade s k c) ≤ to_shade s c q
+pub nearest-least : (s : List ℕ) (k : ℕ) (c : Point) (q : ℕ) → q < k
+    → to_shade s c (nearest_shade s k c) ≤ to_shade s c q
 nearest-least s k c q h = least-at-most k q (to_shade s c) h
 
 -- every lower number is farther

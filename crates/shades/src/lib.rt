@@ -2,12 +2,12 @@
 // number in one, and the tests of lent coordinates.
 //
 // Calls; none refuses, and what one requires stands above it
-//   lesser, greater   of two numbers                                   pick.rt
 //   set_all           the front of a list to one value                 set.rt
 //   shade_at          reads a shade                                    place.rt
 //   put_shade         stores a shade
 //   distance_to       from a point to a shade                          reach.rt
 //   packed            64 times that distance plus the shade's number
+//   nearer            the lesser of such a number and that of a shade
 //   cost              weight times distance
 //   bad_triples       numbers that are not triples, or too many        test.rt
 //   bad_coordinates   the test of 4 BAD COUNT for lent coordinates
@@ -17,15 +17,13 @@
 
 #![tactic(auto)]
 
-mod pick;
 mod place;
 mod reach;
 mod set;
 mod test;
 
-pub use pick::{greater, lesser};
 pub use place::{put_shade, shade_at};
-pub use reach::{cost, distance_to, packed};
+pub use reach::{cost, distance_to, nearer, packed};
 pub use set::set_all;
 pub use test::{bad_centre, bad_coordinates, bad_triples};
 

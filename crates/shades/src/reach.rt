@@ -1,5 +1,7 @@
-// How far a shade is from a point, alone, with the shade's number, and times a weight.
+// How far a shade is from a point, alone, with the shade's number, and times a weight; and the
+// nearer of two.
 ghost use Rattle.std.specs.Prelude.{◌≡◌, ◌+◌, ◌*◌, ◌<◌, ◌≤◌, length};
+ghost use Rattle.number.specs.{lesser_of};
 ghost use Rattle.colour.specs.{Within, most_coordinate, most_distance, most_pixels};
 ghost use Rattle.shades.specs.Places.{OnGrid, most_shades};
 ghost use Rattle.shades.specs.Distances.{to_shade, pack};
@@ -28,10 +30,20 @@ pub fn packed(shades: &[u32], q: usize, point: Point) -> u32
     64 * distance_to(shades, q, point) + q as u32
 }
 
+// The lesser of `best` and the packed number of shade `q` from `point`: of two shades the nearer,
+// or at a tie the one with the lower number. Requires the same.
+pub fn nearer(shades: &[u32], best: u32, q: usize, point: Point) -> u32
+    requires { (3 * q + 2 < length shades.now) × OnGrid shades.now
+        × Within most_coordinate point × (q < most_shades) }
+    ensures { result ≡ lesser_of best (pack shades.now point q) }
+{
+    best.min(packed(shades, q, point))
+}
+
 // What a colour of this weight costs at this distance. Requires a table's weight and a distance.
 pub fn cost(weight: u32, distance: u32) -> u64
     requires { (weight ≤ most_pixels) × (distance ≤ most_distance) }
     ensures { result ≡ weight * distance }
 {
-    (weight as u64) * (distance as u64)
+    u64::from(weight) * u64::from(distance)
 }

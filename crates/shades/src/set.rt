@@ -7,9 +7,5 @@ pub fn set_all(d: &mut [u32], count: usize, value: u32)
     requires { count ≤ length d.old }
     ensures { d.new ≡ fill count (λ i. value) d.old }
 {
-    let mut i = 0;
-    while i < count {
-        d[i] = value;
-        i += 1;
-    }
+    d[..count].fill(value);
 }

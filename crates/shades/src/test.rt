@@ -9,13 +9,7 @@ use super::MOST_COORDINATES;
 pub fn bad_triples(numbers: usize, most: usize) -> bool
     ensures { result ≡ bad_triples most numbers }
 {
-    if numbers < 3 {
-        return true;
-    }
-    if most < numbers {
-        return true;
-    }
-    numbers % 3 != 0
+    !(3..=most).contains(&numbers) || numbers % 3 != 0
 }
 
 // Whether this many coordinates are no shades: the test of 4 BAD COUNT.
@@ -30,12 +24,9 @@ pub fn bad_centre(shades: &[u32]) -> bool
     requires { length shades.now ≤ most_coordinates }
     ensures { result ≡ bad_centre shades.now }
 {
-    let n = shades.len();
-    let mut count: u32 = 0;
-    let mut i = 0;
-    while i < n {
-        count += bits::bit(colour::MOST_COORDINATE < shades[i]);
-        i += 1;
+    let mut count = 0;
+    for coordinate in shades {
+        count += u32::from(colour::MOST_COORDINATE < *coordinate);
     }
     0 < count
 }

@@ -3,33 +3,19 @@
 // three weights.
 #![tactic(auto)]
 
+use printing::{field, row};
 use std::io;
 use table::{Added, Record};
-
-fn field(rt: &impl Print, n: u64) -> io::Result<()> {
-    print!(rt; "{n} ")
-}
-
-fn place(rt: &impl Print, n: u32) -> io::Result<()> {
-    field(rt, n as u64)
-}
 
 // One line.
 fn show(rt: &impl Print, a: Added, keys: &[u32; 3], weights: &[u32; 3]) -> io::Result<()> {
     let rec = a.rec;
-    field(rt, a.refusal as u64)?;
-    field(rt, a.taken as u64)?;
-    field(rt, rec.used as u64)?;
-    field(rt, rec.pixels)?;
-    field(rt, rec.red)?;
-    field(rt, rec.green)?;
-    field(rt, rec.blue)?;
-    place(rt, keys[0])?;
-    place(rt, keys[1])?;
-    place(rt, keys[2])?;
-    place(rt, weights[0])?;
-    place(rt, weights[1])?;
-    place(rt, weights[2])?;
+    field(rt, refusal::number_in(a.refusal))?;
+    field(rt, a.taken)?;
+    field(rt, rec.used)?;
+    row(rt, &[rec.pixels, rec.red, rec.green, rec.blue])?;
+    row(rt, keys)?;
+    row(rt, weights)?;
     println!(rt)
 }
 

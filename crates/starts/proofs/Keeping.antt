@@ -22,7 +22,8 @@ module _ (ks : List ℕ) (n : ℕ) (B : Base) where
 
   -- one start more lowers the kept distance to that to it
   pub kept_more : (k i : ℕ)
-      → kept ks n B (suc k) i ≡ lesser_of (kept ks n B k i) (distance (colour_at ks i) (shade_from B n (colour_at ks) k))
+      → kept ks n B (suc k) i ≡ lesser_of (kept ks n B k i) (distance (colour_at ks i)
+      (shade_from B n (colour_at ks) k))
   unfolding lowest
   kept_more k i = refl
 

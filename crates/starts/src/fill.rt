@@ -53,13 +53,11 @@ pub fn fill_starts(
         shades.old }
     ensures members { members.new ≡ fill used (λ i. 0) members.old }
 {
-    shades::set_all(members, used, 4294967295);
+    shades::set_all(members, used, u32::MAX);
     let mut p = shades::shade_at(base, 0);
-    let mut q = 0;
-    while q < count {
+    for q in 0..count {
         p = turn(keys, used, base, q, p, members);
         shades::put_shade(shades, q, p);
-        q += 1;
     }
     shades::set_all(members, used, 0);
 }

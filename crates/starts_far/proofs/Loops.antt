@@ -1,15 +1,16 @@
 -- The loops over the kept distances: what holds at each turn.
-use Prim.Native.Nat.{ℕ, ◌+◌, ◌≤◌, ◌<◌}
+use Prim.Native.Nat.{ℕ, ◌+◌, ◌-◌, ◌≤◌, ◌<◌}
 use mathlib.Core.List.{List}
-use mathlib.Core.Logic.{⊎_elim}
 use mathlib.Core.Path.{◌≡◌, refl, sym, ap, ◌∙◌}
+use native.Mathlib.Decide.{dec_lt}
 use native.Mathlib.Nat.{le_refl}
 use native.Mathlib.Omega.{arith}
 use lib.ListN.{length, get_or, set}
+use borrow.Rule.Slice.PartMut.{mid_of, mid_len}
 use Rattle.number.specs.{fill, peak, lesser_of, greater_of}
 use Rattle.number.proofs.Fills.{fill-length, fill-kept, fill_more}
-use Rattle.number.proofs.Peaks.{peak-more, greater-at-least}
-use Rattle.number.proofs.Searches.{below-or-last}
+use Rattle.number.proofs.Parts.{part_at}
+use Rattle.number.proofs.Peaks.{peak-more}
 use Rattle.colour.specs.{Point, distance}
 use Rattle.shades.specs.{colour_at}
 use Rattle.starts_far.specs.Lowering.{lower_kept}
@@ -49,30 +50,21 @@ module _ {ks : List ℕ} {n : ℕ} {p : Point} {d₀ d : List ℕ} {far i : ℕ}
   pub lowering-done : n ≤ i → (d ≡ fill n (lower_kept ks p d₀) d₀) × (far ≡ peak n (lower_kept ks p d₀))
   lowering-done l = let e : i ≡ n = omega (arith, t.within) in (rw e at t.distances, rw e at t.greatest)
 
--- ---- the loop that bounds a block
+-- ---- the loop that passes blocks
 
--- no distance from place a up to place i is above far
-pub record Bounding (d : List ℕ) (a e far i : ℕ) : Type 0 where
-  pub after : a ≤ i
-  pub within : i ≤ e
-  pub bound : (j : ℕ) → a ≤ j → j < i → get_or d j 0 ≤ far
+-- before place a every distance is less than far
+abbrev pub Less : List ℕ → ℕ → ℕ → Type 0
+Less d far a = (j : ℕ) → j < a → get_or d j 0 < far
 
--- there is no place
-pub bounding-start : (d : List ℕ) (a e : ℕ) → a ≤ e → Bounding d a e 0 a
-bounding-start d a e h = record { after = omega arith; within = h; bound = λ j g l. absurd (omega arith) }
-
-module _ {d : List ℕ} {a e far i : ℕ} (t : Bounding d a e far i) where
-  -- the distance at place i is taken in
-  pub bounding-step : i < e → (z : ℕ) → z ≡ greater_of far (get_or d i 0) → Bounding d a e z (i + 1)
-  bounding-step l z ez =
-      let g = greater-at-least far (get_or d i 0) in
-      record {
-        after = omega (arith, t.after);
-        within = omega arith;
-        bound = λ j h k. ⊎_elim (λ o. omega (arith, t.bound j h o, g, ez)) (λ q. rw q (omega (arith, g, ez)))
-            (below-or-last i j k);
-      }
-
-  -- all are taken in
-  pub bounding-done : e ≤ i → (j : ℕ) → a ≤ j → j < e → get_or d j 0 ≤ far
-  bounding-done l j h k = t.bound j h (omega arith)
+-- and so up to place e, where no distance of the block from a up to e is above a number that is less
+pub block-less : (d : List ℕ) (far a e peak : ℕ) → Less d far a → a ≤ e → e ≤ length d
+    → ((j : ℕ) → j < length (mid_of a (e - a) d) → get_or (mid_of a (e - a) d) j 0 ≤ peak) → peak < far → Less d far e
+block-less d far a e peak before h room low less j l = elim (dec_lt j a) [
+  | yes o ↦ before j o
+  | no o ↦
+      let i : ℕ = j - a in
+      let z : a + i ≡ j = omega arith in
+      let at : get_or (mid_of a (e - a) d) i 0 ≡ get_or d j 0 =
+      part_at a (e - a) i d (omega arith) ∙ ap (λ t. get_or d t 0) z in
+      omega (arith, low i (omega (arith, mid_len a e d room)), at)
+]

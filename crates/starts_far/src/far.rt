@@ -5,7 +5,6 @@ ghost use Rattle.colour.specs.{Within, most_coordinate};
 ghost use Rattle.starts_far.specs.Lowering.{lower_kept, Keyed};
 
 use colour::Point;
-use shades::{greater, lesser};
 
 // Lowers the kept distances to those to `p`; the greatest that is left. Requires entries, a point
 // on the grid, and a kept distance for each entry.
@@ -16,45 +15,38 @@ pub fn lower_kept(keys: &[u32], used: usize, p: Point, d: &mut [u32]) -> u32
     ensures greatest { result ≡ peak used (lower_kept keys.now p d.old) }
 {
     let mut far: u32 = 0;
-    let mut i = 0;
-    while i < used {
+    for i in 0..used {
         let x = colour::distance(colour::colour_of(keys[i]), p);
-        let y = lesser(d[i], x);
+        let y = d[i].min(x);
         d[i] = y;
-        far = greater(far, y);
-        i += 1;
+        far = far.max(y);
     }
     far
 }
 
-// What no kept distance from place `from` up to place `end` is above. Requires that they are there.
-fn block_peak(d: &[u32], from: usize, end: usize) -> u32
-    requires { (from ≤ end) × (end ≤ length d.now) }
-    ensures { (j : ℕ) → from ≤ j → j < end → get_or d.now j 0 ≤ result }
+// What none of the kept distances is above.
+fn block_peak(d: &[u32]) -> u32
+    ensures { (j : ℕ) → j < length d.now → get_or d.now j 0 ≤ result }
 {
     let mut far: u32 = 0;
-    let mut i = from;
-    while i < end {
-        far = greater(far, d[i]);
-        i += 1;
+    for kept in d {
+        far = far.max(*kept);
     }
     far
 }
 
-// A place before which no kept distance is as great as `far`, found by whole blocks.
+// A place before which no kept distance is as great as `far`, found block by block.
 fn skip_blocks(d: &[u32], used: usize, far: u32) -> usize
     requires { used ≤ length d.now }
     ensures { (result ≤ used) × ((j : ℕ) → j < result → get_or d.now j 0 < far) }
 {
-    let mut i = 0;
-    while 512 <= used - i {
-        let end = i + 512;
-        if far <= block_peak(d, i, end) {
-            return i;
+    for start in (0..used).step_by(512) {
+        let end = used.min(start + 512);
+        if far <= block_peak(&d[start..end]) {
+            return start;
         }
-        i = end;
     }
-    i
+    used
 }
 
 // The first place of the greatest kept distance, which is required to be `far`.
@@ -63,12 +55,10 @@ pub fn first_of(d: &[u32], used: usize, far: u32) -> usize
         × (far ≡ peak used (λ i. get_or d.now i 0)) }
     ensures { result ≡ most used (λ i. get_or d.now i 0) }
 {
-    let mut i = skip_blocks(d, used, far);
-    while i < used {
+    for i in skip_blocks(d, used, far)..used {
         if d[i] == far {
             return i;
         }
-        i += 1;
     }
     0
 }

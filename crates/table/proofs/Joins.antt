@@ -6,7 +6,7 @@ use Prim.Native.Nat.{ℕ, ◌+◌, ◌/◌, ◌≤◌}
 use native.Mathlib.Omega.{arith}
 use lib.ListN.{length, drop, length-append}
 use borrow.Author.Tests.{le-ltb}
-use Rattle.refusal.specs.{done}
+use Rattle.std.specs.Prelude.{None}
 use Rattle.table_entries.specs.{Entry, entries, keys_into, weights_into, strip_keys, put_all, taken_of}
 use Rattle.table_entries.proofs.Gives.{put_all-length, put_all-append}
 use Rattle.table_entries.proofs.Slices.{
@@ -32,7 +32,7 @@ use Rattle.table.proofs.Meaning.{Accepted, accepted-of-done, all-taken, taken-wi
 -- the outcome with all of the pixels ps in the table es
 abbrev all_in : List Entry → List ℕ → List ℕ → List ℕ → Outcome
 all_in es ps ks ws = record {
-  answer = record { refusal = done; taken = length ps; rec = record_of (put_all es ps) };
+  answer = record { refusal = None; taken = length ps; rec = record_of (put_all es ps) };
   keys = keys_into (put_all es ps) ks;
   weights = weights_into (put_all es ps) ws;
 }
@@ -50,7 +50,7 @@ outcome-all rec ks ws s a =
 
 -- no pixel is done, with nothing taken, where the table is good: also with no room and at a full pixel total
 pub empty-strip : (rec : Record) (ks ws : List ℕ) → bad_table rec ks ws ≡ false
-    → add_strip rec ks ws [] ≡ as_it_came done rec ks ws
+    → add_strip rec ks ws [] ≡ as_it_came None rec ks ws
 empty-strip rec ks ws b =
     let g : Good rec ks ws = good-of-test rec ks ws b in
     let a1 : rec.used ≤ length ks = omega (arith, g.in_room) in
@@ -58,7 +58,7 @@ empty-strip rec ks ws b =
     let k = keys-laid rec.used ks ws a1 a2 ks refl in
     let w = weights-laid rec.used ks ws a1 a2 ws refl in
     outcome-done rec ks ws [] refl b refl
-    ∙ λ i. record { answer = record { refusal = done; taken = 0; rec = g.is i }; keys = k i; weights = w i }
+    ∙ λ i. record { answer = record { refusal = None; taken = 0; rec = g.is i }; keys = k i; weights = w i }
 
 -- ---- two strips
 
@@ -121,7 +121,7 @@ module _ (rec : Record) (ks ws s t : List ℕ) (bytes : Bytes s) (a : Accepted r
     -- the outcome of the strips joined is that of the second after the first, with the pixels of both taken
     joined : add_strip rec ks ws (s ++ t) ≡ record {
       answer = record {
-        refusal = done;
+        refusal = None;
         taken = length (strip_keys s) + length (strip_keys t);
         rec = (add_strip (record_of P) (keys_into P ks) (weights_into P ws) t).answer.rec;
       };
@@ -142,12 +142,12 @@ module _ (rec : Record) (ks ws s t : List ℕ) (bytes : Bytes s) (a : Accepted r
         )
 
 -- where both strips are accepted, one after the other, the strips joined are, and leave the same record and slices
-pub joined-strips : (rec : Record) (ks ws s t : List ℕ) → Bytes s → (add_strip rec ks ws s).answer.refusal ≡ done
+pub joined-strips : (rec : Record) (ks ws s t : List ℕ) → Bytes s → (add_strip rec ks ws s).answer.refusal ≡ None
     → (let o = add_strip rec ks ws s in
-    (add_strip o.answer.rec o.keys o.weights t).answer.refusal ≡ done
+    (add_strip o.answer.rec o.keys o.weights t).answer.refusal ≡ None
     → add_strip rec ks ws (s ++ t) ≡ record {
       answer = record {
-        refusal = done;
+        refusal = None;
         taken = o.answer.taken + (add_strip o.answer.rec o.keys o.weights t).answer.taken;
         rec = (add_strip o.answer.rec o.keys o.weights t).answer.rec;
       };

@@ -9,8 +9,9 @@ use native.Mathlib.Omega.{arith}
 use lib.ListN.{length, get_or, drop}
 use borrow.Author.Tests.{lt-ltb, ltb-true, ltb-false}
 use Rattle.number.proofs.Cases.{bool}
-use Rattle.refusal.specs.{Refusal, number_of, done, Refuses}
-use Rattle.refusal.proofs.Outcomes.{refuses}
+use Rattle.std.specs.Prelude.{Some, None}
+use Rattle.refusal.specs.{Refusal, RefusesBy}
+use Rattle.refusal.proofs.By.{refuses_by}
 use Rattle.colour.specs.{bad_strip, Bytes, most_pixels}
 use Rattle.colour.proofs.Strips.{whole-exactly}
 use Rattle.table_entries.specs.{
@@ -51,18 +52,18 @@ use Rattle.table.proofs.Adds.{outcome-bad-strip, outcome-bad-table, outcome-full
 
 module _ (rec : Record) (ks ws s : List ℕ) where
   -- adding refuses by its rows: the pixels are taken; 1 and 2 leave all as it came, FULL the pixels taken
-  pub add-refuses : Refuses (add_rows rec ks ws s) (add_strip rec ks ws s) (λ o. o.answer.refusal)
-      (taken_into rec ks ws s done) (left_by_add rec ks ws s)
+  pub add-refuses : RefusesBy (add_rows rec ks ws s) (add_strip rec ks ws s) (λ o. o.answer.refusal)
+      (taken_into rec ks ws s None) (left_by_add rec ks ws s)
   unfolding add_strip
   add-refuses =
-      refuses _ _ _ _ refl (λ n. elim (bool (hands_back n)) [
+      refuses_by _ _ _ _ refl (λ n. elim (bool (hands_back n)) [
         | inl t ↦ rw t
         | inr t ↦ rw t
       ])
 
   -- a refusal before the first pixel leaves all as it came
-  pub refused-as-it-came : (n : Refusal) → hands_back (number_of n) ≡ true
-      → (add_strip rec ks ws s).answer.refusal ≡ number_of n → add_strip rec ks ws s ≡ as_it_came (number_of n) rec ks ws
+  pub refused-as-it-came : (n : Refusal) → hands_back n ≡ true
+      → (add_strip rec ks ws s).answer.refusal ≡ Some n → add_strip rec ks ws s ≡ as_it_came (Some n) rec ks ws
   refused-as-it-came n b h = add-refuses.refused_is n h ∙ rw b
 
 -- ---- what an outcome is, where the strip is whole and the table good
@@ -73,8 +74,8 @@ pub record Accepted (rec : Record) (ks ws s : List ℕ) : Type 0 where
   pub good : bad_table rec ks ws ≡ false
   pub room_left : full rec ks ws s ≡ false
 
--- an answer of 0 says that no test holds
-pub accepted-of-done : (rec : Record) (ks ws s : List ℕ) → (add_strip rec ks ws s).answer.refusal ≡ done
+-- an answer with no refusal says that no test holds
+pub accepted-of-done : (rec : Record) (ks ws s : List ℕ) → (add_strip rec ks ws s).answer.refusal ≡ None
     → Accepted rec ks ws s
 accepted-of-done rec ks ws s h =
     let none = (add-refuses rec ks ws s).accepted_exactly.0 h in
@@ -126,14 +127,14 @@ module _ (rec : Record) (ks ws s : List ℕ) where
   after-accepted a = after-taken a.whole a.good ∙ taken-all (room_of ks ws) es ps (omega (arith, all-taken a))
 
   -- each colour's weight is its former weight and the number of its pixels in the strip
-  pub accepted-weights : (add_strip rec ks ws s).answer.refusal ≡ done → (c : ℕ)
+  pub accepted-weights : (add_strip rec ks ws s).answer.refusal ≡ None → (c : ℕ)
       → weight_of c (table_after (add_strip rec ks ws s)) ≡ weight_of c (entries rec.used ks ws) + count_of c
       (strip_keys s)
   accepted-weights h c =
       ap (weight_of c) (after-accepted (accepted-of-done rec ks ws s h)) ∙ put_all-weight c es ps
 
   -- the pixels go up by those of the strip
-  pub accepted-pixels : (add_strip rec ks ws s).answer.refusal ≡ done
+  pub accepted-pixels : (add_strip rec ks ws s).answer.refusal ≡ None
       → (add_strip rec ks ws s).answer.rec.pixels ≡ rec.pixels + length s / 3
   accepted-pixels h =
       let a = accepted-of-done rec ks ws s h in
@@ -205,7 +206,8 @@ module _ (rec : Record) (ks ws s : List ℕ) where
   -- the test of FULL holds exactly where there is a next pixel, and it does not go in
   pub full-exactly : (full rec ks ws s ≡ true)
       ↔ ((taken_of (room_of ks ws) es ps < length ps)
-      × (stops (room_of ks ws) (with_taken (room_of ks ws) es ps) (get_or ps (taken_of (room_of ks ws) es ps) 0) ≡ true))
+      × (stops (room_of ks ws) (with_taken (room_of ks ws) es ps) (get_or ps (taken_of (room_of ks ws) es ps) 0) ≡
+      true))
   full-exactly = (
     (λ h. let l : taken_of (room_of ks ws) es ps < length ps = ltb-true _ _ h in
         (l, (taken-prefix (room_of ks ws) es ps).ends l)),

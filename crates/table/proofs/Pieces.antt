@@ -6,7 +6,7 @@ use Prim.Native.Nat.{ℕ, ◌+◌}
 use native.Mathlib.Omega.{arith}
 use lib.ListN.{length, drop, length-append}
 use borrow.Author.Tests.{le-ltb}
-use Rattle.refusal.specs.{done}
+use Rattle.std.specs.Prelude.{None}
 use Rattle.colour.specs.{bad_strip, Bytes, joined_strips, EachWhole}
 use Rattle.colour.proofs.Strips.{whole-behind, bytes-front, bytes-behind}
 use Rattle.table_entries.specs.{Entry, entries, keys_into, weights_into, strip_keys, put_all, taken_of}
@@ -19,9 +19,9 @@ use Rattle.table.specs.Pieces.{AddedAll, added_by, add_strips, EachAdded}
 use Rattle.table.proofs.Meaning.{Accepted, accepted-of-done, all-taken, stays-good}
 use Rattle.table.proofs.Joins.{outcome-all, joined-keys, same-room, empty-strip, joined-strips}
 
--- where no test holds, 0 is answered
+-- where no test holds, nothing is refused
 done-of-accepted : (rec : Record) (ks ws s : List ℕ) → Accepted rec ks ws s
-    → (add_strip rec ks ws s).answer.refusal ≡ done
+    → (add_strip rec ks ws s).answer.refusal ≡ None
 done-of-accepted rec ks ws s a = ap (λ (o : Outcome). o.answer.refusal) (outcome-all rec ks ws s a)
 
 -- ---- of two strips joined, each is accepted
@@ -47,7 +47,8 @@ module _ (rec : Record) (ks ws s t : List ℕ) (bytes : Bytes s) (whole : bad_st
   first-accepted = record {
     whole = whole;
     good = ok.good;
-    room_left = le-ltb (taken_of (room_of ks ws) es (strip_keys s)) (length (strip_keys s)) (omega (arith, first_taken));
+    room_left = le-ltb (taken_of (room_of ks ws) es (strip_keys s)) (length (strip_keys s))
+        (omega (arith, first_taken));
   }
 
   -- and those of the second, after it
@@ -76,16 +77,16 @@ module _ (rec : Record) (ks ws s t : List ℕ) (bytes : Bytes s) (whole : bad_st
     ) (le-ltb (taken_of (room_of ks ws) P (strip_keys t)) (length (strip_keys t)) (omega (arith, second-taken)));
   }
 
-  -- the second call answers 0
+  -- the second call refuses nothing
   second-done : (let o = add_strip rec ks ws s in
-      (add_strip o.answer.rec o.keys o.weights t).answer.refusal ≡ done)
+      (add_strip o.answer.rec o.keys o.weights t).answer.refusal ≡ None)
   second-done = rw (outcome-all rec ks ws s first-accepted) (done-of-accepted _ _ _ t second-accepted)
 
 -- ---- any number of strips
 
 -- where the strips joined are accepted, each is
 pub each-accepted : (ss : List (List ℕ)) (rec : Record) (ks ws : List ℕ) → EachWhole ss → Bytes (joined_strips ss)
-    → (add_strip rec ks ws (joined_strips ss)).answer.refusal ≡ done → EachAdded rec ks ws ss
+    → (add_strip rec ks ws (joined_strips ss)).answer.refusal ≡ None → EachAdded rec ks ws ss
 each-accepted [] rec ks ws w bytes h = tt
 each-accepted (s ∷ ss) rec ks ws (w, each) bytes h =
     let front = bytes-front s (joined_strips ss) bytes in
@@ -98,7 +99,7 @@ each-accepted (s ∷ ss) rec ks ws (w, each) bytes h =
 -- where each is accepted, the strips joined are, and leave the same
 pub in-strips : (ss : List (List ℕ)) (rec : Record) (ks ws : List ℕ) → GoodTable rec ks ws → Bytes (joined_strips ss)
     → EachAdded rec ks ws ss
-    → ((add_strip rec ks ws (joined_strips ss)).answer.refusal ≡ done)
+    → ((add_strip rec ks ws (joined_strips ss)).answer.refusal ≡ None)
     × (add_strips rec ks ws ss ≡ added_by (add_strip rec ks ws (joined_strips ss)))
 in-strips [] rec ks ws g bytes each =
     let e = empty-strip rec ks ws ((bad-table-exactly rec ks ws).1 g) in

@@ -8,7 +8,8 @@ use mathlib.Core.List.{List, [], ◌++◌}
 use Prim.Native.Nat.{ℕ, min, ◌+◌, ◌*◌, ◌/◌, ◌%◌, ◌<◌}
 use lib.ListN.{length, get_or, take, drop}
 use Rattle.number.specs.{sum}
-use Rattle.refusal.specs.{Refusal, number_of, done, Given, NoneHolds}
+use Rattle.std.specs.Prelude.{Some, None}
+use Rattle.refusal.specs.{Refusal, Given, NoneHolds}
 use Rattle.table_entries.specs.{
   entries,
   levels_of,
@@ -56,12 +57,12 @@ room-only = tests.room-only
 
 -- A refusal is given exactly when its row is the first of 1, 2, 3 whose test holds.
 pub refused_exactly : (rec : Record) (ks ws s : List ℕ) (n : Refusal)
-    → ((add_strip rec ks ws s).answer.refusal ≡ number_of n) ↔ Given (add_rows rec ks ws s) n
+    → ((add_strip rec ks ws s).answer.refusal ≡ Some n) ↔ Given (add_rows rec ks ws s) n
 refused_exactly rec ks ws s = (meaning.add-refuses rec ks ws s).refused_exactly
 
 -- A strip is accepted exactly when none of the three tests holds.
 pub accepted_exactly : (rec : Record) (ks ws s : List ℕ)
-    → ((add_strip rec ks ws s).answer.refusal ≡ done) ↔ NoneHolds (add_rows rec ks ws s)
+    → ((add_strip rec ks ws s).answer.refusal ≡ None) ↔ NoneHolds (add_rows rec ks ws s)
 accepted_exactly rec ks ws s = (meaning.add-refuses rec ks ws s).accepted_exactly
 
 -- The test of BAD STRIP holds exactly when the bytes are not a multiple of 3.
@@ -88,24 +89,25 @@ pub full-exactly : (rec : Record) (ks ws s : List ℕ)
 full-exactly = meaning.full-exactly
 
 -- BAD STRIP and BAD TABLE hand the record back as it came in and write nothing.
-pub refused-as-it-came : (rec : Record) (ks ws s : List ℕ) (n : Refusal) → hands_back (number_of n) ≡ true
-    → (add_strip rec ks ws s).answer.refusal ≡ number_of n → add_strip rec ks ws s ≡ as_it_came (number_of n) rec ks ws
+pub refused-as-it-came : (rec : Record) (ks ws s : List ℕ) (n : Refusal) → hands_back n ≡ true
+    → (add_strip rec ks ws s).answer.refusal ≡ Some n → add_strip rec ks ws s ≡ as_it_came (Some n) rec ks ws
 refused-as-it-came = meaning.refused-as-it-came
 
 -- An empty strip on a good table is done with 0 taken, even at a full pixel total or with no room.
 pub empty-strip-done : (rec : Record) (ks ws : List ℕ) → bad_table rec ks ws ≡ false
-    → add_strip rec ks ws [] ≡ as_it_came done rec ks ws
+    → add_strip rec ks ws [] ≡ as_it_came None rec ks ws
 empty-strip-done = joins.empty-strip
 
 -- ---- what an accepted add does
 
 -- The weight of every colour is its former weight plus the number of its pixels in the strip.
-pub accepted-weights : (rec : Record) (ks ws s : List ℕ) → (add_strip rec ks ws s).answer.refusal ≡ done → (c : ℕ)
-    → weight_of c (table_after (add_strip rec ks ws s)) ≡ weight_of c (entries rec.used ks ws) + count_of c (strip_keys s)
+pub accepted-weights : (rec : Record) (ks ws s : List ℕ) → (add_strip rec ks ws s).answer.refusal ≡ None → (c : ℕ)
+    → weight_of c (table_after (add_strip rec ks ws s)) ≡ weight_of c (entries rec.used ks ws) + count_of c
+    (strip_keys s)
 accepted-weights = meaning.accepted-weights
 
 -- The pixel total goes up by the pixels of the strip.
-pub accepted-pixels : (rec : Record) (ks ws s : List ℕ) → (add_strip rec ks ws s).answer.refusal ≡ done
+pub accepted-pixels : (rec : Record) (ks ws s : List ℕ) → (add_strip rec ks ws s).answer.refusal ≡ None
     → (add_strip rec ks ws s).answer.rec.pixels ≡ rec.pixels + length s / 3
 accepted-pixels = meaning.accepted-pixels
 
@@ -124,12 +126,12 @@ pub past-kept : (rec : Record) (ks ws s : List ℕ)
 past-kept = meaning.past-kept
 
 -- Where both strips are accepted, adding one after the other is adding them joined.
-pub joined-strips : (rec : Record) (ks ws s t : List ℕ) → Bytes s → (add_strip rec ks ws s).answer.refusal ≡ done
+pub joined-strips : (rec : Record) (ks ws s t : List ℕ) → Bytes s → (add_strip rec ks ws s).answer.refusal ≡ None
     → (let o = add_strip rec ks ws s in
-    (add_strip o.answer.rec o.keys o.weights t).answer.refusal ≡ done
+    (add_strip o.answer.rec o.keys o.weights t).answer.refusal ≡ None
     → add_strip rec ks ws (s ++ t) ≡ record {
       answer = record {
-        refusal = done;
+        refusal = None;
         taken = o.answer.taken + (add_strip o.answer.rec o.keys o.weights t).answer.taken;
         rec = (add_strip o.answer.rec o.keys o.weights t).answer.rec;
       };
@@ -142,13 +144,13 @@ joined-strips = joins.joined-strips
 -- same record and slices; the pixels taken are those of all calls.
 pub in-strips : (ss : List (List ℕ)) (rec : Record) (ks ws : List ℕ) → GoodTable rec ks ws → Bytes (joined_strips ss)
     → EachAdded rec ks ws ss
-    → ((add_strip rec ks ws (joined_strips ss)).answer.refusal ≡ done)
+    → ((add_strip rec ks ws (joined_strips ss)).answer.refusal ≡ None)
     × (add_strips rec ks ws ss ≡ added_by (add_strip rec ks ws (joined_strips ss)))
 in-strips = pieces.in-strips
 
 -- Where the strips joined are accepted, each is.
 pub each-accepted : (ss : List (List ℕ)) (rec : Record) (ks ws : List ℕ) → EachWhole ss → Bytes (joined_strips ss)
-    → (add_strip rec ks ws (joined_strips ss)).answer.refusal ≡ done → EachAdded rec ks ws ss
+    → (add_strip rec ks ws (joined_strips ss)).answer.refusal ≡ None → EachAdded rec ks ws ss
 each-accepted = pieces.each-accepted
 
 -- ---- FULL
@@ -171,7 +173,7 @@ after-taken = meaning.taken-after
 
 -- Accepted or FULL, an add is that of the first `taken` pixels: each colour's weight is its former weight plus the
 -- number of its pixels among them, the record's pixels are those before plus their number, and with 0 taken the record
--- and both slices are as they came, beside the number that is answered.
+-- and both slices are as they came, beside the refusal that is answered.
 pub taken-counts : (rec : Record) (ks ws s : List ℕ) → bad_strip s ≡ false → bad_table rec ks ws ≡ false
     → (let o = add_strip rec ks ws s in
     ((c : ℕ) → weight_of c (table_after o)

@@ -6,6 +6,8 @@ use mathlib.Core.List.{List}
 use Prim.Native.Nat.{ℕ, ◌+◌, ◌*◌, ◌/◌, ◌≤◌}
 use native.Mathlib.Omega.{arith}
 use lib.ListN.{length, get_or, take}
+use Rattle.std.specs.Prelude.{Option}
+use Rattle.refusal.specs.{Refusal}
 use Rattle.number.specs.{sum, sum_of}
 use Rattle.number.proofs.ListSums.{sum_of-take}
 use Rattle.number.proofs.Sums.{sum-eq}
@@ -32,8 +34,8 @@ use Rattle.table_test.proofs.Goods.{Good, good-of-test}
 use Rattle.table.specs.Outcomes.{Outcome, as_it_came, with_pixels, add_strip, table_after}
 use Rattle.table.proofs.Meaning.{outcome-taken, taken-after}
 
--- with this number and none of these pixels taken, all is as it came
-none-taken : (n : ℕ) (rec : Record) (ks ws ps : List ℕ) → Good rec ks ws
+-- with this refusal or none, and none of these pixels taken, all is as it came
+none-taken : (n : Option Refusal) (rec : Record) (ks ws ps : List ℕ) → Good rec ks ws
     → taken_of (room_of ks ws) (entries rec.used ks ws) ps ≡ 0
     → with_pixels n (room_of ks ws) (entries rec.used ks ws) ps ks ws ≡ as_it_came n rec ks ws
 none-taken n rec ks ws ps g z =
@@ -115,7 +117,8 @@ module _ (rec : Record) (ks ws s : List ℕ) (whole : bad_strip s ≡ false) (te
       )
     where
       byte : (i : ℕ) → (red_of (key_at s (3 * i)) ≡ get_or s (3 * i + 0) 0)
-          × (green_of (key_at s (3 * i)) ≡ get_or s (3 * i + 1) 0) × (blue_of (key_at s (3 * i)) ≡ get_or s (3 * i + 2) 0)
+          × (green_of (key_at s (3 * i)) ≡ get_or s (3 * i + 1) 0)
+          × (blue_of (key_at s (3 * i)) ≡ get_or s (3 * i + 2) 0)
       byte i =
           let z : 3 * i + 0 ≡ 3 * i = omega arith in
           rw z (levels-of-key (get_or s (3 * i) 0) (get_or s (3 * i + 1) 0) (get_or s (3 * i + 2) 0) (record {

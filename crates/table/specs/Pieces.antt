@@ -1,6 +1,5 @@
 -- A sheet added in strips, one call after the other: each adds to what the one before left.
-use Rattle.std.specs.Prelude.{ℕ, ◌+◌, List, [], ◌∷◌, ◌≡◌}
-use Rattle.refusal.specs.{done}
+use Rattle.std.specs.Prelude.{ℕ, ◌+◌, List, [], ◌∷◌, ◌≡◌, None}
 use Rattle.table_test.specs.{Record}
 use Rattle.table.specs.Outcomes.{Outcome, add_strip}
 
@@ -33,4 +32,4 @@ abbrev pub EachAdded : Record → List ℕ → List ℕ → List (List ℕ) → 
 EachAdded rec ks ws [] = Unit {0}
 EachAdded rec ks ws (s ∷ ss) =
     let o = add_strip rec ks ws s in
-    (o.answer.refusal ≡ done) × EachAdded o.answer.rec o.keys o.weights ss
+    (o.answer.refusal ≡ None) × EachAdded o.answer.rec o.keys o.weights ss

@@ -1,17 +1,17 @@
 // Adding a strip: the tests in their order, then its pixels.
-ghost use Rattle.std.specs.Prelude.{◌≡◌};
+ghost use Rattle.std.specs.Prelude.{◌≡◌, Some};
 ghost use Rattle.table.specs.Outcomes.{refused, AddMeets};
 
 use super::Added;
-use refusal::{BAD_STRIP, BAD_TABLE, DONE, FULL};
+use refusal::Refusal;
 use table_test::{Record, bad_table, room_of};
 
-// The answer of a refusal before the first pixel: its number, nothing taken, the record as it came.
-fn refused(number: u8, rec: Record) -> Added
-    ensures { result ≡ refused number rec }
+// The answer of a refusal before the first pixel: nothing taken, the record as it came.
+fn refused(refusal: Refusal, rec: Record) -> Added
+    ensures { result ≡ refused (Some refusal) rec }
 {
     Added {
-        refusal: number,
+        refusal: Some(refusal),
         taken: 0,
         rec,
     }
@@ -31,10 +31,10 @@ pub fn add_strip(rec: Record, keys: &mut [u32], weights: &mut [u32], strip: &[u8
         keys.new weights.new }
 {
     if strip.len() % 3 != 0 {
-        return refused(BAD_STRIP, rec);
+        return refused(Refusal::BadStrip, rec);
     }
     if bad_table(rec, keys, weights) {
-        return refused(BAD_TABLE, rec);
+        return refused(Refusal::BadTable, rec);
     }
     let used = rec.used;
     let before = rec.pixels;
@@ -51,13 +51,13 @@ pub fn add_strip(rec: Record, keys: &mut [u32], weights: &mut [u32], strip: &[u8
     };
     if taken < count {
         return Added {
-            refusal: FULL,
+            refusal: Some(Refusal::Full),
             taken,
             rec: after,
         };
     }
     Added {
-        refusal: DONE,
+        refusal: None,
         taken,
         rec: after,
     }

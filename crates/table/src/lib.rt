@@ -15,12 +15,14 @@
 mod add;
 
 pub use add::add_strip;
+use refusal::Refusal;
 pub use table_test::{MOST_ENTRIES, Record, bad_table, room_of};
 
-// The answer of an add: 0 or the refusal's number; the pixels taken; the record as it is then.
+// The answer of an add: the refusal, if any; the pixels taken; the record as it is then. It has all
+// of them on every input, as FULL keeps the pixels taken before it.
 #[derive(Clone, Copy)]
 pub struct Added {
-    pub refusal: u8,
+    pub refusal: Option<Refusal>,
     pub taken: usize,
     pub rec: Record,
 }

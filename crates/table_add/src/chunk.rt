@@ -29,7 +29,7 @@ pub fn add_one(
     ensures { Tried used room keys.old weights.old strip.now
         from 1 result.used result.pixels result.sums keys.new weights.new }
 {
-    let key = table_streaks::gather::key_at(strip, 3 * from);
+    let key = colour::key_at(strip, 3 * from);
     let next = add_pixel(keys, weights, used, room, key);
     Chunk {
         used: next,
@@ -58,19 +58,14 @@ fn add_chunk(
         from most result.used result.pixels result.sums keys.new weights.new }
 {
     let got = table_streaks::gather::gather(strip, from, most, list);
-    let len = got.len;
     let pixels = got.pixels;
-    table_sort::sort::sort_streaks(list, other, len);
-    let sums = streak_sums(list, len);
-    let next = count_with(keys, used, list, len);
-    if room < next {
-        return Chunk {
-            used: next,
-            pixels,
-            sums,
-        };
+    let streaks = &mut list[..got.len];
+    table_sort::sort::sort_streaks(streaks, other);
+    let sums = streak_sums(streaks);
+    let next = count_with(keys, used, streaks);
+    if next <= room {
+        merge(keys, weights, used, next, streaks);
     }
-    merge(keys, weights, used, next, list, len);
     Chunk {
         used: next,
         pixels,

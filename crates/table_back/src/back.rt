@@ -8,10 +8,7 @@ pub fn clear(keys: &[u32], i: usize, key: u32) -> bool
     requires { i ≤ length keys.now }
     ensures { result ≡ all_below keys.now i key }
 {
-    if i == 0 {
-        return true;
-    }
-    keys[i - 1] < key
+    i == 0 || keys[i - 1] < key
 }
 
 // Whether the last sixteen of the first `i` keys, which rise, are there and none is below `key`.
@@ -19,10 +16,7 @@ pub fn far(keys: &[u32], i: usize, key: u32) -> bool
     requires { i ≤ length keys.now }
     ensures { result ≡ sixteen_passed keys.now i key }
 {
-    if i < 16 {
-        return false;
-    }
-    key <= keys[i - 16]
+    16 <= i && key <= keys[i - 16]
 }
 
 // Passes keys that are not below `key` from the back, by sixteens as long as they go: how many of

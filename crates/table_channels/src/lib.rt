@@ -1,17 +1,17 @@
 // The levels of pixels, added up channel by channel: of one pixel, of streaks, and of two lots of
 // pixels together.
 //
-// Functions, for the crates above (each says what it requires)
+// Calls, for the crates above (each says what it requires)
 //   pixel_sums    the levels of one pixel
 //   streak_sums   the levels of the pixels in streaks
-//   plus          the sums of two lots of pixels together
+//   a + b         the sums of two lots of pixels together
 //
 // Read next: specs/Lib.antt (what the words mean), proofs/Lib.antt (what is shown).
 #![tactic(auto)]
 
 mod channels;
 
-pub use channels::{pixel_sums, plus, streak_sums};
+pub use channels::{pixel_sums, streak_sums};
 
 // The sums of the three channels, in whole levels.
 #[derive(Clone, Copy)]

@@ -139,7 +139,8 @@ pub put_all-pixels : (es : List Entry) (ps : List ℕ) → pixels_of (put_all es
 put_all-pixels es ps = omega (arith, put_all-sum (λ (e : Entry). e.weight) weight-adds es ps, sum_of-ones ps)
 
 -- the weight of each colour goes up by the number of its pixels
-pub put_all-weight : (c : ℕ) (es : List Entry) (ps : List ℕ) → weight_of c (put_all es ps) ≡ weight_of c es + count_of c ps
+pub put_all-weight : (c : ℕ) (es : List Entry) (ps : List ℕ)
+    → weight_of c (put_all es ps) ≡ weight_of c es + count_of c ps
 put_all-weight c = put_all-sum (λ (e : Entry). cond (eqb e.key c) e.weight 0) (colour-adds c)
 
 -- f of the keys, weights counted, goes up by f of each pixel: so a channel's sum goes up by the pixels' levels

@@ -64,5 +64,6 @@ longest-only = takes.prefix-only
 
 -- The table with the pixels taken is within the room and has at most 16,777,216 pixels.
 pub taken-within-limits : (room : ℕ) (es : List Entry) {ps : List ℕ} → Keys ps → sound 0 es ≡ true → length es ≤ room
-    → pixels_of es ≤ most_pixels → (length (with_taken room es ps) ≤ room) × (pixels_of (with_taken room es ps) ≤ most_pixels)
+    → pixels_of es ≤ most_pixels → (length (with_taken room es ps) ≤ room)
+    × (pixels_of (with_taken room es ps) ≤ most_pixels)
 taken-within-limits = takes.taken-fits

@@ -31,7 +31,8 @@ entries-keys (suc n) (k ∷ ks) (w ∷ ws) a b =
     ap (λ (r : List ℕ). k ∷ r) (entries-keys n ks ws (le_of_suc-le-suc a) (le_of_suc-le-suc b))
 
 -- their weights are the first n weights
-pub entries-weights : (n : ℕ) (ks ws : List ℕ) → n ≤ length ks → n ≤ length ws → weights_of (entries n ks ws) ≡ take n ws
+pub entries-weights : (n : ℕ) (ks ws : List ℕ) → n ≤ length ks → n ≤ length ws
+    → weights_of (entries n ks ws) ≡ take n ws
 entries-weights zero ks ws a b = refl
 entries-weights (suc n) [] ws a b = absurd (not-suc-le-zero a)
 entries-weights (suc n) (k ∷ ks) [] a b = refl

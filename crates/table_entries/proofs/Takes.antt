@@ -46,7 +46,8 @@ module _ (room : ℕ) (es : List Entry) (k : ℕ) (s : sound 0 es ≡ true) wher
   -- where the table with the pixel is within both limits, it goes in
   goes_in : length (put k es) ≤ room → pixels_of (put k es) ≤ most_pixels → stops room es k ≡ false
   goes_in a b =
-      let u : leb most_pixels (pixels_of es) ≡ false = lt-leb most_pixels (pixels_of es) (omega (arith, give-pixels k 1 es))
+      let u : leb most_pixels (pixels_of es) ≡ false = lt-leb most_pixels (pixels_of es)
+      (omega (arith, give-pixels k 1 es))
       in
       elim (bool (eqb (weight_of k es) 0)) [
         | inl t ↦
@@ -112,7 +113,8 @@ taken-all room es ps h = ap (put_all es) (take_all (taken_of room es ps) ps h)
 
 -- the table with those taken is within both limits
 pub taken-fits : (room : ℕ) (es : List Entry) {ps : List ℕ} → Keys ps → sound 0 es ≡ true → length es ≤ room
-    → pixels_of es ≤ most_pixels → (length (with_taken room es ps) ≤ room) × (pixels_of (with_taken room es ps) ≤ most_pixels)
+    → pixels_of es ≤ most_pixels → (length (with_taken room es ps) ≤ room)
+    × (pixels_of (with_taken room es ps) ≤ most_pixels)
 taken-fits room es none s a b = (a, b)
 taken-fits room es (more {k = k} l r) s a b = elim (bool (stops room es k)) [
   | inl t ↦ simp t (a, b)

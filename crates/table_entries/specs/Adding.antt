@@ -1,5 +1,27 @@
 -- What pixels do to a table, one after the other, and which of them go in.
-use Rattle.std.specs.Prelude.{ℕ, suc, ◌+◌, ◌≤◌, ◌<◌, Bool, true, false, cond, ◌&&◌, ◌||◌, List, [], ◌∷◌, ◌≡◌, length, get_or, take, ltb, leb, eqb}
+use Rattle.std.specs.Prelude.{
+  ℕ,
+  suc,
+  ◌+◌,
+  ◌≤◌,
+  ◌<◌,
+  Bool,
+  true,
+  false,
+  cond,
+  ◌&&◌,
+  ◌||◌,
+  List,
+  [],
+  ◌∷◌,
+  ◌≡◌,
+  length,
+  get_or,
+  take,
+  ltb,
+  leb,
+  eqb,
+}
 use Rattle.colour.specs.{most_pixels}
 use Rattle.table_entries.specs.Content.{Entry, entry, pixels_of, weight_of}
 

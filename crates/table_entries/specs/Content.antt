@@ -1,6 +1,25 @@
 -- The table as a list of entries, and how it lies in two slices: the keys of its entries at the front of one, their
 -- weights at the front of the other. What stands past them is no part of the table.
-use Rattle.std.specs.Prelude.{ℕ, zero, suc, ◌+◌, ◌*◌, Bool, true, false, cond, List, [], ◌∷◌, ◌++◌, map, length, drop, ltb, eqb}
+use Rattle.std.specs.Prelude.{
+  ℕ,
+  zero,
+  suc,
+  ◌+◌,
+  ◌*◌,
+  Bool,
+  true,
+  false,
+  cond,
+  List,
+  [],
+  ◌∷◌,
+  ◌++◌,
+  map,
+  length,
+  drop,
+  ltb,
+  eqb,
+}
 use Rattle.number.specs.{sum_of}
 use Rattle.colour.specs.{most_key}
 

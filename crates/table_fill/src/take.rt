@@ -1,12 +1,12 @@
 // Taking the pixels of a strip into a sound table, from first to last, until one does not go in.
-ghost use Rattle.std.specs.Prelude.{◌≡◌, ◌*◌, ◌≤◌, min, length, take};
+ghost use Rattle.std.specs.Prelude.{◌≡◌, ◌*◌, ◌≤◌, length, take};
 ghost use Rattle.colour.specs.{most_pixels};
 ghost use Rattle.table_entries.specs.{entries, pixels_of, strip_keys};
 ghost use Rattle.table_pixel.specs.{Standing};
 ghost use Rattle.table_fill.specs.Taking.{Able, TookMeets};
 
 use table_add::chunk::{add_one, add_some};
-use table_channels::{ChannelSums, plus};
+use table_channels::ChannelSums;
 
 // The used entries, the pixels taken, and their levels added up.
 #[derive(Clone, Copy)]
@@ -16,19 +16,10 @@ pub struct Took {
     pub sums: ChannelSums,
 }
 
-fn smaller(a: usize, b: usize) -> usize
-    ensures { result ≡ min a b }
-{
-    if a < b { a } else { b }
-}
-
 // Whether so few pixels are quicker taken one by one: a pixel moves the entries above it, where a
 // chunk is sorted and walks the table. Either way takes the same pixels.
 fn is_few(end: usize, used: usize) -> bool {
-    if used < 512 {
-        return end <= 256;
-    }
-    end < 32
+    if used < 512 { end <= 256 } else { end < 32 }
 }
 
 // Takes the first `end` pixels one by one.
@@ -46,13 +37,12 @@ fn take_few(
         result.used result.taken result.sums keys.new weights.new }
 {
     let mut now_used = used;
-    let mut taken = 0;
     let mut sums = ChannelSums {
         red: 0,
         green: 0,
         blue: 0,
     };
-    while taken < end {
+    for taken in 0..end {
         let got = add_one(keys, weights, now_used, room, strip, taken);
         let next = got.used;
         if room < next {
@@ -63,12 +53,11 @@ fn take_few(
             };
         }
         now_used = next;
-        taken += 1;
-        sums = plus(sums, got.sums);
+        sums = sums + got.sums;
     }
     Took {
         used: now_used,
-        taken,
+        taken: end,
         sums,
     }
 }
@@ -97,14 +86,14 @@ fn take_many(
     };
     let mut limit = end;
     while taken < end {
-        let most = smaller(limit, end - taken);
+        let most = limit.min(end - taken);
         let got = add_some(keys, weights, now_used, room, strip, taken, most);
         let next = got.used;
         let pixels = got.pixels;
         if next <= room {
             now_used = next;
             taken += pixels;
-            sums = plus(sums, got.sums);
+            sums = sums + got.sums;
         } else {
             if pixels < 2 {
                 return Took {
@@ -144,7 +133,7 @@ pub fn take_strip(
         result.used result.taken result.sums keys.new weights.new }
 {
     let space = (colour::MOST_PIXELS - before) as usize;
-    let end = smaller(count, space);
+    let end = count.min(space);
     if is_few(end, used) {
         return take_few(keys, weights, used, room, strip, end);
     }

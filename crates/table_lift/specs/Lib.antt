@@ -1,4 +1,4 @@
 -- Glossary.
---   lift n i o   the n values before place i stored before place o
+--   lift n i o  the n values before place i stored before place o
 pub mod Lifting
 unfoldable pub use Lifting.{lift}

@@ -1,8 +1,7 @@
 // Gathering the pixels of a strip as streaks of equal ones.
 ghost use Rattle.std.specs.Prelude.{◌≡◌, ℕ, ◌+◌, ◌*◌, ◌≤◌, ◌<◌, length, take, drop};
 ghost use Rattle.number.specs.{sum_of};
-ghost use Rattle.colour.specs.{most_key};
-ghost use Rattle.table_entries.specs.{strip_keys, key_at};
+ghost use Rattle.table_entries.specs.{strip_keys};
 ghost use Rattle.table_streaks.specs.Streak.{streak_sum, joins_streak};
 
 use super::streak::streak_key;
@@ -14,22 +13,11 @@ pub struct Gathered {
     pub pixels: usize,
 }
 
-// The key of the pixel whose bytes stand from `at` on. Requires that they stand in the strip.
-pub fn key_at(strip: &[u8], at: usize) -> u32
-    requires { at + 2 < length strip.now }
-    ensures { (result ≡ key_at strip.now at) × (result ≤ most_key) }
-{
-    colour::key_of(strip[at], strip[at + 1], strip[at + 2])
-}
-
 // Whether one pixel more of colour `key` goes into the streak.
 fn joins(streak: u32, key: u32) -> bool
     ensures { result ≡ joins_streak streak key }
 {
-    if streak_key(streak) == key {
-        return streak % 256 < 255;
-    }
-    false
+    streak_key(streak) == key && streak % 256 < 255
 }
 
 // The pixels from `from` on, `most` at the most, as streaks: as many as the list has places for.
@@ -41,14 +29,12 @@ pub fn gather(strip: &[u8], from: usize, most: usize, list: &mut [u32]) -> Gathe
     ensures by_index { (f : ℕ → ℕ) → sum_of (streak_sum f) (take result.len list.new)
         ≡ sum_of f (take result.pixels (drop from (strip_keys strip.now))) }
 {
-    let mut streak = 256 * key_at(strip, 3 * from);
+    let mut streak = 256 * colour::key_at(strip, 3 * from);
     let mut len = 0;
-    let mut done = 1;
-    while done < most {
-        let key = key_at(strip, 3 * (from + done));
+    for done in 1..most {
+        let key = colour::key_at(strip, 3 * (from + done));
         if joins(streak, key) {
             streak += 1;
-            done += 1;
         } else {
             list[len] = streak;
             len += 1;
@@ -56,12 +42,11 @@ pub fn gather(strip: &[u8], from: usize, most: usize, list: &mut [u32]) -> Gathe
                 return Gathered { len, pixels: done };
             }
             streak = 256 * key;
-            done += 1;
         }
     }
     list[len] = streak;
     Gathered {
         len: len + 1,
-        pixels: done,
+        pixels: most,
     }
 }

@@ -3,7 +3,6 @@
 // four bytes.
 //
 // Functions, for the crates above (each says what it requires)
-//   gather::key_at         the key of a pixel of a strip
 //   gather::gather         pixels of a strip, as streaks
 //   streak::streak_key     the key of a streak
 //   streak::streak_pixels  the pixels of a streak

@@ -12,7 +12,7 @@ fn times(weight: u32, x: u32) -> u64
     requires { weight ≤ most_pixels }
     ensures { result ≡ weight * x }
 {
-    weight as u64 * x as u64
+    u64::from(weight) * u64::from(x)
 }
 
 // What the second number has of a key: the red level, and 16777216 times the blue one. Requires a
@@ -34,11 +34,9 @@ pub fn two_sums(keys: &[u32], weights: &[u32], used: usize) -> TwoSums
 {
     let mut first: u64 = 0;
     let mut second: u64 = 0;
-    let mut i = 0;
-    while i < used {
+    for i in 0..used {
         first += times(weights[i], keys[i]);
         second += times(weights[i], mix_of(keys[i]));
-        i += 1;
     }
     TwoSums { first, second }
 }

@@ -186,7 +186,8 @@ determined rec rec' ks ws ks' ws' a b h =
 
 -- slices with the same used entries are a good table together
 good-alike : {rec : Record} {ks ws ks' ws' : List ℕ} → rec.used ≤ room_of ks' ws'
-    → ((i : ℕ) → i < rec.used → get_or ks i 0 ≡ get_or ks' i 0) → ((i : ℕ) → i < rec.used → get_or ws i 0 ≡ get_or ws' i 0)
+    → ((i : ℕ) → i < rec.used → get_or ks i 0 ≡ get_or ks' i 0)
+    → ((i : ℕ) → i < rec.used → get_or ws i 0 ≡ get_or ws' i 0)
     → GoodTable rec ks ws → GoodTable rec ks' ws'
 good-alike {rec} {ks} {ws} {ks'} {ws'} room keys weights g = record {
   in_room = room;
@@ -208,7 +209,8 @@ good-alike {rec} {ks} {ws} {ks'} {ws'} room keys weights g = record {
 
 -- so the test says the same of both
 pub bad-table-alike : (rec : Record) (ks ws ks' ws' : List ℕ) → rec.used ≤ room_of ks ws → rec.used ≤ room_of ks' ws'
-    → ((i : ℕ) → i < rec.used → get_or ks i 0 ≡ get_or ks' i 0) → ((i : ℕ) → i < rec.used → get_or ws i 0 ≡ get_or ws' i 0)
+    → ((i : ℕ) → i < rec.used → get_or ks i 0 ≡ get_or ks' i 0)
+    → ((i : ℕ) → i < rec.used → get_or ws i 0 ≡ get_or ws' i 0)
     → bad_table rec ks ws ≡ bad_table rec ks' ws'
 bad-table-alike rec ks ws ks' ws' room room' keys weights =
     fail-together (bad_table rec ks ws) (bad_table rec ks' ws')

@@ -21,19 +21,7 @@ struct Weighed {
 pub fn room_of(keys: usize, weights: usize) -> usize
     ensures { result ≡ min (min keys weights) most_entries }
 {
-    let shorter = if keys < weights { keys } else { weights };
-    if shorter < MOST_ENTRIES {
-        shorter
-    } else {
-        MOST_ENTRIES
-    }
-}
-
-// A weight in 64 bits.
-fn wide(weight: u32) -> u64
-    ensures { (result ≡ weight) × (result < 4294967296) }
-{
-    weight as u64
+    keys.min(weights).min(MOST_ENTRIES)
 }
 
 // How many places below `last` have a key that the next one is not above.
@@ -42,10 +30,8 @@ fn faults(keys: &[u32], last: usize) -> u32
     ensures { result ≡ how_many last (falls_at keys.now) }
 {
     let mut count: u32 = 0;
-    let mut i = 0;
-    while i < last {
+    for i in 0..last {
         count += bit(keys[i + 1] <= keys[i]);
-        i += 1;
     }
     count
 }
@@ -58,11 +44,9 @@ fn weigh(weights: &[u32], used: usize) -> Weighed
 {
     let mut zeros: u32 = 0;
     let mut sum: u64 = 0;
-    let mut i = 0;
-    while i < used {
-        zeros += bit(weights[i] == 0);
-        sum += wide(weights[i]);
-        i += 1;
+    for &weight in &weights[..used] {
+        zeros += bit(weight == 0);
+        sum += u64::from(weight);
     }
     Weighed { zeros, sum }
 }

@@ -1,4 +1,4 @@
 -- What is shown, in full statements.
 pub mod Promises
--- Laws of texts in a buffer: how they are put one behind the other, and byte by byte.
+-- Laws of texts in a buffer: how they are put one behind the other, and at once.
 pub mod Texts

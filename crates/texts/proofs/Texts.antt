@@ -1,12 +1,13 @@
--- Laws of texts in a buffer: how they are put one behind the other, and byte by byte.
-use Prim.Native.Nat.{ℕ, zero, suc, ◌+◌, ◌<◌}
+-- Laws of texts in a buffer: how they are put one behind the other, and at once.
+use Prim.Native.Nat.{ℕ, ◌+◌, ◌≤◌, ◌<◌}
 use mathlib.Core.List.{List, [], ◌∷◌, ◌++◌}
-use mathlib.Core.Path.{◌≡◌, sym, ap, ◌∙◌}
+use mathlib.Core.Path.{◌≡◌, refl, sym, ap, ◌∙◌}
 use native.Mathlib.Omega.{arith}
-use lib.ListN.{length, get_or, set, take, length-append, take-append-drop, get_or-append}
-use lib.Seq.{set_split, drop-cons, get_or-append-add}
+use lib.ListN.{length, get_or, set, take, drop, length-append, length-drop, take-append-drop, get_or-append}
+use lib.Seq.{set_split, drop-cons, get_or-append-add, length-take-le}
 use Rattle.number.specs.{fill, fill_from}
-use Rattle.number.proofs.Parts.{from-length, from-joined, from-same}
+use Rattle.number.proofs.Parts.{stretch-filled, from-length, from-joined, from-same}
+use borrow.Rule.Slice.PartMut.{mid_of, put_mid}
 use Rattle.texts.specs.Putting.{with_text, PutMeets}
 
 -- ---- texts in a buffer
@@ -14,6 +15,11 @@ use Rattle.texts.specs.Putting.{with_text, PutMeets}
 -- a put keeps the buffer's length
 pub text-length : (a : ℕ) (t d : List ℕ) → length (with_text a t d) ≡ length d
 text-length a t d = from-length a (length t) (λ i. get_or t i 0) d
+
+-- nothing put leaves the buffer as it is
+pub bytes-start : (a : ℕ) (f : ℕ → ℕ) (d : List ℕ) → d ≡ fill_from a 0 f d
+unfolding fill_from fill
+bytes-start a f d = sym (take-append-drop a d)
 
 -- one byte put is a store
 pub put_one : (a b : ℕ) (d : List ℕ) → a < length d → set d a b ≡ with_text a (b ∷ []) d
@@ -44,20 +50,22 @@ put_then {a} {b} {c} {t} {u} {d} {x} {y} p q = record {
 pub put-length : {a b : ℕ} {t d x : List ℕ} → PutMeets a t d b x → length x ≡ length d
 put-length {a} {t = t} {d = d} p = ap length p.text_is ∙ text-length a t d
 
--- ---- a text put byte by byte
+-- ---- a text put at once
 
--- no byte so far
-pub bytes-start : (a : ℕ) (f : ℕ → ℕ) (d : List ℕ) → d ≡ fill_from a 0 f d
-unfolding fill_from fill
-bytes-start a f d = sym (take-append-drop a d)
+-- a list as long as a text, filled with its bytes, is the text
+fill-whole : (t m : List ℕ) → length m ≡ length t → fill (length t) (λ i. get_or t i 0) m ≡ t
+unfolding fill
+fill-whole [] [] e = refl
+fill-whole [] (y ∷ m) e = absurd (omega arith)
+fill-whole (x ∷ t) [] e = absurd (omega arith)
+fill-whole (x ∷ t) (y ∷ m) e = ap {B = List ℕ} (λ u. x ∷ u) (fill-whole t m (omega arith))
 
--- one byte more
-pub bytes-step : (a i : ℕ) (f : ℕ → ℕ) (d : List ℕ) → a + i < length d
-    → set (fill_from a i f d) (a + i) (f i) ≡ fill_from a (i + 1) f d
-bytes-step a i f d h =
-    put_one (a + i) (f i) (fill_from a i f d) (rw (from-length a i f d) h)
-    ∙ from-joined a i 1 f (λ j. get_or (f i ∷ []) j 0) d last
-  where
-    last : (j : ℕ) → j < 1 → get_or (f i ∷ []) j 0 ≡ f (i + j)
-    last zero l = let z : i + 0 ≡ i = omega arith in ap f (sym z)
-    last (suc j) l = absurd (omega arith)
+-- a text laid over a stretch as long as it is put there
+pub text-laid : (a n : ℕ) (t d : List ℕ) → n ≡ length t → a + length t ≤ length d
+    → put_mid a n d t ≡ with_text a t d
+text-laid a n t d e h =
+    let m : length (mid_of a (length t) d) ≡ length t =
+    length-take-le (length t) (drop a d) (omega (arith, length-drop a d)) in
+    rw e
+    (ap (λ x. put_mid a (length t) d x) (sym (fill-whole t (mid_of a (length t) d) m))
+    ∙ stretch-filled a (length t) (λ i. get_or t i 0) d)

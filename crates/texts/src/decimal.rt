@@ -19,12 +19,13 @@ fn put_digits(out: &mut [u8], at: usize, value: u64, most: usize) -> usize
     put_byte(out, next, b'0' + (value % 10) as u8)
 }
 
-// Puts a number, without leading zeros. Requires room for 20 bytes.
-fn put_decimal(out: &mut [u8], at: usize, value: u64) -> usize
-    requires { at + most_decimal ≤ length out.old }
-    ensures { PutMeets at (decimal_text value) out.old result out.new }
+// Puts a number, without leading zeros, and the byte behind it. Requires room for 21 bytes.
+fn put_number(out: &mut [u8], at: usize, value: u64, end: u8) -> usize
+    requires { at + most_decimal + 1 ≤ length out.old }
+    ensures { PutMeets at (decimal_text value ++ end ∷ []) out.old result out.new }
 {
-    put_digits(out, at, value, MOST_DECIMAL)
+    let next = put_digits(out, at, value, MOST_DECIMAL);
+    put_byte(out, next, end)
 }
 
 // Puts a number and the blank behind it. Requires room for 21 bytes.
@@ -33,8 +34,7 @@ pub fn put_field(out: &mut [u8], at: usize, value: u64) -> usize
     ensures { PutMeets at (decimal_text value ++ blank ∷ []) out.old result
         out.new }
 {
-    let next = put_decimal(out, at, value);
-    put_byte(out, next, b' ')
+    put_number(out, at, value, b' ')
 }
 
 // Puts the last number of a line, and its LF. Requires room for 21 bytes.
@@ -43,6 +43,5 @@ pub fn put_last(out: &mut [u8], at: usize, value: u64) -> usize
     ensures { PutMeets at (decimal_text value ++ line_feed ∷ []) out.old result
         out.new }
 {
-    let next = put_decimal(out, at, value);
-    put_byte(out, next, b'\n')
+    put_number(out, at, value, b'\n')
 }

@@ -16,11 +16,7 @@ pub fn put_word(out: &mut [u8], at: usize, word: &[u8]) -> usize
     requires { at + length word.now ≤ length out.old }
     ensures { PutMeets at word.now out.old result out.new }
 {
-    let size = word.len();
-    let mut i = 0;
-    while i < size {
-        out[at + i] = word[i];
-        i += 1;
-    }
-    at + size
+    let next = at + word.len();
+    out[at..next].copy_from_slice(word);
+    next
 }

@@ -1,10 +1,11 @@
 // The calls of the crates palette, palette_groups, palette_twins and mapping.
-use mapping::Mapped;
+use mapping::{Mapped, Unmapped};
 use palette_twins::Twins;
+use refusal::Refusal;
 use table::Record;
 
 // A palette from shades.
-pub fn palette_from_shades(coordinates: &[u32], palette: &mut [u8]) -> u8 {
+pub fn palette_from_shades(coordinates: &[u32], palette: &mut [u8]) -> Result<(), Refusal> {
     palette::palette_from_shades(coordinates, palette)
 }
 
@@ -16,7 +17,7 @@ pub fn palette_from_groups(
     coordinates: &[u32],
     members: &[u32],
     palette: &mut [u8],
-) -> u8 {
+) -> Result<(), Refusal> {
     palette_groups::palette_from_groups(rec, keys, weights, coordinates, members, palette)
 }
 
@@ -29,7 +30,7 @@ pub fn palette_from_groups_fixed(
     members: &[u32],
     fixed: usize,
     palette: &mut [u8],
-) -> u8 {
+) -> Result<(), Refusal> {
     palette_groups::palette_from_groups_fixed(
         rec,
         keys,
@@ -47,11 +48,16 @@ pub fn bad_palette(palette: &[u8]) -> bool {
 }
 
 // The twins of a palette.
-pub fn twin_of(palette: &[u8]) -> Twins {
+pub fn twin_of(palette: &[u8]) -> Option<Twins> {
     palette_twins::twin_of(palette)
 }
 
 // Mapping a strip.
-pub fn map_strip(strip: &[u8], palette: &[u8], index: &mut [u8], first: usize) -> Mapped {
+pub fn map_strip(
+    strip: &[u8],
+    palette: &[u8],
+    index: &mut [u8],
+    first: usize,
+) -> Result<Mapped, Unmapped> {
     mapping::map_strip(strip, palette, index, first)
 }

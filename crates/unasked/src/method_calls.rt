@@ -1,5 +1,6 @@
 // The calls of the crates lloyd and lloyd_fixed.
 use lloyd::{Ran, Rounded};
+use refusal::Refusal;
 use table::Record;
 
 // A plain round.
@@ -9,7 +10,7 @@ pub fn plain_round(
     weights: &[u32],
     coordinates: &mut [u32],
     members: &mut [u32],
-) -> Rounded {
+) -> Result<Rounded, Refusal> {
     lloyd::plain_round(rec, keys, weights, coordinates, members)
 }
 
@@ -20,7 +21,7 @@ pub fn short_round(
     weights: &[u32],
     coordinates: &mut [u32],
     members: &mut [u32],
-) -> Rounded {
+) -> Result<Rounded, Refusal> {
     lloyd::short_round(rec, keys, weights, coordinates, members)
 }
 
@@ -33,7 +34,7 @@ pub fn run(
     limit: usize,
     members: &mut [u32],
     totals: &mut [u64],
-) -> Ran {
+) -> Result<Ran, Refusal> {
     lloyd::run(rec, keys, weights, count, limit, members, totals)
 }
 
@@ -46,7 +47,7 @@ pub fn run_jancey(
     limit: usize,
     members: &mut [u32],
     totals: &mut [u64],
-) -> Ran {
+) -> Result<Ran, Refusal> {
     lloyd::run_jancey(rec, keys, weights, count, limit, members, totals)
 }
 
@@ -60,6 +61,6 @@ pub fn run_fixed(
     limit: usize,
     members: &mut [u32],
     totals: &mut [u64],
-) -> Ran {
+) -> Result<Ran, Refusal> {
     lloyd_fixed::run_fixed(rec, keys, weights, fixed, count, limit, members, totals)
 }

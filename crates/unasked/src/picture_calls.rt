@@ -1,9 +1,9 @@
 // The calls of the crates p6 and listing.
 use listing::Listing;
-use p6::Picture;
+use p6::{Fault, Picture};
 
 // Reading a picture.
-pub fn read_picture(input: &[u8]) -> Picture {
+pub fn read_picture(input: &[u8]) -> Result<Picture, Fault> {
     p6::read_picture(input)
 }
 

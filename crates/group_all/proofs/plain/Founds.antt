@@ -8,7 +8,7 @@ use Rattle.number.specs.{fill}
 use Rattle.number.proofs.Fills.{fill-at, fill-length}
 use Rattle.shades.specs.{colour_at, Shades, packed_nearest}
 use Rattle.table_entries.specs.{Tabled}
-use Rattle.group_join.proofs.Turns.{Fitted, Turned, turned-length, turned-kept}
+use Rattle.group_join.proofs.Turns.{Fitted, Turned, turned-kept}
 
 -- distance and number of the nearest shade of entry j, in one
 abbrev pub found_at : List ℕ → List ℕ → ℕ → ℕ → ℕ
@@ -28,10 +28,6 @@ plain-fitted {used} {ks} {s = s} {k} before d table shades some room e = record 
 module _ {used : ℕ} {ks ws s : List ℕ} {k : ℕ} {works : ℕ → ℕ} {before members : List ℕ} {total distances i : ℕ}
     (x : Turned used ks ws s k works before members total distances i) (d : List ℕ)
     (e : before ≡ fill used (found_at ks s k) d) where
-  -- there are as many members as before the search
-  pub plain-length : length members ≡ length d
-  plain-length = turned-length x ∙ ap length e ∙ fill-length used (found_at ks s k) d
-
   -- the turn reads what was found for its entry
   pub plain-found : i < used → used ≤ length d → get_or members i 0 ≡ found_at ks s k i
   plain-found l room = turned-kept x ∙ ap (λ m. get_or m i 0) e ∙ fill-at used i (found_at ks s k) d l (omega arith)

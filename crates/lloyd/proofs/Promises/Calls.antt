@@ -5,15 +5,17 @@ use mathlib.Core.Bool.{true, false}
 use mathlib.Core.List.{List}
 use mathlib.Core.Path.{◌≡◌, refl, sym, ◌∙◌}
 use lib.ListN.{get_or, length}
+use Rattle.std.specs.Prelude.{Result, Ok, None}
+use Rattle.std.specs.Result.{result_err}
 use Rattle.number.specs.{sum}
-use Rattle.refusal.specs.{done}
+use Rattle.refusal.specs.{Refusal}
 use Rattle.table_test.specs.{Record, room_of, bad_table}
 use Rattle.method.specs.{most_rounds, colours_of, front_of, to_mean, after, moved_of, begin}
 use Rattle.method.proofs.Costs.{to-mean-good}
 use Rattle.method.proofs.Rules.{kind-goes}
 use Rattle.lloyd_tests.specs.{usual_limit, limit_of}
-use Rattle.lloyd_rounds.specs.{plain_round, short_round}
-use Rattle.lloyd.specs.Calling.{short_calls, lent_start, Stays}
+use Rattle.lloyd_rounds.specs.{Rounded, plain_round, short_round}
+use Rattle.lloyd.specs.Calling.{short_calls, lent_start, distances_told, Stays}
 use Rattle.lloyd.specs.Outcomes.{RunMeets, AcceptedRun, run_of, left}
 use Rattle.lloyd.specs.declared.Ran.{Ran}
 use Rattle.lloyd.proofs.Accepted.{by-mean}
@@ -24,7 +26,8 @@ use Rattle.lloyd.proofs.Used as used
 -- ---- the contract
 
 -- Whatever meets the contract of `run` on an input has one answer and one content of each lent slice.
-pub run_only : (rec : Record) (ks ws : List ℕ) (k limit : ℕ) (ms ts : List ℕ) {r r' : Ran} {x x' t t' : List ℕ}
+pub run_only : (rec : Record) (ks ws : List ℕ) (k limit : ℕ) (ms ts : List ℕ) {r r' : Result Ran Refusal}
+    {x x' t t' : List ℕ}
     → RunMeets (run_of rec ks ws k limit ms ts) r x t → RunMeets (run_of rec ks ws k limit ms ts) r' x' t'
     → (r ≡ r') × (x ≡ x') × (t ≡ t')
 run_only rec ks ws k limit ms ts a b =
@@ -32,7 +35,7 @@ run_only rec ks ws k limit ms ts a b =
 
 -- ---- limits
 
--- A run with limit 0 is the run with limit 100: it is refused by the same number, or answers the same and leaves the
+-- A run with limit 0 is the run with limit 100: it is refused alike, or answers the same and leaves the
 -- same in members and totals.
 pub run-of-usual : (rec : Record) (ks ws : List ℕ) (k : ℕ) (ms ts : List ℕ)
     → run_of rec ks ws k 0 ms ts ≡ run_of rec ks ws k usual_limit ms ts
@@ -55,13 +58,14 @@ settled-at-any-limit {rec} {ks} {ws} {k} {limit} {ms} {ts} h =
 -- keys and weights, it answers the same, and leaves the same in members and totals.
 pub run-of-used : (rec : Record) (ks ws ks' ws' : List ℕ) (k limit : ℕ) (ms ts : List ℕ)
     → rec.used ≤ room_of ks ws → rec.used ≤ room_of ks' ws'
-    → ((i : ℕ) → i < rec.used → get_or ks i 0 ≡ get_or ks' i 0) → ((i : ℕ) → i < rec.used → get_or ws i 0 ≡ get_or ws' i 0)
+    → ((i : ℕ) → i < rec.used → get_or ks i 0 ≡ get_or ks' i 0)
+    → ((i : ℕ) → i < rec.used → get_or ws i 0 ≡ get_or ws' i 0)
     → run_of rec ks ws k limit ms ts ≡ run_of rec ks' ws' k limit ms ts
 unfolding run_of
 run-of-used = used.run-of-used to_mean (kind-goes false)
 
 -- Of the record it depends on how many entries are used, and on whether the record is true: by two records that use as
--- many and are both BAD TABLE or both not, a run is refused by the same number, or answers and leaves the same.
+-- many and are both BAD TABLE or both not, a run is refused alike, or answers and leaves the same.
 pub run-by-truth : (rec rec' : Record) (ks ws : List ℕ) (k limit : ℕ) (ms ts : List ℕ) → rec.used ≡ rec'.used
     → bad_table rec ks ws ≡ bad_table rec' ks ws → run_of rec ks ws k limit ms ts ≡ run_of rec' ks ws k limit ms ts
 unfolding run_of
@@ -80,25 +84,26 @@ module _ {rec : Record} {ks ws : List ℕ} {k limit : ℕ} {ms ts : List ℕ} {r
 
   -- Each of these calls is accepted.
   pub call-accepted : (n : ℕ)
-      → (short_round rec ks ws (short_calls rec ks ws (lent_start rec ks ws k ms) n)).answer.refusal ≡ done
+      → result_err (short_round rec ks ws (short_calls rec ks ws (lent_start rec ks ws k ms) n)).answer ≡ None
   call-accepted = calls.call-accepted h
 
   -- Each answers the total that the run recorded for its round.
-  pub call-total : (n : ℕ) → n < r.rounds
-      → (short_round rec ks ws (short_calls rec ks ws (lent_start rec ks ws k ms) n)).answer.total ≡ get_or totals n 0
+  pub call-total : (n : ℕ) → n < r.rounds → (x : Rounded)
+      → (short_round rec ks ws (short_calls rec ks ws (lent_start rec ks ws k ms) n)).answer ≡ Ok x
+      → x.total ≡ get_or totals n 0
   call-total = calls.call-total h
 
   -- And the number of shades that the round moves, by which the run ends.
-  pub call-moved : (n : ℕ)
-      → (short_round rec ks ws (short_calls rec ks ws (lent_start rec ks ws k ms) n)).answer.moved
+  pub call-moved : (n : ℕ) (x : Rounded)
+      → (short_round rec ks ws (short_calls rec ks ws (lent_start rec ks ws k ms) n)).answer ≡ Ok x
+      → x.moved
       ≡ moved_of to_mean (colours_of rec.used ks ws) k
       (after to_mean (colours_of rec.used ks ws) k (begin (colours_of rec.used ks ws) k ms) n)
   call-moved = calls.call-moved h
 
   -- The distances that the calls answer add up to the run's.
-  pub calls-distances :
-      sum r.rounds (λ n. (short_round rec ks ws (short_calls rec ks ws (lent_start rec ks ws k ms) n)).answer.distances)
-      ≡ r.distances
+  pub calls-distances : sum r.rounds (λ n. distances_told
+      (short_round rec ks ws (short_calls rec ks ws (lent_start rec ks ws k ms) n)).answer) ≡ r.distances
   calls-distances = calls.calls-distances h
 
   -- As many calls as the run made rounds leave the shades it answers and the members it leaves.

@@ -12,7 +12,9 @@ use native.Mathlib.Omega.{arith}
 use lib.ListN.{get_or, length}
 use lib.Dec.{eqb}
 use Rattle.number.specs.{sum, Leaps}
-use Rattle.refusal.specs.{Refusal, number_of, done, Given, NoneHolds}
+use Rattle.std.specs.Prelude.{Result, None, Some}
+use Rattle.std.specs.Result.{result_err}
+use Rattle.refusal.specs.{Refusal, Given, NoneHolds}
 use Rattle.table_test.specs.{Record, room_of, bad_table}
 use Rattle.colour.specs.{most_coordinate}
 use Rattle.shades.specs.{shade_at, axis, colour_at, nearest_shade, OnGrid}
@@ -52,29 +54,30 @@ use Rattle.lloyd.proofs.Wholes as wholes
 
 -- Jancey's run gives each refusal exactly when its row is the first of 2, 4, 5, 6, 7 that holds.
 pub jancey-refused-exactly : (rec : Record) (ks ws : List ℕ) (k limit : ℕ) (ms ts : List ℕ) (n : Refusal)
-    → ((jancey_run rec ks ws k limit ms ts).answer.refusal ≡ number_of n) ↔ Given (run_rows rec ks ws k limit ms ts) n
+    → (result_err (jancey_run rec ks ws k limit ms ts).answer ≡ Some n) ↔ Given (run_rows rec ks ws k limit ms ts) n
 jancey-refused-exactly rec ks ws k limit ms ts = (wholes.jancey-refuses rec ks ws k limit ms ts).refused_exactly
 
 -- And none exactly when no row holds.
 pub jancey-accepted-exactly : (rec : Record) (ks ws : List ℕ) (k limit : ℕ) (ms ts : List ℕ)
-    → ((jancey_run rec ks ws k limit ms ts).answer.refusal ≡ done) ↔ NoneHolds (run_rows rec ks ws k limit ms ts)
+    → (result_err (jancey_run rec ks ws k limit ms ts).answer ≡ None) ↔ NoneHolds (run_rows rec ks ws k limit ms ts)
 jancey-accepted-exactly rec ks ws k limit ms ts = (wholes.jancey-refuses rec ks ws k limit ms ts).accepted_exactly
 
--- A refused one answers its number and zeros, and no slice changes.
+-- A refused one answers its error, and no slice changes.
 pub jancey-refused : (rec : Record) (ks ws : List ℕ) (k limit : ℕ) (ms ts : List ℕ) (n : Refusal)
-    → (jancey_run rec ks ws k limit ms ts).answer.refusal ≡ number_of n
-    → jancey_run rec ks ws k limit ms ts ≡ kept_run ms ts (number_of n)
+    → result_err (jancey_run rec ks ws k limit ms ts).answer ≡ Some n
+    → jancey_run rec ks ws k limit ms ts ≡ kept_run ms ts n
 jancey-refused rec ks ws k limit ms ts = (wholes.jancey-refuses rec ks ws k limit ms ts).refused_is
 
--- On every input it has the number that a run has.
+-- On every input it has the refusal that a run has, or none where a run has none.
 pub jancey-refused-as-run : (rec : Record) (ks ws : List ℕ) (k limit : ℕ) (ms ts : List ℕ)
-    → (jancey_run rec ks ws k limit ms ts).answer.refusal ≡ (run_of rec ks ws k limit ms ts).answer.refusal
+    → result_err (jancey_run rec ks ws k limit ms ts).answer ≡ result_err (run_of rec ks ws k limit ms ts).answer
 jancey-refused-as-run = wholes.same-refusal
 
 -- ---- the contract
 
 -- Whatever meets the contract of `run_jancey` on an input has one answer and one content of each lent slice.
-pub jancey-only : (rec : Record) (ks ws : List ℕ) (k limit : ℕ) (ms ts : List ℕ) {r r' : Ran} {x x' t t' : List ℕ}
+pub jancey-only : (rec : Record) (ks ws : List ℕ) (k limit : ℕ) (ms ts : List ℕ) {r r' : Result Ran Refusal}
+    {x x' t t' : List ℕ}
     → RunMeets (jancey_run rec ks ws k limit ms ts) r x t → RunMeets (jancey_run rec ks ws k limit ms ts) r' x' t'
     → (r ≡ r') × (x ≡ x') × (t ≡ t')
 jancey-only rec ks ws k limit ms ts a b =
@@ -98,7 +101,8 @@ jancey-settled-at-any-limit {rec} {ks} {ws} {k} {limit} {ms} {ts} h =
 -- It depends on the used entries alone.
 pub jancey-of-used : (rec : Record) (ks ws ks' ws' : List ℕ) (k limit : ℕ) (ms ts : List ℕ)
     → rec.used ≤ room_of ks ws → rec.used ≤ room_of ks' ws'
-    → ((i : ℕ) → i < rec.used → get_or ks i 0 ≡ get_or ks' i 0) → ((i : ℕ) → i < rec.used → get_or ws i 0 ≡ get_or ws' i 0)
+    → ((i : ℕ) → i < rec.used → get_or ks i 0 ≡ get_or ks' i 0)
+    → ((i : ℕ) → i < rec.used → get_or ws i 0 ≡ get_or ws' i 0)
     → jancey_run rec ks ws k limit ms ts ≡ jancey_run rec ks' ws' k limit ms ts
 unfolding jancey_run
 jancey-of-used = used.run-of-used leap_to (kind-goes true)
@@ -114,7 +118,7 @@ jancey-by-truth = used.run-by-truth leap_to
 
 -- An accepted Jancey run makes rounds of Jancey's rule from the starting shades of a run, with every colour in shade 0.
 pub jancey-accepted : (rec : Record) (ks ws : List ℕ) (k limit : ℕ) (ms ts : List ℕ)
-    → (jancey_run rec ks ws k limit ms ts).answer.refusal ≡ done
+    → result_err (jancey_run rec ks ws k limit ms ts).answer ≡ None
     → jancey_run rec ks ws k limit ms ts
     ≡ made_run leap_to (colours_of rec.used ks ws) k (limit_of limit) (begin (colours_of rec.used ks ws) k ms) ts
 jancey-accepted rec ks ws k limit ms ts = (wholes.jancey-refuses rec ks ws k limit ms ts).accepted_is

@@ -8,8 +8,9 @@ use mathlib.Core.Path.{◌≡◌, ◌∙◌}
 use native.Mathlib.Omega.{arith}
 use lib.ListN.{get_or, length}
 use lib.Dec.{eqb}
+use Rattle.std.specs.Prelude.{None}
+use Rattle.std.specs.Result.{result_err}
 use Rattle.number.specs.{sum, sum_of, numbers_below}
-use Rattle.refusal.specs.{done}
 use Rattle.table_test.specs.{Record}
 use Rattle.colour.specs.{Point, distance, most_pixels, most_distance}
 use Rattle.table_entries.specs.{most_entries}
@@ -40,8 +41,12 @@ use Rattle.method.specs.{
 use Rattle.method.proofs.Begins.{begin-past, begin-kept}
 use Rattle.method.proofs.Bounds.{from_zero_lem}
 use Rattle.method.proofs.Costs.{to-mean-means}
-use Rattle.method.proofs.Promises.{fraction-at-least, fraction-exactly}
-use Rattle.method.proofs.Promises.{signed-fraction-at-least, signed-fraction-exactly}
+use Rattle.method.proofs.Promises.{
+  fraction-at-least,
+  fraction-exactly,
+  signed-fraction-at-least,
+  signed-fraction-exactly,
+}
 use Rattle.starts.specs.{mean_by_sums}
 use Rattle.lloyd_tests.specs.{limit_of}
 use Rattle.lloyd.specs.Beginning.{FarthestColour}
@@ -57,7 +62,7 @@ use Rattle.lloyd.proofs.Wholes as wholes
 
 -- An accepted run makes rounds of Lloyd's rule from the starting shades, with every colour in shade 0.
 pub run-accepted : (rec : Record) (ks ws : List ℕ) (k limit : ℕ) (ms ts : List ℕ)
-    → (run_of rec ks ws k limit ms ts).answer.refusal ≡ done
+    → result_err (run_of rec ks ws k limit ms ts).answer ≡ None
     → run_of rec ks ws k limit ms ts
     ≡ made_run to_mean (colours_of rec.used ks ws) k (limit_of limit) (begin (colours_of rec.used ks ws) k ms) ts
 run-accepted rec ks ws k limit ms ts = (wholes.run-refuses rec ks ws k limit ms ts).accepted_is

@@ -1,7 +1,7 @@
 -- What is shown of an accepted run with fixed shades: each theorem in full, under a sentence that says it.
 -- `AcceptedFixed .. r members totals` says that r, members and totals are what it answers and leaves; the list of fixed
--- shades is one of bytes, as every lent one is. All are laws of a run that is made, by whatever rule, from whatever given
--- shades (lloyd's Made and Ends): document 01's run is their case of no fixed shade.
+-- shades is one of bytes, as every lent one is. All are laws of a run that is made, by whatever rule, from whatever
+-- given shades (lloyd's Made and Ends): document 01's run is their case of no fixed shade.
 use Prim.Native.Nat.{ℕ, ◌+◌, ◌-◌, ◌*◌, ◌≤◌, ◌<◌}
 use mathlib.Core.Bool.{true, false}
 use mathlib.Core.List.{List}
@@ -9,8 +9,9 @@ use mathlib.Core.Path.{◌≡◌, sym, ◌∙◌}
 use native.Mathlib.Omega.{arith}
 use lib.ListN.{get_or, length}
 use lib.Dec.{eqb}
+use Rattle.std.specs.Prelude.{None}
+use Rattle.std.specs.Result.{result_err}
 use Rattle.number.specs.{sum, sum_of}
-use Rattle.refusal.specs.{done}
 use Rattle.table_test.specs.{Record}
 use Rattle.colour.specs.{Point, Bytes, distance, sixteenth}
 use Rattle.shades.specs.{shade_at, colour_at, nearest_shade, same_place, OnGrid}
@@ -51,7 +52,7 @@ use Rattle.lloyd_fixed.proofs.Wholes as wholes
 -- An accepted one makes rounds of Lloyd's rule with the fixed shades held, from the starting shades that begin with
 -- them, with every colour in shade 0.
 pub fixed-accepted : (rec : Record) (ks ws fixed : List ℕ) (k limit : ℕ) (ms ts : List ℕ)
-    → (fixed_run rec ks ws fixed k limit ms ts).answer.refusal ≡ done
+    → result_err (fixed_run rec ks ws fixed k limit ms ts).answer ≡ None
     → fixed_run rec ks ws fixed k limit ms ts
     ≡ made_run (fixed_rule fixed) (colours_of rec.used ks ws) k (limit_of limit) (fixed_start rec ks ws fixed k ms) ts
 fixed-accepted rec ks ws fixed k limit ms ts = (wholes.fixed-refuses rec ks ws fixed k limit ms ts).accepted_is
@@ -163,8 +164,9 @@ module _ {rec : Record} {ks ws fixed : List ℕ} {k limit : ℕ} {ms ts : List �
         ends.final-is-least (fixed-making h bytes) (fixed_in fixed) (holding-means (fixed_in fixed) to-mean-means) s
         (λ q l. fixed-there q l ∙ sym (accepted.shade-is-fixed h bytes q l))
 
-    -- Group by group over the free shades, times 4W: the cost is never below the least that fractional shades could give
-    -- this grouping, and above it by at most three quarters of a squared sixteenth a pixel; an empty group costs nothing.
+    -- Group by group over the free shades, times 4W: the cost is never below the least that fractional shades could
+    -- give this grouping, and above it by at most three quarters of a squared sixteenth a pixel; an empty group costs
+    -- nothing.
     pub free-group-bounded : (q : ℕ) → fixed_in fixed ≤ q
         → Bounded (group_at (colours_of rec.used ks ws) (left r members) q)
         (group_cost (colours_of rec.used ks ws) (left r members) q)

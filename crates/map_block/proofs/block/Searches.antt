@@ -3,19 +3,18 @@ use Prim.Native.Nat.{ℕ, ◌+◌, ◌*◌, ◌%◌, ◌≤◌, ◌<◌}
 use mathlib.Core.List.{List}
 use mathlib.Core.Path.{◌≡◌, refl, ap, ◌∙◌}
 use native.Mathlib.Omega.{arith}
-use lib.ListN.{length, get_or}
+use lib.ListN.{length, get_or, take}
+use lib.Seq.{length-take-le, get_or-take}
 use Rattle.number.specs.{fill}
 use Rattle.number.proofs.Fills.{fill-at, fill-length, fill-same}
 use Rattle.colour.specs.{Point, Bytes, most_pixels}
 use Rattle.colour.proofs.Promises.{levels-of-key}
 use Rattle.shades.specs.{most_shades, shade_at, levels_at, nearest_shade, packed_nearest, Shades}
 use Rattle.shades.proofs.Nearest.{nearest-below, packed-number}
-use Rattle.search_all.specs.{RoomFor}
 use Rattle.map_errors.specs.{Errors, pixel_at, misses_of, Found, number_in, found_number}
-use Rattle.map_block.specs.Blocks.{nearest_to}
+use Rattle.map_block.specs.Blocks.{nearest_to, FewTaken, nearest_at}
 use Rattle.map_slots.specs.{pixel_key, slot_key, slot_of, levels_of, Gathered}
 use Rattle.map_join.specs.{few_slots}
-use Rattle.map_block.specs.Blocks.{FewTaken, nearest_at}
 use Rattle.map_errors.proofs.Misses.{misses-same}
 use Rattle.map_errors.proofs.Pixels.{pixel-within}
 
@@ -33,29 +32,39 @@ levels-of-pixel strip keys i q bytes is =
     (record { red_low = w.r_low; green_low = w.g_low; blue_low = w.b_low }) in
     rw is (rw (same.0, same.1, same.2))
 
--- where there is room for n points there is room for fewer
-pub room_for : {m n : ℕ} {reds greens blues : List ℕ} → m ≤ n → RoomFor n reds greens blues
-    → RoomFor m reds greens blues
-room_for few room = record {
-  red = omega (arith, room.red);
-  green = omega (arith, room.green);
-  blue = omega (arith, room.blue);
-}
+-- what is filled from the levels of the first m keys is filled from the levels of the keys
+front-levels : (f : Point → ℕ) (keys : List ℕ) (m : ℕ) (d : List ℕ) → m ≤ length keys
+    → fill (length (take m keys)) (λ q. f (levels_at (take m keys) q)) d ≡ fill m (λ q. f (levels_at keys q)) d
+front-levels f keys m d room =
+    rw (length-take-le m keys room) (fill-same m _ _ d (λ q l. rw (get_or-take m keys q 0 l)))
 
--- so the nearest is found for n points whose keys are gathered in m slots
+-- so the nearest is found for n points whose keys are gathered in m slots, where the first m keys are searched
 pub searched-all : {c : ℕ → Point} {f : ℕ → ℕ} {s : List ℕ} {k n : ℕ} {keys which : List ℕ} {m : ℕ}
     → Shades k s → 0 < k → Gathered f n keys which m
-    → ((i q : ℕ) → i < n → slot_key keys q ≡ f i → levels_at keys q ≡ c i) → (d : List ℕ) → m ≤ length d → {x : List ℕ}
-    → x ≡ fill m (λ q. packed_nearest s k (levels_at keys q)) d → Searched c s k n which x
-searched-all {c} {s = s} {k = k} {which = which} {m = m} shades some g same d room e = record {
-  slotted = λ i l. rw (e, fill-length) (omega (arith, g.slotted i l));
-  number = λ i l.
-      let p = slot_of which i in
-      ap (λ t. number_in t p) e
-      ∙ ap (λ v. v % most_shades) (fill-at m p _ d (g.slotted i l) (omega (arith, g.slotted i l)))
-      ∙ ap (λ t. packed_nearest s k t % most_shades) (same i p l (g.is i l))
-      ∙ packed-number s k (c i) some shades.few;
-}
+    → ((i q : ℕ) → i < n → slot_key keys q ≡ f i → levels_at keys q ≡ c i) → m ≤ length keys
+    → (d : List ℕ) → m ≤ length d → {x : List ℕ}
+    → x ≡ fill (length (take m keys)) (λ q. packed_nearest s k (levels_at (take m keys) q)) d
+    → Searched c s k n which x
+searched-all {c} {s = s} {k = k} {keys = keys} {which = which} {m = m} shades some g same front d room e =
+    let is = e ∙ front-levels (packed_nearest s k) keys m d front in
+    record {
+      slotted = λ i l. rw (is, fill-length) (omega (arith, g.slotted i l));
+      number = λ i l.
+          let p = slot_of which i in
+          ap (λ t. number_in t p) is
+          ∙ ap (λ v. v % most_shades) (fill-at m p _ d (g.slotted i l) (omega (arith, g.slotted i l)))
+          ∙ ap (λ t. packed_nearest s k t % most_shades) (same i p l (g.is i l))
+          ∙ packed-number s k (c i) some shades.few;
+    }
+
+-- and for the pixels of a strip
+pub searched-pixels : (strip : List ℕ) {s : List ℕ} {k n : ℕ} {keys which : List ℕ} {m : ℕ} → Bytes strip
+    → Shades k s → 0 < k → Gathered (pixel_key strip) n keys which m → m ≤ length keys
+    → (d : List ℕ) → m ≤ length d → {x : List ℕ}
+    → x ≡ fill (length (take m keys)) (λ q. packed_nearest s k (levels_at (take m keys) q)) d
+    → Searched (pixel_at strip) s k n which x
+searched-pixels strip {keys = keys} bytes shades some g =
+    searched-all shades some g (λ i q l. levels-of-pixel strip keys i q bytes)
 
 module _ {c : ℕ → Point} {s : List ℕ} {k n : ℕ} {which best : List ℕ} (w : Searched c s k n which best) where
   -- the numbers found are those of shades in s

@@ -14,7 +14,7 @@ use Rattle.shades.proofs.Laying.{shade-within}
 use Rattle.search_all.specs.{PointsOnGrid}
 use Rattle.map_errors.specs.{Errors, pixel_at, miss_on, misses_of, plus_errors}
 use Rattle.map_slots.specs.{most_slots}
-use Rattle.map_block.specs.{nearest_to, Room}
+use Rattle.map_block.specs.{nearest_to}
 use Rattle.map_blocks.specs.Asking.{SmallErrors}
 use Rattle.map_errors.proofs.Misses.{miss-most, misses-same, misses-parts}
 use Rattle.map_errors.proofs.Pixels.{pixels-on-grid, pixel-part}
@@ -43,29 +43,6 @@ misses-small c s f n inside low few =
 abbrev pub Asked : List ℕ → List ℕ → ℕ → List ℕ → Type 0
 Asked strip s k before =
     (length strip ≡ 3 * length before) × Shades k s × (0 < k) × (length before ≤ most_pixels)
-
--- the lists to work in, with a place for each pixel of a block
-pub record Lists (keys which reds greens blues best : List ℕ) : Type 0 where
-  pub keys_long : length keys ≡ most_slots
-  pub which_long : length which ≡ most_slots
-  pub red_long : length reds ≡ most_slots
-  pub green_long : length greens ≡ most_slots
-  pub blue_long : length blues ≡ most_slots
-  pub best_long : length best ≡ most_slots
-
--- they have room for as many
-lists-room : {keys which reds greens blues best : List ℕ} → Lists keys which reds greens blues best → (n : ℕ)
-    → n ≤ most_slots → Room n keys which reds greens blues best
-lists-room w n few = record {
-  key = omega (arith, w.keys_long);
-  slot = omega (arith, w.which_long);
-  point = record {
-    red = omega (arith, w.red_long);
-    green = omega (arith, w.green_long);
-    blue = omega (arith, w.blue_long);
-  };
-  number = omega (arith, w.best_long);
-}
 
 module _ {strip s : List ℕ} {k : ℕ} {before index : List ℕ} {errors : Errors} {a : ℕ}
     (w : Mapped strip s k before index errors a) where
@@ -101,16 +78,13 @@ module _ {strip s : List ℕ} {k : ℕ} {before index : List ℕ} {errors : Erro
         (λ i l. ap (λ c. shade_at s (nearest_shade s k c)) (block-pixel i l))
 
     -- what mapping it asks is there
-    pub block-asked : Asked strip s k before → {keys which reds greens blues best : List ℕ}
-        → Lists keys which reds greens blues best → e - a ≤ most_slots
+    pub block-asked : Asked strip s k before → e - a ≤ most_slots
         → (length block ≡ 3 * length part) × Shades k s × (0 < k) × (length part ≤ most_slots)
-        × Room (length part) keys which reds greens blues best
-    block-asked ask lists few = (
+    block-asked ask few = (
       omega (arith, part-long, ask.0, mid_len (3 * a) (3 * e) strip (omega (arith, ask.0))),
       ask.1,
       ask.2,
       omega (arith, part-long),
-      lists-room lists (length part) (omega (arith, part-long)),
     )
 
     -- the errors so far and those of the block are small

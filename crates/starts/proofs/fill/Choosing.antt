@@ -13,7 +13,7 @@ use Rattle.method.specs.{Base, starts_from, over}
 use Rattle.method.proofs.Startings.{over-length, starts_more, next-given}
 use Rattle.starts_far.specs.{lower_kept}
 use Rattle.starts.specs.Keeping.{shade_from, kept}
-use Rattle.starts.proofs.Keeping.{kept-start, kept_more, start-within, farthest-is-next}
+use Rattle.starts.proofs.Keeping.{kept-start, kept_more, farthest-is-next}
 
 -- ---- choosing a start
 
@@ -26,10 +26,6 @@ pub record Choosing (ks : List ℕ) (n : ℕ) (B : Base) (c : ℕ) (p : Point) (
   pub same : (i : ℕ) → i < n → get_or d i 0 ≡ kept ks n B (c - 1) i
 
 module _ {ks : List ℕ} {n : ℕ} {B : Base} {c : ℕ} {p : Point} {d : List ℕ} (t : Choosing ks n B c p d) where
-  -- the start before is on the grid
-  pub choosing-within : Within most_coordinate p
-  choosing-within = rw t.last (start-within ks n B t.low (c - 1))
-
   -- at c = 0 nothing is lowered
   pub choosing-first : c ≡ 0 → d ≡ fill n (kept ks n B c) d
   choosing-first e =

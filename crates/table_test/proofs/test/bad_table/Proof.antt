@@ -128,7 +128,8 @@ returns-9 : tie.Need-returns
 returns-9 c =
     let past = c.before.before in
     c.other_sums-2.ensures _ _ _ c.two_sums-sums.ensures
-    ∙ sym (bad-of-sums (in_room (within (looked past))) (faultless past) (summed past) past.if-pixels-gt-MOST_PIXELS.false)
+    ∙ sym (bad-of-sums (in_room (within (looked past))) (faultless past) (summed past)
+    past.if-pixels-gt-MOST_PIXELS.false)
 
 pub bad_table_spec : {M : Type 1} → statement M
 bad_table_spec =

@@ -1,2 +1,0 @@
--- Which rows are tracked, of gaps or rising.
-pub mod Tracking

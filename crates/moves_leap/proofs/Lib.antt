@@ -1,2 +1,0 @@
--- Jancey's step as it is worked out.
-pub mod Steps
