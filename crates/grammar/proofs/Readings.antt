@@ -1,5 +1,5 @@
 -- The ways a number is read: it fails at the place where it begins, or is the value of the digits there.
-use Prim.Native.Nat.{ℕ, ◌+◌, ◌-◌, ◌≤◌}
+use Prim.Native.Nat.{ℕ, ◌+◌, ◌-◌, ◌≤◌, ◌<◌}
 use mathlib.Core.List.{List}
 use mathlib.Core.Path.{◌≡◌, sym, ◌∙◌}
 use native.Mathlib.Omega.{arith}
@@ -15,10 +15,13 @@ use Rattle.grammar.proofs.Spans.{span-all, digit-inside}
 pub digits-counted : (s : List ℕ) (at n : ℕ) → n ≡ digits_at s at → Digits s at n
 digits-counted s at n e = rw e (span-all is_digit most_digits s at)
 
--- they stand inside
-pub digits-inside : (s : List ℕ) (at n : ℕ) → n ≡ digits_at s at → ¬ (n ≡ 0) → at + n ≤ length s
-digits-inside s at n e z =
-    omega (arith, digit-inside s (at + (n - 1)) (digits-counted s at n e (n - 1) (omega arith)))
+-- digits stand inside
+pub digits-inside : (s : List ℕ) (at n : ℕ) → Digits s at n → 0 < n → at + n ≤ length s
+digits-inside s at n all h = omega (arith, digit-inside s (at + (n - 1)) (all (n - 1) (omega arith)))
+
+-- and so do those that were counted
+pub counted-inside : (s : List ℕ) (at n : ℕ) → n ≡ digits_at s at → ¬ (n ≡ 0) → at + n ≤ length s
+counted-inside s at n e z = digits-inside s at n (digits-counted s at n e) (omega arith)
 
 -- with no digit there the number fails
 pub number-fails : (s : List ℕ) (at n : ℕ) → n ≡ digits_at s at → n ≡ 0 → Err at ≡ number_at s at

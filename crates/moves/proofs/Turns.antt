@@ -1,6 +1,6 @@
 -- Shade after shade is moved: what the first q leave where they were, and one more; and those that are held.
 use Prim.Native.Nat.{ℕ, ◌+◌, ◌*◌, ◌/◌, ◌%◌, ◌≤◌, ◌<◌}
-use mathlib.Core.Bool.{Bool, true, false, not}
+use mathlib.Core.Bool.{Bool, true, false, cond, not}
 use mathlib.Core.List.{List}
 use mathlib.Core.Path.{◌≡◌, refl, sym, ap, ◌∙◌}
 use native.Mathlib.Omega.{arith}
@@ -110,6 +110,11 @@ module _ (move : Move) (t s : List ℕ) (q : ℕ) where
     pub turn-told : {r : Bool} → r ≡ not (stays move t at q) → r ≡ not (stays move t s q)
     turn-told is = is ∙ ap not (ap (λ a. stays move t a q) e ∙ stays-still)
 
+    -- so a count that goes up where it moves does so by the shades as they were
+    pub turn-counted : {r : ℕ} (moved : ℕ) → r ≡ cond (not (stays move t at q)) (moved + 1) moved
+        → r ≡ cond (not (stays move t s q)) (moved + 1) moved
+    turn-counted moved is = is ∙ ap (λ (b : Bool). cond b (moved + 1) moved) (turn-told refl)
+
 module _ (f : ℕ) (move : Move) (t s : List ℕ) (q : ℕ) (free : f ≤ q) {at : List ℕ}
     (e : at ≡ fill (3 * q) (goes (holding_move f move) t s) s) where
   -- and so where shades below this one are held
@@ -120,3 +125,8 @@ module _ (f : ℕ) (move : Move) (t s : List ℕ) (q : ℕ) (free : f ≤ q) {at
   -- which tells of this shade, as it is not held
   pub turn-told-holding : {r : Bool} → r ≡ not (stays move t at q) → r ≡ not (stays (holding_move f move) t s q)
   turn-told-holding is = turn-told (holding_move f move) t s q e (is ∙ ap not (free_stays f move t at q free))
+
+  -- and so of a count
+  pub turn-counted-holding : {r : ℕ} (moved : ℕ) → r ≡ cond (not (stays move t at q)) (moved + 1) moved
+      → r ≡ cond (not (stays (holding_move f move) t s q)) (moved + 1) moved
+  turn-counted-holding moved is = is ∙ ap (λ (b : Bool). cond b (moved + 1) moved) (turn-told-holding refl)

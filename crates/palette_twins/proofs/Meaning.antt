@@ -8,7 +8,8 @@ use Rattle.std.specs.Option.{IsSomeAnd, is_some}
 use Rattle.std.specs.Prelude.{None}
 use native.Mathlib.Omega.{arith}
 use lib.ListN.{length}
-use borrow.Author.Tests.{ltb-true, ltb-false}
+use lib.Dec.{ltb}
+use borrow.Author.Tests.{ltb-true, ltb-false, lt-ltb}
 use Rattle.number.proofs.Cases.{bool, never, cmp, lt, eq, gt}
 use Rattle.number.proofs.Promises.{first-that-is}
 use Rattle.shades.specs.{shade_at}
@@ -21,6 +22,8 @@ use Rattle.palette_twins.specs.Pairs.{
   twin_shade,
   first_twins,
   twins_of,
+  no_twins,
+  told_pair,
   TwoEqual,
   AreTwins,
   AllDiffer,
@@ -62,6 +65,11 @@ module _ (p : List ℕ) where
   pub twins-are : twin_shade p ≡ true → IsSomeAnd (twins_of p) (AreTwins p)
   unfolding twins_of
   twins-are h = rw h (first-are h)
+
+  -- and are the pair in numbers
+  pub pair-are : twin_shade p ≡ true → AreTwins p (told_pair (twins_of p))
+  unfolding twins_of
+  pair-are h = rw h (first-are h)
 
   -- where it fails all entries differ
   pub all-differ : twin_shade p ≡ false → AllDiffer p
@@ -109,6 +117,16 @@ module _ (p : List ℕ) where
   told-exactly = elim (bool (twin_shade p)) [
     | inl h ↦ rw h refl
     | inr h ↦ rw h refl
+  ]
+
+  -- in numbers the higher one does: it is above 0 where twins are told, and they are 0 and 0 where none are
+  pub none-in-numbers : twin_shade p ≡ false → told_pair (twins_of p) ≡ no_twins
+  none-in-numbers h = ap told_pair (none_told h)
+
+  pub told-in-numbers : twin_shade p ≡ ltb 0 (told_pair (twins_of p)).higher
+  told-in-numbers = elim (bool (twin_shade p)) [
+    | inl h ↦ h ∙ sym (lt-ltb 0 (told_pair (twins_of p)).higher (omega (arith, (pair-are h).before)))
+    | inr h ↦ h ∙ sym (ap (λ (t : Twins). ltb 0 t.higher) (none-in-numbers h))
   ]
 
   -- so none are told exactly where all entries differ

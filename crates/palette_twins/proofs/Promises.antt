@@ -6,9 +6,10 @@ use mathlib.Core.Bool.{true, false}
 use mathlib.Core.List.{List}
 use mathlib.Core.Logic.{◌↔◌}
 use mathlib.Core.Path.{◌≡◌, sym, ◌∙◌}
+use lib.Dec.{ltb}
 use Rattle.std.specs.Prelude.{Option, None}
 use Rattle.std.specs.Option.{IsSomeAnd, is_some}
-use Rattle.palette_twins.specs.Pairs.{twin_shade, twins_of, TwoEqual, AreTwins, AllDiffer}
+use Rattle.palette_twins.specs.Pairs.{twin_shade, twins_of, no_twins, told_pair, TwoEqual, AreTwins, AllDiffer}
 use Rattle.palette_twins.specs.declared.Twins.{Twins}
 use Rattle.palette_twins.proofs.Meaning as meaning
 
@@ -40,6 +41,18 @@ none_told = meaning.none_told
 -- So what is told tells the test: it holds exactly where a pair is.
 pub told-exactly : (p : List ℕ) → twin_shade p ≡ is_some (twins_of p)
 told-exactly = meaning.told-exactly
+
+-- In numbers, where it holds they are the lower and the higher number of that pair.
+pub pair-are : (p : List ℕ) → twin_shade p ≡ true → AreTwins p (told_pair (twins_of p))
+pair-are = meaning.pair-are
+
+-- Where it fails they are 0 and 0.
+pub none-in-numbers : (p : List ℕ) → twin_shade p ≡ false → told_pair (twins_of p) ≡ no_twins
+none-in-numbers = meaning.none-in-numbers
+
+-- So the numbers tell the test: it holds exactly where the higher one is above 0.
+pub told-in-numbers : (p : List ℕ) → twin_shade p ≡ ltb 0 (told_pair (twins_of p)).higher
+told-in-numbers = meaning.told-in-numbers
 
 -- And none is told exactly where all entries differ.
 pub none-told-exactly : (p : List ℕ) → (twins_of p ≡ None) ↔ AllDiffer p

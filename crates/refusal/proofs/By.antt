@@ -1,15 +1,17 @@
 -- The outcome of a call that refuses by an order, by the refusal itself: it is refused exactly by the first row whose
 -- test holds, and else made. Stated once for outcomes of any kind, with the place of the refusal in them.
+use Prim.Native.Nat.{ℕ}
 use mathlib.Core.List.{List, [], ◌∷◌, ◌++◌}
 use mathlib.Core.Logic.{◌↔◌, ◌⊎◌, inl, inr}
 use mathlib.Core.Path.{◌≡◌, refl, sym, ap, ◌∙◌}
 use Rattle.std.specs.Prelude.{Option, None, Some}
 use Rattle.number.proofs.Cases.{bool}
-use Rattle.refusal.specs.Numbers.{Refusal, number_in}
-use Rattle.refusal.specs.Order.{Row, first_refusal, first_of, outcome_at, outcome_by, Given, NoneHolds}
-use Rattle.refusal.specs.Calls.{RefusesBy}
-use Rattle.refusal.proofs.Numbers.{number-only, number-not-done}
+use Rattle.refusal.specs.Numbers.{Refusal, number_of, number_in}
+use Rattle.refusal.specs.Order.{Row, first_refusal, first_of, outcome_of, outcome_at, outcome_by, Given, NoneHolds}
+use Rattle.refusal.specs.Calls.{Refuses, RefusesBy}
+use Rattle.refusal.proofs.Numbers.{number-only, number-not-done, refusal_at, refusal-found}
 use Rattle.refusal.proofs.Order.{first-exactly, done-exactly}
+use Rattle.refusal.proofs.Outcomes.{outcome-made, outcome-refused}
 
 -- the number of the first row is that of its refusal
 pub number-of-first : (rows : List Row) → number_in (first_refusal rows) ≡ first_of rows
@@ -121,3 +123,43 @@ refuses-by-all {rows} r P m l = elim (none-or-some rows) [
   | inl e ↦ rw (r.by_none e) m
   | inr g ↦ rw (r.by_refusal g.0 g.1) (l g.0)
 ]
+
+-- ---- the same by number
+
+-- what is left for a number: what is left for its refusal
+abbrev pub left_at : {A : Type 0} → A → (Refusal → A) → ℕ → A
+left_at made left n = outcome_at (refusal_at n) made left
+
+-- that of a refusal's number is what is left for the refusal
+left-found : {A : Type 0} (made : A) (left : Refusal → A) (n : Refusal) → left_at made left (number_of n) ≡ left n
+left-found made left n = ap (λ a. outcome_at a made left) (refusal-found n)
+
+-- the outcome by the refusal of the first row whose test holds is that by its number
+pub outcome-numbered : {A : Type 0} (rows : List Row) (made : A) (left : Refusal → A)
+    → outcome_by rows made left ≡ outcome_of rows made (left_at made left)
+outcome-numbered rows made left = elim (none-or-some rows) [
+  | inl e ↦ by-made rows made left e ∙ sym (outcome-made rows made (left_at made left) (to-number rows None e))
+  | inr g ↦
+      by-refused rows made left g.0 g.1 ∙ sym (left-found made left g.0)
+      ∙ sym (outcome-refused rows made (left_at made left) g.0 (to-number rows (Some g.0) g.1))
+]
+
+-- and a call that refuses by the refusal refuses by its number
+pub refuses-numbered : {A : Type 0} {rows : List Row} {outcome : A} {refusal : A → Option Refusal} {made : A}
+    {left : Refusal → A} → RefusesBy rows outcome refusal made left
+    → Refuses rows outcome (λ a. number_in (refusal a)) made (left_at made left)
+refuses-numbered {rows = rows} {outcome = outcome} {refusal = refusal} {made = made} {left = left} r =
+    let only : (a : Option Refusal) → number_in (refusal outcome) ≡ number_in a → refusal outcome ≡ a =
+    number-in-only (refusal outcome) in
+    record {
+      refused_exactly = λ n. (
+        λ e. (r.refused_exactly n).0 (only (Some n) e),
+        λ g. ap number_in ((r.refused_exactly n).1 g),
+      );
+      accepted_exactly = (λ e. r.accepted_exactly.0 (only None e), λ g. ap number_in (r.accepted_exactly.1 g));
+      refused_is = λ n e. r.refused_is n (only (Some n) e) ∙ sym (left-found made left n);
+      accepted_is = λ e. r.accepted_is (only None e);
+      number_is = ap number_in r.refusal_is ∙ number-of-first rows;
+      by_refusal = λ n e. r.by_refusal n (by-number rows (Some n) e) ∙ sym (left-found made left n);
+      by_none = λ e. r.by_none (by-number rows None e);
+    }

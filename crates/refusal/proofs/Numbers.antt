@@ -5,6 +5,7 @@ use mathlib.Core.Path.{◌≡◌, refl, sym, ap, ◌∙◌}
 use mathlib.Core.List.{List, [], ◌∷◌}
 use mathlib.Core.Option.{Option, none, some, none-ne-some, some-injective}
 use native.Mathlib.Omega.{arith}
+use Rattle.std.specs.Prelude as answer
 use Rattle.refusal.specs.Numbers.{
   Refusal,
   BadStrip,
@@ -59,6 +60,19 @@ found BadSize = refl
 found BadDepth = refl
 found BadRaster = refl
 found TwinShade = refl
+
+-- what stands at a place, as a call tells it
+abbrev told : Option Refusal → answer.Option Refusal
+told none = answer.None
+told (some refusal) = answer.Some refusal
+
+-- the refusal of a number; none where it is no refusal's
+abbrev pub refusal_at : ℕ → answer.Option Refusal
+refusal_at n = told (nth refusals n)
+
+-- that of a refusal's number is that refusal
+pub refusal-found : (refusal : Refusal) → refusal_at (number_of refusal) ≡ answer.Some refusal
+refusal-found refusal = ap told (found refusal)
 
 -- refusals of one number are one refusal
 pub number-only : (a b : Refusal) → number_of a ≡ number_of b → a ≡ b

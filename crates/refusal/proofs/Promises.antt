@@ -8,6 +8,7 @@ use Rattle.refusal.specs.Numbers.{Refusal, number_of, done, number_in}
 use Rattle.refusal.specs.Order.{Row, first_refusal, first_of, outcome_of, outcome_by, Given, NoneHolds}
 use Rattle.refusal.specs.Calls.{Refuses, RefusesBy}
 use Rattle.refusal.proofs.By as by
+use Rattle.refusal.proofs.By.{left_at}
 use Rattle.refusal.proofs.Numbers as numbers
 use Rattle.refusal.proofs.Order as order
 use Rattle.refusal.proofs.Outcomes as outcomes
@@ -82,3 +83,14 @@ pub refuses-by-all : {A : Type 0} {rows : List Row} {outcome : A} {refusal : A �
     {left : Refusal → A} → RefusesBy rows outcome refusal made left → (P : A → Type 0) → P made
     → ((n : Refusal) → P (left n)) → P outcome
 refuses-by-all = by.refuses-by-all
+
+-- The outcome by the first refusal is that by its number: what is left for a number is what is left for its refusal.
+pub outcome-numbered : {A : Type 0} (rows : List Row) (made : A) (left : Refusal → A)
+    → outcome_by rows made left ≡ outcome_of rows made (left_at made left)
+outcome-numbered = by.outcome-numbered
+
+-- So a call that refuses by an order and has the refusal itself refuses by that order by number too.
+pub refuses-numbered : {A : Type 0} {rows : List Row} {outcome : A} {refusal : A → Option Refusal} {made : A}
+    {left : Refusal → A} → RefusesBy rows outcome refusal made left
+    → Refuses rows outcome (λ a. number_in (refusal a)) made (left_at made left)
+refuses-numbered = by.refuses-numbered

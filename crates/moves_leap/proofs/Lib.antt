@@ -1,0 +1,2 @@
+-- How far past the mean Jancey's step leads.
+pub mod Steps
