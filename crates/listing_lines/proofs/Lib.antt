@@ -6,5 +6,3 @@ pub mod Lines
 pub mod Rows
 -- The lines one by one and their fields; and that no lines are the line of a refusal.
 pub mod Fields
--- Elements of a list that pass a test, counted by their places.
-pub mod Lists

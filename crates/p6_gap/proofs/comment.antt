@@ -1,2 +1,2 @@
--- Where a comment ends.
-pub mod Ends
+-- The text of a comment as the loop meets it.
+pub mod Turns
