@@ -13,6 +13,8 @@
 
 #![tactic(auto)]
 
+ghost use Rattle.std.specs.Prelude.{◌≡◌, replicate};
+
 mod block;
 mod few;
 
@@ -32,7 +34,12 @@ pub struct Scratch {
 
 impl Scratch {
     // All places are 0.
-    pub fn new() -> Scratch {
+    pub fn new() -> Scratch
+        ensures keys { (result.keys ≡ replicate 1024 0) × (result.which ≡ replicate 1024 0) }
+        ensures levels { (result.reds ≡ replicate 1024 0) × (result.greens ≡ replicate 1024 0)
+            × (result.blues ≡ replicate 1024 0) }
+        ensures best { result.best ≡ replicate 1024 0 }
+    {
         Scratch {
             keys: [0; 1024],
             which: [0; 1024],
