@@ -8,7 +8,6 @@ use lib.ListN.{length, replicate}
 use Rattle.std.specs.Prelude.{Some, Option, None, Result, Ok, Err}
 use Rattle.refusal.specs.{Refusal, number_of, done, TwinShade, number_in}
 use Rattle.refusal.proofs.By.{number-in-only}
-use Rattle.std.specs.Option.{IsSomeAnd}
 use Rattle.std.specs.Result.{result_err}
 use Rattle.shades.specs.{most_coordinates}
 use Rattle.figures.specs.{zero_figure}
@@ -24,6 +23,7 @@ use Rattle.palette.proofs.Promises as palette
 use Rattle.palette_groups.specs.{palette_from_groups, palette_from_groups_fixed}
 use Rattle.palette_groups.proofs.Promises as groups
 use Rattle.palette_twins.specs.{Twins, no_twins, told_pair, AreTwins, AllDiffer}
+use Rattle.palette_twins.proofs.Meaning.{pair-told}
 use Rattle.mapping.specs.{Mapped, Unmapped, MapOutcome, refusal_in, answered_twins, twins_told, map_strip}
 use Rattle.mapping.proofs.Promises as mapping
 use Rattle.p6_header.specs.{header_of, offset_in}
@@ -169,11 +169,6 @@ twins-laid (Err u) = refl
 twins-cross : {o : MapOutcome} {r : ℕ} {x s : List ℕ} {m : List Float} → MapCrosses o r x s m
     → twins_in s ≡ told_pair (answered_twins o.answer)
 twins-cross {o} c = ap twins_in c.answer_is ∙ twins-laid o.answer
-
--- where twins are told they are told in numbers
-pair-told : (P : Twins → Type 0) (t : Option Twins) → IsSomeAnd t P → P (told_pair t)
-pair-told P None h = absurd h
-pair-told P (Some t) h = h
 
 module _ (strip p d : List ℕ) (first : ℕ) {x s : List ℕ} {m : List Float} where
   -- with TWIN SHADE

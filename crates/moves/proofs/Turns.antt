@@ -69,6 +69,10 @@ pub from_bool-bit : (b : Bool) → from_bool b ≡ bit b
 from_bool-bit true = refl
 from_bool-bit false = refl
 
+-- a count that goes up where a test holds goes up by a test that tells the same
+counted-alike : {a b : Bool} {r : ℕ} (moved : ℕ) → a ≡ b → r ≡ cond a (moved + 1) moved → r ≡ cond b (moved + 1) moved
+counted-alike moved e is = is ∙ ap (λ (test : Bool). cond test (moved + 1) moved) e
+
 module _ (move : Move) (t s : List ℕ) (q : ℕ) where
   -- a coordinate of a later shade is where it was, and goes where it went from there
   goes-still : (n : ℕ) → 3 * q ≤ n → goes move t (fill (3 * q) (goes move t s) s) n ≡ goes move t s n
@@ -113,7 +117,7 @@ module _ (move : Move) (t s : List ℕ) (q : ℕ) where
     -- so a count that goes up where it moves does so by the shades as they were
     pub turn-counted : {r : ℕ} (moved : ℕ) → r ≡ cond (not (stays move t at q)) (moved + 1) moved
         → r ≡ cond (not (stays move t s q)) (moved + 1) moved
-    turn-counted moved is = is ∙ ap (λ (b : Bool). cond b (moved + 1) moved) (turn-told refl)
+    turn-counted moved = counted-alike moved (turn-told refl)
 
 module _ (f : ℕ) (move : Move) (t s : List ℕ) (q : ℕ) (free : f ≤ q) {at : List ℕ}
     (e : at ≡ fill (3 * q) (goes (holding_move f move) t s) s) where
@@ -129,4 +133,4 @@ module _ (f : ℕ) (move : Move) (t s : List ℕ) (q : ℕ) (free : f ≤ q) {at
   -- and so of a count
   pub turn-counted-holding : {r : ℕ} (moved : ℕ) → r ≡ cond (not (stays move t at q)) (moved + 1) moved
       → r ≡ cond (not (stays (holding_move f move) t s q)) (moved + 1) moved
-  turn-counted-holding moved is = is ∙ ap (λ (b : Bool). cond b (moved + 1) moved) (turn-told-holding refl)
+  turn-counted-holding moved = counted-alike moved (turn-told-holding refl)

@@ -17,7 +17,7 @@ pub fn comment_end(input: &[u8], at: usize) -> usize
     requires { at < length input.now }
     ensures { result ≡ comment_end input.now at }
 {
-    // Not by `position`, which counts beside the bytes it walks: ten instructions a byte, here eight.
+    // Not by `position`, which counts beside the bytes: ten instructions a byte in place of eight.
     for i in at + 1..input.len() {
         if ends_comment(input[i]) {
             return i + 1;

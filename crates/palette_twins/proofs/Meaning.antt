@@ -5,7 +5,7 @@ use mathlib.Core.List.{List}
 use mathlib.Core.Logic.{◌↔◌, inl, inr}
 use mathlib.Core.Path.{◌≡◌, refl, sym, ap, ◌∙◌}
 use Rattle.std.specs.Option.{IsSomeAnd, is_some}
-use Rattle.std.specs.Prelude.{None}
+use Rattle.std.specs.Prelude.{Option, None, Some}
 use native.Mathlib.Omega.{arith}
 use lib.ListN.{length}
 use lib.Dec.{ltb}
@@ -29,6 +29,11 @@ use Rattle.palette_twins.specs.Pairs.{
   AllDiffer,
 }
 use Rattle.palette_twins.specs.declared.Twins.{Twins}
+
+-- what holds of the twins that are told holds of their numbers
+pub pair-told : (P : Twins → Type 0) (t : Option Twins) → IsSomeAnd t P → P (told_pair t)
+pair-told P None h = absurd h
+pair-told P (Some t) h = h
 
 module _ (p : List ℕ) where
   -- ---- one entry
@@ -66,10 +71,9 @@ module _ (p : List ℕ) where
   unfolding twins_of
   twins-are h = rw h (first-are h)
 
-  -- and are the pair in numbers
+  -- in numbers too
   pub pair-are : twin_shade p ≡ true → AreTwins p (told_pair (twins_of p))
-  unfolding twins_of
-  pair-are h = rw h (first-are h)
+  pair-are h = pair-told (AreTwins p) (twins_of p) (twins-are h)
 
   -- where it fails all entries differ
   pub all-differ : twin_shade p ≡ false → AllDiffer p
@@ -119,10 +123,11 @@ module _ (p : List ℕ) where
     | inr h ↦ rw h refl
   ]
 
-  -- in numbers the higher one does: it is above 0 where twins are told, and they are 0 and 0 where none are
+  -- in numbers, none are told by 0 and 0
   pub none-in-numbers : twin_shade p ≡ false → told_pair (twins_of p) ≡ no_twins
   none-in-numbers h = ap told_pair (none_told h)
 
+  -- and so the higher one tells the test: it is above 0 exactly where that holds
   pub told-in-numbers : twin_shade p ≡ ltb 0 (told_pair (twins_of p)).higher
   told-in-numbers = elim (bool (twin_shade p)) [
     | inl h ↦ h ∙ sym (lt-ltb 0 (told_pair (twins_of p)).higher (omega (arith, (pair-are h).before)))

@@ -126,7 +126,7 @@ refuses-by-all {rows} r P m l = elim (none-or-some rows) [
 
 -- ---- the same by number
 
--- what is left for a number: what is left for its refusal
+-- what is left for a number: what is left for its refusal; where it is no refusal's, what is made
 abbrev pub left_at : {A : Type 0} → A → (Refusal → A) → ℕ → A
 left_at made left n = outcome_at (refusal_at n) made left
 

@@ -3,9 +3,9 @@
 use Prim.Native.Nat.{ℕ, zero, suc, ◌≤◌}
 use mathlib.Core.Path.{◌≡◌, refl, sym, ap, ◌∙◌}
 use mathlib.Core.List.{List, [], ◌∷◌}
-use mathlib.Core.Option.{Option, none, some, none-ne-some, some-injective}
 use native.Mathlib.Omega.{arith}
-use Rattle.std.specs.Prelude as answer
+use Rattle.std.specs.Prelude.{Option, None, Some}
+use Rattle.std.proofs.lemmas.Option.{none-some, same_Some}
 use Rattle.refusal.specs.Numbers.{
   Refusal,
   BadStrip,
@@ -30,57 +30,48 @@ use Rattle.refusal.specs.Numbers.{
 
 -- what stands in a list at a place counted from 1; nothing at 0, at a free place and past the end
 abbrev nth : List (Option Refusal) → ℕ → Option Refusal
-nth [] n = none
-nth (r ∷ rs) zero = none
+nth [] n = None
+nth (r ∷ rs) zero = None
 nth (r ∷ rs) (suc zero) = r
 nth (r ∷ rs) (suc (suc n)) = nth rs (suc n)
 
 -- the refusals by rising number; 16 and 17 are no refusal's
 abbrev refusals : List (Option Refusal)
 refusals =
-    some BadStrip ∷ some BadTable ∷ some Full ∷ some BadCount ∷ some FewColours ∷ some BadLimit ∷
-    some ShortRoom ∷ some BadCentre ∷ some BadMember ∷ some BadPalette ∷ some ManyPixels ∷ some BadHeader ∷
-    some BadSize ∷ some BadDepth ∷ some BadRaster ∷ none ∷ none ∷ some TwinShade ∷ []
-
--- each refusal stands at its number
-found : (refusal : Refusal) → nth refusals (number_of refusal) ≡ some refusal
-found BadStrip = refl
-found BadTable = refl
-found Full = refl
-found BadCount = refl
-found FewColours = refl
-found BadLimit = refl
-found ShortRoom = refl
-found BadCentre = refl
-found BadMember = refl
-found BadPalette = refl
-found ManyPixels = refl
-found BadHeader = refl
-found BadSize = refl
-found BadDepth = refl
-found BadRaster = refl
-found TwinShade = refl
-
--- what stands at a place, as a call tells it
-abbrev told : Option Refusal → answer.Option Refusal
-told none = answer.None
-told (some refusal) = answer.Some refusal
+    Some BadStrip ∷ Some BadTable ∷ Some Full ∷ Some BadCount ∷ Some FewColours ∷ Some BadLimit ∷
+    Some ShortRoom ∷ Some BadCentre ∷ Some BadMember ∷ Some BadPalette ∷ Some ManyPixels ∷ Some BadHeader ∷
+    Some BadSize ∷ Some BadDepth ∷ Some BadRaster ∷ None ∷ None ∷ Some TwinShade ∷ []
 
 -- the refusal of a number; none where it is no refusal's
-abbrev pub refusal_at : ℕ → answer.Option Refusal
-refusal_at n = told (nth refusals n)
+abbrev pub refusal_at : ℕ → Option Refusal
+refusal_at = nth refusals
 
 -- that of a refusal's number is that refusal
-pub refusal-found : (refusal : Refusal) → refusal_at (number_of refusal) ≡ answer.Some refusal
-refusal-found refusal = ap told (found refusal)
+pub refusal-found : (refusal : Refusal) → refusal_at (number_of refusal) ≡ Some refusal
+refusal-found BadStrip = refl
+refusal-found BadTable = refl
+refusal-found Full = refl
+refusal-found BadCount = refl
+refusal-found FewColours = refl
+refusal-found BadLimit = refl
+refusal-found ShortRoom = refl
+refusal-found BadCentre = refl
+refusal-found BadMember = refl
+refusal-found BadPalette = refl
+refusal-found ManyPixels = refl
+refusal-found BadHeader = refl
+refusal-found BadSize = refl
+refusal-found BadDepth = refl
+refusal-found BadRaster = refl
+refusal-found TwinShade = refl
 
 -- refusals of one number are one refusal
 pub number-only : (a b : Refusal) → number_of a ≡ number_of b → a ≡ b
-number-only a b e = some-injective a b (sym (found a) ∙ ap (nth refusals) e ∙ found b)
+number-only a b e = same_Some a b (sym (refusal-found a) ∙ ap refusal_at e ∙ refusal-found b)
 
 -- no refusal has the number of `done`
 pub number-not-done : (a : Refusal) → ¬ (number_of a ≡ done)
-number-not-done a e = none-ne-some a (sym (ap (nth refusals) e) ∙ found a)
+number-not-done a e = none-some a (sym (ap refusal_at e) ∙ refusal-found a)
 
 -- the numbers go up to 18
 pub number-most : (a : Refusal) → number_of a ≤ 18

@@ -79,8 +79,8 @@ module _ {used : ℕ} {ks ws s : List ℕ} {k : ℕ} {before after t : List ℕ}
   pub step-meets-free : (leaps : Bool) (s' : List ℕ) (moved counted : ℕ) (distances : State → ℕ)
       → s' ≡ fill (3 * k) (goes (move_of leaps) t s) s
       → moved ≡ how_many k (λ q. not (stays (move_of leaps) t s q)) → counted ≡ distances (state_of s before)
-      → StepMeets (kind_of leaps) (colours_of used ks ws) k distances (state_of s before) (state_of s' after) total moved
-      counted
+      → StepMeets (kind_of leaps) (colours_of used ks ws) k distances (state_of s before)
+      (state_of s' after) total moved counted
   step-meets-free leaps = step-meets-by (kind-goes leaps)
 
   -- the sums that it leaves are those of the groups that its members tell
